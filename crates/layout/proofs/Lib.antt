@@ -1,0 +1,11 @@
+pub mod FieldsLaws
+pub mod SameLaws
+pub mod SplicedLaws
+pub mod NumberLaws
+pub mod NameLaws
+pub mod StatesLaws
+pub mod ExclusionsLaws
+pub mod BlocksLaws
+pub mod KeyLaws
+pub mod CodesLaws
+pub mod LocalsLaws

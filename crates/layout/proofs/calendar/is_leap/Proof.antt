@@ -1,0 +1,12 @@
+-- `calendar::is_leap` meets its contract. Assumes nothing.
+use mathlib.Core.Path.{refl}
+use Rattle.layout.specs.Calendar.{isLeap}
+use Rattle.layout.proofs.calendar.is_leap.Statement.{statement}
+use Rattle.layout.proofs.calendar.is_leap.Tie as tie
+
+returns : tie.Need-returns
+unfolding isLeap
+returns c = refl
+
+pub is-leap-spec : {M : Type 1} → statement M
+is-leap-spec = tie.close (tie.spec returns)

@@ -1,0 +1,22 @@
+-- Document 01, refusal 2 and errors 10 and 51: the list of local codes. Assumes nothing.
+use Prim.Native.Nat.{ℕ, _/_, _%_}
+use mathlib.Core.List.{List}
+use mathlib.Core.Bool.{Bool, _&&_}
+use lib.ListN.{length}
+use lib.Dec.{eqb}
+use Rattle.layout.specs.Fields.{areDigits, isOneOf}
+use Rattle.layout.specs.Blocks.{blocks, everyBlock}
+use Rattle.layout.specs.Key.{rising}
+
+-- the codes of a list, three bytes each
+unfoldable pub codesOfList : List ℕ → List (List ℕ)
+codesOfList list = blocks 3 (length list / 3) list
+
+-- listed: one of the codes
+unfoldable pub isListed : List ℕ → List ℕ → Bool
+isListed code list = isOneOf code (codesOfList list)
+
+-- refusal 2 asks: three-digit codes, three bytes each, strictly rising; an empty list passes
+unfoldable pub isLocalList : List ℕ → Bool
+isLocalList list =
+    eqb (length list % 3) 0 && (everyBlock (areDigits 3) (codesOfList list) && rising (codesOfList list))

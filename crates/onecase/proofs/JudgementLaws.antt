@@ -1,0 +1,349 @@
+-- Laws of a record's errors and of the judgement on it, by which the layers above use them. Assumes nothing.
+use Prim.Native.Nat.{ℕ}
+use mathlib.Core.Path.{_≡_, refl, sym, ap, _∙_}
+use mathlib.Core.List.{List, [], _∷_, _++_}
+use mathlib.Core.Bool.{Bool, true, false, not, cond, _&&_, _||_, and-false, and-true, or-false, false≢true}
+use mathlib.Core.Option.{Option, none, some}
+use native.Mathlib.Omega.{arith}
+use lib.Dec.{eqb, lit≤}
+use lib.ListN.{length}
+use Rattle.layout.specs.Characters.{A, B}
+use Rattle.layout.specs.Fields.{columns}
+use Rattle.layout.specs.Row.{isLive}
+use Rattle.layout.proofs.FieldsLaws.{and-left, and-right, length-columns}
+use borrow.Author.Tests.{not-true, not-false}
+use Rattle.onecase.specs.Record.{isType}
+use Rattle.onecase.specs.Errors.{error01, error02, error03, error04, error05, error06, error07, error08, error09, error10, error11, error12, error13, error14, error15, error16, error17, error18, isWrongKey, isLiveRow, isOtherName, judged09, judged17, code, errors}
+use Rattle.onecase.specs.Warnings.{warning52, isRenamed, warnings}
+use Rattle.onecase.specs.Verdict.{isEmpty, isAccepted, codes, storedName, judgement}
+use Rattle.onecase.specs.Machine.{next}
+use Rattle.onecase.proofs.BoolLaws.{or-left, and-second}
+
+-- ---- no error
+
+-- a condition for each code; a record is rejected exactly where one of them fails
+pub record NoError (state : List ℕ) (year : ℕ) (list : List ℕ) (row : Option (List ℕ)) (rec : List ℕ) : Type 0 where
+  pub no01 : error01 state rec ≡ false
+  pub no02 : error02 rec ≡ false
+  pub no03 : error03 rec ≡ false
+  pub no04 : error04 rec ≡ false
+  pub no05 : error05 rec ≡ false
+  pub no06 : error06 rec ≡ false
+  pub no07 : error07 rec ≡ false
+  pub no08 : error08 rec ≡ false
+  pub no09 : judged09 state row rec ≡ false
+  pub no10 : error10 list rec ≡ false
+  pub no11 : error11 rec ≡ false
+  pub no12 : error12 rec ≡ false
+  pub no13 : error13 year rec ≡ false
+  pub no14 : error14 rec ≡ false
+  pub no15 : error15 rec ≡ false
+  pub no16 : error16 rec ≡ false
+  pub no17 : judged17 state row rec ≡ false
+  pub no18 : error18 rec ≡ false
+
+empty-none : (cs : List ℕ) → isEmpty cs ≡ true → cs ≡ []
+empty-none [] t = refl
+empty-none (c ∷ cs) t = cc
+
+-- no code stands in front, and none behind
+front-none : (c : ℕ) (b : Bool) (cs : List ℕ) → code c b ++ cs ≡ [] → b ≡ false
+front-none c true cs e = cc
+front-none c false cs e = refl
+
+behind-none : (c : ℕ) (b : Bool) (cs : List ℕ) → code c b ++ cs ≡ [] → cs ≡ []
+behind-none c true cs e = cc
+behind-none c false cs e = e
+
+only-none : (c : ℕ) (b : Bool) → code c b ≡ [] → b ≡ false
+only-none c true e = cc
+only-none c false e = refl
+
+module _ (state : List ℕ) (year : ℕ) (list : List ℕ) (row : Option (List ℕ)) (rec : List ℕ) where
+  pub accepted-errors : isAccepted state year list row rec ≡ true → errors state year list row rec ≡ []
+  unfolding isAccepted
+  accepted-errors t = empty-none (errors state year list row rec) t
+
+  pub errors-accepted : errors state year list row rec ≡ [] → isAccepted state year list row rec ≡ true
+  unfolding isAccepted
+  errors-accepted e = rw e
+
+  errors-none : errors state year list row rec ≡ [] → NoError state year list row rec
+  unfolding errors
+  errors-none e1 =
+      let e2 = behind-none 1 (error01 state rec) _ e1 in
+      let e3 = behind-none 2 (error02 rec) _ e2 in
+      let e4 = behind-none 3 (error03 rec) _ e3 in
+      let e5 = behind-none 4 (error04 rec) _ e4 in
+      let e6 = behind-none 5 (error05 rec) _ e5 in
+      let e7 = behind-none 6 (not (error03 rec) && error06 rec) _ e6 in
+      let e8 = behind-none 7 (not (error03 rec) && error07 rec) _ e7 in
+      let e9 = behind-none 8 (not (error03 rec) && error08 rec) _ e8 in
+      let e10 = behind-none 9 (judged09 state row rec) _ e9 in
+      let e11 = behind-none 10 (not (error03 rec) && error10 list rec) _ e10 in
+      let e12 = behind-none 11 (not (error03 rec) && error11 rec) _ e11 in
+      let e13 = behind-none 12 (not (error03 rec) && error12 rec) _ e12 in
+      let e14 = behind-none 13 (not (error03 rec) && error13 year rec) _ e13 in
+      let e15 = behind-none 14 (not (error03 rec) && error14 rec) _ e14 in
+      let e16 = behind-none 15 (not (error03 rec) && error15 rec) _ e15 in
+      let e17 = behind-none 16 (not (error03 rec) && error16 rec) _ e16 in
+      let e18 = behind-none 17 (judged17 state row rec) _ e17 in
+      let n03 = front-none 3 (error03 rec) _ e3 in
+      let known : not (error03 rec) ≡ true = rw n03 in
+      record {
+        no01 = front-none 1 (error01 state rec) _ e1;
+        no02 = front-none 2 (error02 rec) _ e2;
+        no03 = n03;
+        no04 = front-none 4 (error04 rec) _ e4;
+        no05 = front-none 5 (error05 rec) _ e5;
+        no06 = and-second (not (error03 rec)) (error06 rec) known (front-none 6 (not (error03 rec) && error06 rec) _ e6);
+        no07 = and-second (not (error03 rec)) (error07 rec) known (front-none 7 (not (error03 rec) && error07 rec) _ e7);
+        no08 = and-second (not (error03 rec)) (error08 rec) known (front-none 8 (not (error03 rec) && error08 rec) _ e8);
+        no09 = front-none 9 (judged09 state row rec) _ e9;
+        no10 = and-second (not (error03 rec)) (error10 list rec) known (front-none 10 (not (error03 rec) && error10 list rec) _ e10);
+        no11 = and-second (not (error03 rec)) (error11 rec) known (front-none 11 (not (error03 rec) && error11 rec) _ e11);
+        no12 = and-second (not (error03 rec)) (error12 rec) known (front-none 12 (not (error03 rec) && error12 rec) _ e12);
+        no13 = and-second (not (error03 rec)) (error13 year rec) known (front-none 13 (not (error03 rec) && error13 year rec) _ e13);
+        no14 = and-second (not (error03 rec)) (error14 rec) known (front-none 14 (not (error03 rec) && error14 rec) _ e14);
+        no15 = and-second (not (error03 rec)) (error15 rec) known (front-none 15 (not (error03 rec) && error15 rec) _ e15);
+        no16 = and-second (not (error03 rec)) (error16 rec) known (front-none 16 (not (error03 rec) && error16 rec) _ e16);
+        no17 = front-none 17 (judged17 state row rec) _ e17;
+        no18 = only-none 18 (error18 rec) e18;
+      }
+
+  pub accepted-none : isAccepted state year list row rec ≡ true → NoError state year list row rec
+  accepted-none t = errors-none (accepted-errors t)
+
+  none-errors : NoError state year list row rec → errors state year list row rec ≡ []
+  unfolding errors
+  none-errors n =
+      rw (n .no01, n .no02, n .no03, n .no04, n .no05, n .no06, n .no07, n .no08, n .no09)
+      (rw (n .no10, n .no11, n .no12, n .no13, n .no14, n .no15, n .no16, n .no17, n .no18))
+
+  pub none-accepted : NoError state year list row rec → isAccepted state year list row rec ≡ true
+  none-accepted n = errors-accepted (none-errors n)
+
+  -- an error changes nothing
+  pub error-changes-nothing : isAccepted state year list row rec ≡ false → next state year list row rec ≡ row
+  unfolding next
+  error-changes-nothing f = rw f
+
+-- ---- what the row has to do with a judgement
+
+-- the row counts for the errors by 09 and 17 alone
+errors-same : (state : List ℕ) (year : ℕ) (list : List ℕ) (r1 r2 : Option (List ℕ)) (rec : List ℕ)
+    → judged09 state r1 rec ≡ judged09 state r2 rec → judged17 state r1 rec ≡ judged17 state r2 rec
+    → errors state year list r1 rec ≡ errors state year list r2 rec
+unfolding errors
+errors-same state year list r1 r2 rec e f = rw (e, f)
+
+-- where 17 is judged of neither row, the judgement is its codes
+judgement-same : (state : List ℕ) (year : ℕ) (list : List ℕ) (r1 r2 : Option (List ℕ)) (rec : List ℕ)
+    → codes state year list r1 rec ≡ codes state year list r2 rec → judged17 state r1 rec ≡ false → judged17 state r2 rec ≡ false
+    → judgement state year list r1 rec ≡ judgement state year list r2 rec
+unfolding judgement
+judgement-same state year list r1 r2 rec c f g = rw (c, f, g)
+
+-- ---- a wrong key
+
+module _ (state rec : List ℕ) (w : isWrongKey state rec ≡ true) where
+  wrong-09 : (row : Option (List ℕ)) → judged09 state row rec ≡ false
+  unfolding judged09
+  wrong-09 row = rw (w, and-false)
+
+  wrong-17 : (row : Option (List ℕ)) → judged17 state row rec ≡ false
+  unfolding judged17
+  wrong-17 row = rw (w, and-false)
+
+-- 01, 02 or 04 is an error
+pub wrong-rejected : (state : List ℕ) (year : ℕ) (list : List ℕ) (row : Option (List ℕ)) (rec : List ℕ)
+    → isWrongKey state rec ≡ true → isAccepted state year list row rec ≡ false
+unfolding isWrongKey
+wrong-rejected state year list row rec w = go (isAccepted state year list row rec) refl
+  where
+    go : (b : Bool) → isAccepted state year list row rec ≡ b → isAccepted state year list row rec ≡ false
+    go true e =
+        let n = accepted-none state year list row rec e in
+        let f : isWrongKey state rec ≡ false = rw (n .no01, n .no02, n .no04) in
+        cc
+    go false e = e
+
+module _ (state : List ℕ) (year : ℕ) (list : List ℕ) (rec : List ℕ) (w : isWrongKey state rec ≡ true) where
+  wrong-codes : (r1 r2 : Option (List ℕ)) → codes state year list r1 rec ≡ codes state year list r2 rec
+  unfolding codes
+  wrong-codes r1 r2 =
+      rw (wrong-rejected state year list r1 rec w, wrong-rejected state year list r2 rec w)
+      (errors-same state year list r1 r2 rec
+      (wrong-09 state rec w r1 ∙ sym (wrong-09 state rec w r2)) (wrong-17 state rec w r1 ∙ sym (wrong-17 state rec w r2)))
+
+  -- the judgement on a wrong key goes by no row
+  pub wrong-key-same : (r1 r2 : Option (List ℕ)) → judgement state year list r1 rec ≡ judgement state year list r2 rec
+  wrong-key-same r1 r2 =
+      judgement-same state year list r1 r2 rec (wrong-codes r1 r2) (wrong-17 state rec w r1) (wrong-17 state rec w r2)
+
+  -- and it changes none
+  pub wrong-key-keeps : (row : Option (List ℕ)) → next state year list row rec ≡ row
+  wrong-key-keeps row = error-changes-nothing state year list row rec (wrong-rejected state year list row rec w)
+
+-- ---- 17 is judged of a live row alone
+
+module _ (state : List ℕ) (row : Option (List ℕ)) (rec : List ℕ) (t : judged17 state row rec ≡ true) where
+  rest-17 : (not (error05 rec) && (not (error09 row rec) && error17 row rec)) ≡ true
+  unfolding judged17
+  rest-17 = and-right (not (isWrongKey state rec)) _ (and-right (not (error03 rec)) _ t)
+
+  only-17 : (not (error09 row rec) && error17 row rec) ≡ true
+  only-17 = and-right (not (error05 rec)) (not (error09 row rec) && error17 row rec) rest-17
+
+  other-type : (isType A rec || isType B rec) ≡ false
+  unfolding error17
+  other-type =
+      not-true (isType A rec || isType B rec)
+      (and-left (not (isType A rec || isType B rec)) (isOtherName row rec) (and-right (not (error09 row rec)) (error17 row rec) only-17))
+
+  other-name : isOtherName row rec ≡ true
+  unfolding error17
+  other-name =
+      and-right (not (isType A rec || isType B rec)) (isOtherName row rec)
+      (and-right (not (error09 row rec)) (error17 row rec) only-17)
+
+  live-17 : isLiveRow row ≡ true
+  unfolding error09
+  live-17 =
+      let a : isType A rec ≡ false = or-left (isType A rec) (isType B rec) other-type in
+      let n : error09 row rec ≡ false = not-true (error09 row rec) (and-left (not (error09 row rec)) (error17 row rec) only-17) in
+      let m : not (isLiveRow row) ≡ false = rw a at n in
+      not-false (isLiveRow row) m
+
+dead-17 : (state : List ℕ) (row : Option (List ℕ)) (rec : List ℕ) → isLiveRow row ≡ false → judged17 state row rec ≡ false
+dead-17 state row rec d = go (judged17 state row rec) refl
+  where
+    go : (b : Bool) → judged17 state row rec ≡ b → judged17 state row rec ≡ false
+    go true e = cc (live-17 state row rec e)
+    go false e = e
+
+-- ---- a deleted row
+
+none-dead : isLiveRow none ≡ false
+unfolding isLiveRow
+none-dead = refl
+
+module _ (state : List ℕ) (year : ℕ) (list : List ℕ) (r : List ℕ) (rec : List ℕ) (d : isLive r ≡ false) where
+  dead : isLiveRow (some r) ≡ false
+  unfolding isLiveRow
+  dead = d
+
+  dead-09 : judged09 state (some r) rec ≡ judged09 state none rec
+  unfolding judged09 error09
+  dead-09 = rw (dead, none-dead)
+
+  dead-warnings : warnings list (some r) rec ≡ warnings list none rec
+  unfolding warnings warning52 isRenamed
+  dead-warnings = rw d
+
+  dead-errors : errors state year list (some r) rec ≡ errors state year list none rec
+  dead-errors =
+      errors-same state year list (some r) none rec dead-09
+      (dead-17 state (some r) rec dead ∙ sym (dead-17 state none rec none-dead))
+
+  dead-codes : codes state year list (some r) rec ≡ codes state year list none rec
+  unfolding codes isAccepted
+  dead-codes = rw (dead-errors, dead-warnings)
+
+  -- a deleted row is judged as no row
+  pub deleted-as-none : judgement state year list (some r) rec ≡ judgement state year list none rec
+  deleted-as-none =
+      judgement-same state year list (some r) none rec dead-codes (dead-17 state (some r) rec dead) (dead-17 state none rec none-dead)
+
+-- ---- type A
+
+module _ (state : List ℕ) (year : ℕ) (list : List ℕ) (rec : List ℕ) (a : isType A rec ≡ true) where
+  added-09 : (row : Option (List ℕ)) → judged09 state row rec ≡ false
+  unfolding judged09 error09
+  added-09 row = rw (a, and-false, and-false)
+
+  added-17 : (row : Option (List ℕ)) → judged17 state row rec ≡ false
+  unfolding judged17 error17
+  added-17 row = rw (a, and-false, and-false, and-false, and-false)
+
+  -- no row makes an error of type A
+  pub added-errors-same : (r1 r2 : Option (List ℕ)) → errors state year list r1 rec ≡ errors state year list r2 rec
+  added-errors-same r1 r2 = errors-same state year list r1 r2 rec (added-09 r1 ∙ sym (added-09 r2)) (added-17 r1 ∙ sym (added-17 r2))
+
+  pub added-accepted-same : (r1 r2 : Option (List ℕ)) → isAccepted state year list r1 rec ≡ isAccepted state year list r2 rec
+  unfolding isAccepted
+  added-accepted-same r1 r2 = ap isEmpty (added-errors-same r1 r2)
+
+-- ---- 17 and the four stored characters
+
+-- c is among the codes
+abbrev pub hasCode : ℕ → List ℕ → Bool
+hasCode c [] = false
+hasCode c (k ∷ ks) = eqb k c || hasCode c ks
+
+has-front : (c k : ℕ) (b : Bool) (cs : List ℕ) → hasCode c (code k b ++ cs) ≡ (eqb k c && b || hasCode c cs)
+has-front c k true cs = rw (and-true (eqb k c))
+has-front c k false cs = rw (and-false (eqb k c))
+
+has-only : (c k : ℕ) (b : Bool) → hasCode c (code k b) ≡ (eqb k c && b)
+has-only c k true = or-false (eqb k c) ∙ sym (and-true (eqb k c))
+has-only c k false = sym (and-false (eqb k c))
+
+-- a row whose name differs is there
+stored-row : (row : Option (List ℕ)) (rec : List ℕ) → isOtherName row rec ≡ true → (r : List ℕ) × (row ≡ some r)
+unfolding isOtherName
+stored-row none rec t = absurd (false≢true t)
+stored-row (some r) rec t = (r, refl)
+
+module _ (state : List ℕ) (year : ℕ) (list : List ℕ) (row : Option (List ℕ)) (rec : List ℕ) where
+  errors-17 : hasCode 17 (errors state year list row rec) ≡ judged17 state row rec
+  unfolding errors
+  errors-17 = simp (has-front, has-only) (or-false (judged17 state row rec))
+
+  warnings-17 : hasCode 17 (warnings list row rec) ≡ false
+  unfolding warnings
+  warnings-17 = simp (has-front, has-only)
+
+  -- 17 is among the codes exactly where it is judged to hold
+  pub code-17 : hasCode 17 (judgement state year list row rec .codes) ≡ judged17 state row rec
+  unfolding judgement codes
+  code-17 = go (isAccepted state year list row rec) refl
+    where
+      go : (b : Bool) → isAccepted state year list row rec ≡ b
+          → hasCode 17 (cond b (warnings list row rec) (errors state year list row rec)) ≡ judged17 state row rec
+      go true e = warnings-17 ∙ sym (accepted-none state year list row rec e .no17)
+      go false e = errors-17
+
+  name-of : (r : List ℕ) → row ≡ some r → judged17 state row rec ≡ true
+      → judgement state year list row rec .name ≡ some (columns 31 34 r)
+  unfolding judgement
+  name-of r e t = rw t (ap storedName e)
+
+  -- with 17 there is a row, and the name is its columns 31–34
+  pub name-17 : judged17 state row rec ≡ true
+      → (r : List ℕ) × (row ≡ some r) × (judgement state year list row rec .name ≡ some (columns 31 34 r))
+  name-17 t =
+      let s = stored-row row rec (other-name state row rec t) in
+      (s .0, s .1, name-of (s .0) (s .1) t)
+
+  -- without 17 there is no name
+  pub no-name : judged17 state row rec ≡ false → judgement state year list row rec .name ≡ none
+  unfolding judgement
+  no-name f = rw f
+
+  pub named-17 : (bytes : List ℕ) → judgement state year list row rec .name ≡ some bytes → judged17 state row rec ≡ true
+  named-17 bytes e = go (judged17 state row rec) refl
+    where
+      go : (b : Bool) → judged17 state row rec ≡ b → judged17 state row rec ≡ true
+      go true t = t
+      go false f = cc (no-name f)
+
+  pub name-is : (bytes : List ℕ) → judgement state year list row rec .name ≡ some bytes
+      → (r : List ℕ) × (row ≡ some r) × (bytes ≡ columns 31 34 r)
+  name-is bytes e =
+      let n = name-17 (named-17 bytes e) in
+      (n .0, n .1, cc)
+
+-- four bytes of a row
+pub name-width : (r : List ℕ) → length r ≡ 200 → length (columns 31 34 r) ≡ 4
+name-width r e = length-columns 31 34 r (record { low = lit≤ tt; ordered = lit≤ tt; high = omega arith })

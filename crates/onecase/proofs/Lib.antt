@@ -1,0 +1,15 @@
+pub mod BoolLaws
+pub mod ColumnsLaws
+pub mod DigitsLaws
+pub mod JudgementLaws
+pub mod ChangesLaws
+pub mod SoundLaws
+pub mod AcceptedLaws
+pub mod SoundChangesLaws
+pub mod MachineLaws
+pub mod HeldLaws
+pub mod CodeSums
+pub mod StepsLaws
+pub mod KeyWritten
+pub mod JudgeLaws
+pub mod TableProof

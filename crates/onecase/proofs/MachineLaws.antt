@@ -1,0 +1,240 @@
+-- Laws of the one-case machine's step, by which the layers above use it without opening it: a row stays, only type A makes one, and
+-- a row that is 200 bytes wide, has the record's key and is sound stays so. Assumes nothing.
+use Prim.Native.Nat.{ℕ}
+use mathlib.Core.Path.{_≡_, refl, _∙_}
+use mathlib.Core.List.{List}
+use mathlib.Core.Bool.{Bool, true, false, cond}
+use mathlib.Core.Option.{Option, none, some}
+use lib.ListN.{length}
+use Rattle.layout.specs.Characters.{A, B, C, D, L, M, R, S, T}
+use Rattle.layout.specs.Fields.{columns}
+use Rattle.layout.specs.Locals.{isLocalList}
+use Rattle.layout.specs.Row.{isLive, isSoundRow}
+use Rattle.onecase.specs.Record.{recordKey, isType}
+use Rattle.onecase.specs.Errors.{isLiveRow}
+use Rattle.onecase.specs.Verdict.{isAccepted}
+use Rattle.onecase.specs.Changes.{freshRow, recertified, renamed, reidentified, deleted, relocated, amended, excluded, paid, transferred, readdressed}
+use Rattle.onecase.specs.Machine.{changed, added, applied, next}
+use Rattle.onecase.proofs.BoolLaws.{either}
+use Rattle.onecase.proofs.JudgementLaws.{NoError, accepted-none}
+use Rattle.onecase.proofs.ChangesLaws
+use Rattle.onecase.proofs.ChangesLaws.{Kept}
+use Rattle.onecase.proofs.SoundLaws.{SoundAt, columnsOf, sound-columns}
+use Rattle.onecase.proofs.SoundChangesLaws
+use Rattle.onecase.proofs.AcceptedLaws.{live-row}
+
+-- ---- a row stays, and only type A makes one
+
+pub row-stays : (state : List ℕ) (year : ℕ) (list r rec : List ℕ)
+    → (new : List ℕ) × (next state year list (some r) rec ≡ some new)
+unfolding next applied
+row-stays state year list r rec = go (isAccepted state year list (some r) rec) (isType A rec)
+  where
+    go : (b a : Bool) → (new : List ℕ) × (cond b (cond a (some (added list rec (some r))) (some (changed rec r))) (some r) ≡ some new)
+    go true true = (added list rec (some r), refl)
+    go true false = (changed rec r, refl)
+    go false a = (r, refl)
+
+pub only-add-makes : (state : List ℕ) (year : ℕ) (list rec new : List ℕ)
+    → next state year list none rec ≡ some new → isType A rec ≡ true
+unfolding next applied
+only-add-makes state year list rec new e = go (isAccepted state year list none rec) (isType A rec) refl e
+  where
+    go : (b a : Bool) → isType A rec ≡ a → cond b (cond a (some (added list rec none)) none) none ≡ some new → isType A rec ≡ true
+    go true true t e = t
+    go true false t e = cc
+    go false true t e = t
+    go false false t e = cc
+
+-- ---- what holds of each change holds of the step
+
+-- of a row, where there is one
+abbrev pub Each : (List ℕ → Type 0) → Option (List ℕ) → Type 0
+Each P none = Unit {0}
+Each P (some r) = P r
+
+pub each-some : (P : List ℕ → Type 0) (row : Option (List ℕ)) (r : List ℕ) → Each P row → row ≡ some r → P r
+each-some P row r h e = rw e at h
+
+-- of what a record of any type but A does to a row
+record EachChange (P : List ℕ → Type 0) (rec row : List ℕ) : Type 0 where
+  of-renamed : isType B rec ≡ true → P (renamed rec row)
+  of-reidentified : P (reidentified rec row)
+  of-deleted : P (deleted row)
+  of-relocated : isType L rec ≡ true → P (relocated rec row)
+  of-amended : isType M rec ≡ true → P (amended rec row)
+  of-excluded : P (excluded rec row)
+  of-paid : isType S rec ≡ true → P (paid rec row)
+  of-transferred : P (transferred rec row)
+  of-readdressed : P (readdressed rec row)
+
+each-change : (P : List ℕ → Type 0) (rec row : List ℕ) → EachChange P rec row → P (changed rec row)
+unfolding changed
+each-change P rec row h =
+    either P (isType B rec) (renamed rec row) _ (h .of-renamed)
+    (either P (isType C rec) (reidentified rec row) _ (λ t. h .of-reidentified)
+    (either P (isType D rec) (deleted row) _ (λ t. h .of-deleted)
+    (either P (isType L rec) (relocated rec row) _ (h .of-relocated)
+    (either P (isType M rec) (amended rec row) _ (h .of-amended)
+    (either P (isType R rec) (excluded rec row) _ (λ t. h .of-excluded)
+    (either P (isType S rec) (paid rec row) _ (h .of-paid)
+    (either P (isType T rec) (transferred rec row) (readdressed rec row) (λ t. h .of-transferred)
+    (h .of-readdressed))))))))
+
+-- with no error: a fresh row, a live row certified again, or a live row changed
+record EachStep (P : List ℕ → Type 0) (state : List ℕ) (year : ℕ) (list : List ℕ) (row : Option (List ℕ)) (rec : List ℕ) : Type 0 where
+  of-fresh : NoError state year list row rec → isType A rec ≡ true → P (freshRow list rec)
+  of-recertified : (r : List ℕ) → row ≡ some r → NoError state year list row rec → isType A rec ≡ true → isLive r ≡ true
+      → P (recertified list rec r)
+  of-changed : (r : List ℕ) → row ≡ some r → NoError state year list row rec → isLive r ≡ true → P (changed rec r)
+
+each-step : (P : List ℕ → Type 0) (state : List ℕ) (year : ℕ) (list : List ℕ) (row : Option (List ℕ)) (rec : List ℕ)
+    → Each P row → EachStep P state year list row rec → Each P (next state year list row rec)
+unfolding next applied added isLiveRow
+each-step P state year list none rec h s = go (isAccepted state year list none rec) (isType A rec) refl refl
+  where
+    go : (b a : Bool) → isAccepted state year list none rec ≡ b → isType A rec ≡ a
+        → Each P (cond b (cond a (some (added list rec none)) none) none)
+    go true true e t = s .of-fresh (accepted-none state year list none rec e) t
+    go true false e t = tt
+    go false a e t = tt
+each-step P state year list (some r) rec h s = go (isAccepted state year list (some r) rec) (isType A rec) refl refl
+  where
+    go : (b a : Bool) → isAccepted state year list (some r) rec ≡ b → isType A rec ≡ a
+        → Each P (cond b (cond a (some (added list rec (some r))) (some (changed rec r))) (some r))
+    go true true e t =
+        let n = accepted-none state year list (some r) rec e in
+        either P (isLive r) (recertified list rec r) (freshRow list rec) (λ v. s .of-recertified r refl n t v) (s .of-fresh n t)
+    go true false e t =
+        let n = accepted-none state year list (some r) rec e in
+        s .of-changed r refl n (live-row n t)
+    go false a e t = h
+
+-- ---- width, key and soundness
+
+abbrev pub IsWide : List ℕ → Type 0
+IsWide r = length r ≡ 200
+
+-- 200 bytes with the record's key
+pub record Keyed (rec r : List ℕ) : Type 0 where
+  pub wide : length r ≡ 200
+  pub key : columns 1 12 r ≡ recordKey rec
+
+-- and sound
+pub record GoodRow (rec r : List ℕ) : Type 0 where
+  pub wide : length r ≡ 200
+  pub key : columns 1 12 r ≡ recordKey rec
+  pub sound : isSoundRow r ≡ true
+
+-- none is good
+abbrev pub Good : List ℕ → Option (List ℕ) → Type 0
+Good rec row = Each (GoodRow rec) row
+
+module _ (rec row : List ℕ) (e : length rec ≡ 245) (w : length row ≡ 200) where
+  changed-kept : Kept row (changed rec row)
+  changed-kept =
+      each-change (Kept row) rec row
+      record {
+        of-renamed = λ t. ChangesLaws.renamed-kept rec e row w;
+        of-reidentified = ChangesLaws.reidentified-kept rec e row w;
+        of-deleted = ChangesLaws.deleted-kept row w;
+        of-relocated = λ t. ChangesLaws.relocated-kept rec e row w;
+        of-amended = λ t. ChangesLaws.amended-kept rec e row w;
+        of-excluded = ChangesLaws.excluded-kept rec e row w;
+        of-paid = λ t. ChangesLaws.paid-kept rec e row w;
+        of-transferred = ChangesLaws.transferred-kept rec e row w;
+        of-readdressed = ChangesLaws.readdressed-kept rec e row w;
+      }
+
+  changed-sound : {state : List ℕ} {year : ℕ} {list : List ℕ} {held : Option (List ℕ)} → NoError state year list held rec
+      → isLocalList list ≡ true → isLive row ≡ true → isSoundRow row ≡ true → isSoundRow (changed rec row) ≡ true
+  changed-sound n l v t =
+      let s : SoundAt (columnsOf row) = sound-columns row t in
+      each-change (λ (r : List ℕ). isSoundRow r ≡ true) rec row
+      record {
+        of-renamed = SoundChangesLaws.renamed-sound n e row w s;
+        of-reidentified = SoundChangesLaws.reidentified-sound rec e row w s;
+        of-deleted = SoundChangesLaws.deleted-sound row w s;
+        of-relocated = SoundChangesLaws.relocated-sound n e row w s l;
+        of-amended = SoundChangesLaws.amended-sound n e row w s v;
+        of-excluded = SoundChangesLaws.excluded-sound rec e row w s;
+        of-paid = SoundChangesLaws.paid-sound n e row w s;
+        of-transferred = SoundChangesLaws.transferred-sound rec e row w s;
+        of-readdressed = SoundChangesLaws.readdressed-sound rec e row w s;
+      }
+
+module _ (state : List ℕ) (year : ℕ) (list : List ℕ) (row : Option (List ℕ)) (rec : List ℕ) (e : length rec ≡ 245) where
+  pub next-wide : Each IsWide row → Each IsWide (next state year list row rec)
+  next-wide h =
+      each-step IsWide state year list row rec h
+      record {
+        of-fresh = λ n a. ChangesLaws.fresh-wide rec e list;
+        of-recertified = λ r g n a v. ChangesLaws.recertified-kept rec e r (each-some IsWide row r h g) list .wide;
+        of-changed = λ r g n v. changed-kept rec r e (each-some IsWide row r h g) .wide;
+      }
+
+  -- width and key from the row before
+  keyed : (r new : List ℕ) → Keyed rec r → Kept r new → Keyed rec new
+  keyed r new h k = record { wide = k .wide; key = k .key ∙ h .key }
+
+  pub next-keyed : Each (Keyed rec) row → Each (Keyed rec) (next state year list row rec)
+  next-keyed h =
+      each-step (Keyed rec) state year list row rec h
+      record {
+        of-fresh = λ n a. record { wide = ChangesLaws.fresh-wide rec e list; key = ChangesLaws.fresh-key rec e list };
+        of-recertified = λ r g n a v.
+            let k = each-some (Keyed rec) row r h g in
+            keyed r (recertified list rec r) k (ChangesLaws.recertified-kept rec e r (k .wide) list);
+        of-changed = λ r g n v.
+            let k = each-some (Keyed rec) row r h g in
+            keyed r (changed rec r) k (changed-kept rec r e (k .wide));
+      }
+
+  -- width, key and soundness from the row before
+  good : (r new : List ℕ) → GoodRow rec r → Kept r new → isSoundRow new ≡ true → GoodRow rec new
+  good r new h k t = record { wide = k .wide; key = k .key ∙ h .key; sound = t }
+
+  pub next-good : isLocalList list ≡ true → Good rec row → Good rec (next state year list row rec)
+  next-good l h =
+      each-step (GoodRow rec) state year list row rec h
+      record {
+        of-fresh = λ n a.
+            record {
+              wide = ChangesLaws.fresh-wide rec e list;
+              key = ChangesLaws.fresh-key rec e list;
+              sound = SoundChangesLaws.fresh-sound n e l a;
+            };
+        of-recertified = λ r g n a v.
+            let k = each-some (GoodRow rec) row r h g in
+            good r (recertified list rec r) k (ChangesLaws.recertified-kept rec e r (k .wide) list)
+            (SoundChangesLaws.recertified-sound n e r (k .wide) (sound-columns r (k .sound)) v l a);
+        of-changed = λ r g n v.
+            let k = each-some (GoodRow rec) row r h g in
+            good r (changed rec r) k (changed-kept rec r e (k .wide)) (changed-sound rec r e (k .wide) n l v (k .sound));
+      }
+
+-- the same of the two rows named
+module _ (state : List ℕ) (year : ℕ) (list r rec new : List ℕ) (e : length rec ≡ 245) (g : next state year list (some r) rec ≡ some new)
+    (w : length r ≡ 200) where
+  pub width-kept : length new ≡ 200
+  width-kept = each-some IsWide (next state year list (some r) rec) new (next-wide state year list (some r) rec e w) g
+
+  pub key-kept : columns 1 12 r ≡ recordKey rec → columns 1 12 new ≡ recordKey rec
+  key-kept k =
+      each-some (Keyed rec) (next state year list (some r) rec) new
+      (next-keyed state year list (some r) rec e (record { wide = w; key = k })) g .key
+
+  pub sound-kept : isLocalList list ≡ true → columns 1 12 r ≡ recordKey rec → isSoundRow r ≡ true → isSoundRow new ≡ true
+  sound-kept l k s =
+      each-some (GoodRow rec) (next state year list (some r) rec) new
+      (next-good state year list (some r) rec e l (record { wide = w; key = k; sound = s })) g .sound
+
+module _ (state : List ℕ) (year : ℕ) (list rec new : List ℕ) (e : length rec ≡ 245) (g : next state year list none rec ≡ some new) where
+  pub width-made : length new ≡ 200
+  width-made = each-some IsWide (next state year list none rec) new (next-wide state year list none rec e tt) g
+
+  pub key-made : columns 1 12 new ≡ recordKey rec
+  key-made = each-some (Keyed rec) (next state year list none rec) new (next-keyed state year list none rec e tt) g .key
+
+  pub sound-made : isLocalList list ≡ true → isSoundRow new ≡ true
+  sound-made l = each-some (GoodRow rec) (next state year list none rec) new (next-good state year list none rec e l tt) g .sound

@@ -1,0 +1,152 @@
+-- A row's soundness by its columns: it reads those of the key, local code, first four characters of the last name, arrearage, payment,
+-- status and filler, and rows that agree on these are equally sound; so is what is written into a row, read field by field.
+-- Assumes nothing.
+use Prim.Native.Nat.{ℕ, _+_, _≤_}
+use mathlib.Core.Path.{_≡_, sym, ap, _∙_}
+use mathlib.Core.List.{List}
+use mathlib.Core.Bool.{Bool, true, cond, _&&_}
+use lib.Dec.{eqb, lit≤}
+use lib.ListN.{length, getD}
+use Rattle.layout.specs.Characters.{space, D}
+use Rattle.layout.specs.Fields.{columns, isBlank, isZero, allDigits}
+use Rattle.layout.specs.Name.{isName, hasLetter}
+use Rattle.layout.specs.Key.{isSoundKey}
+use Rattle.layout.specs.Row.{isLive, isDeleted, isStatusSound, areFieldsSound, isSoundRow}
+use Rattle.layout.proofs.FieldsLaws.{and-left, and-right}
+use Rattle.onecase.proofs.BoolLaws.{and-both}
+use Rattle.onecase.proofs.DigitsLaws.{digits-append}
+use Rattle.onecase.proofs.ColumnsLaws.{columns-split, Put, written, AllFit, isClear, read, columns-written, isFree, columns-free}
+
+-- ---- the columns that soundness reads
+
+-- sound, where the columns first to last are at first last
+pub record SoundAt (at : ℕ → ℕ → List ℕ) : Type 0 where
+  pub key-sound : isSoundKey (at 1 12) ≡ true
+  pub local-digits : allDigits (at 13 15) ≡ true
+  pub name-right : isName (at 31 34) ≡ true
+  pub name-letter : hasLetter (at 31 34) ≡ true
+  pub arrearage-digits : allDigits (at 66 73) ≡ true
+  pub year-digits : allDigits (at 79 82) ≡ true
+  pub payment-digits : allDigits (at 83 90) ≡ true
+  pub status-right : cond (isZero (at 66 73)) (eqb (getD (at 196 196) 0 0) D) (eqb (getD (at 196 196) 0 0) space) ≡ true
+  pub filler-blank : isBlank (at 197 200) ≡ true
+
+-- the columns of a row
+abbrev pub columnsOf : List ℕ → ℕ → ℕ → List ℕ
+columnsOf row first last = columns first last row
+
+-- 79–90 as 79–82 and 83–90
+two-digits : (row : List ℕ) → allDigits (columns 79 90 row) ≡ (allDigits (columns 79 82 row) && allDigits (columns 83 90 row))
+two-digits row =
+    ap allDigits (columns-split 79 82 90 row (lit≤ tt) (lit≤ tt) (lit≤ tt)) ∙ digits-append (columns 79 82 row) (columns 83 90 row)
+
+module _ (row : List ℕ) where
+  pub sound-columns : isSoundRow row ≡ true → SoundAt (columnsOf row)
+  unfolding isSoundRow areFieldsSound isStatusSound isDeleted isLive
+  sound-columns t0 =
+      let t1 = and-right (isSoundKey (columns 1 12 row)) _ t0 in
+      let t2 = and-right (allDigits (columns 13 15 row)) _ t1 in
+      let t3 = and-right (allDigits (columns 66 73 row)) _ t2 in
+      let t4 = and-right (allDigits (columns 79 90 row)) _ t3 in
+      let t5 = and-right (isName (columns 31 34 row)) _ t4 in
+      let t6 = and-right (hasLetter (columns 31 34 row)) _ t5 in
+      let p = sym (two-digits row) ∙ and-left (allDigits (columns 79 90 row)) _ t3 in
+      record {
+        key-sound = and-left (isSoundKey (columns 1 12 row)) _ t0;
+        local-digits = and-left (allDigits (columns 13 15 row)) _ t1;
+        name-right = and-left (isName (columns 31 34 row)) _ t4;
+        name-letter = and-left (hasLetter (columns 31 34 row)) _ t5;
+        arrearage-digits = and-left (allDigits (columns 66 73 row)) _ t2;
+        year-digits = and-left (allDigits (columns 79 82 row)) (allDigits (columns 83 90 row)) p;
+        payment-digits = and-right (allDigits (columns 79 82 row)) (allDigits (columns 83 90 row)) p;
+        status-right = and-left (isStatusSound row) (isBlank (columns 197 200 row)) t6;
+        filler-blank = and-right (isStatusSound row) (isBlank (columns 197 200 row)) t6;
+      }
+
+  pub columns-sound : SoundAt (columnsOf row) → isSoundRow row ≡ true
+  unfolding isSoundRow areFieldsSound isStatusSound isDeleted isLive
+  columns-sound s =
+      let p : allDigits (columns 79 90 row) ≡ true =
+      two-digits row ∙ and-both (allDigits (columns 79 82 row)) (allDigits (columns 83 90 row)) (s .year-digits) (s .payment-digits) in
+      rw (s .key-sound, s .local-digits, s .arrearage-digits, p, s .name-right, s .name-letter, s .status-right, s .filler-blank)
+
+-- ---- rows that agree on them
+
+pub record SameAt (f g : ℕ → ℕ → List ℕ) : Type 0 where
+  pub same-key : f 1 12 ≡ g 1 12
+  pub same-local : f 13 15 ≡ g 13 15
+  pub same-name : f 31 34 ≡ g 31 34
+  pub same-arrearage : f 66 73 ≡ g 66 73
+  pub same-year : f 79 82 ≡ g 79 82
+  pub same-payment : f 83 90 ≡ g 83 90
+  pub same-status : f 196 196 ≡ g 196 196
+  pub same-filler : f 197 200 ≡ g 197 200
+
+pub same-sound : (f g : ℕ → ℕ → List ℕ) → SameAt f g → SoundAt g → SoundAt f
+same-sound f g e s =
+    record {
+      key-sound = rw (e .same-key) (s .key-sound);
+      local-digits = rw (e .same-local) (s .local-digits);
+      name-right = rw (e .same-name) (s .name-right);
+      name-letter = rw (e .same-name) (s .name-letter);
+      arrearage-digits = rw (e .same-arrearage) (s .arrearage-digits);
+      year-digits = rw (e .same-year) (s .year-digits);
+      payment-digits = rw (e .same-payment) (s .payment-digits);
+      status-right = rw (e .same-arrearage, e .same-status) (s .status-right);
+      filler-blank = rw (e .same-filler) (s .filler-blank);
+    }
+
+-- a test of the places of those columns
+abbrev pub atEach : (ℕ → ℕ → Bool) → Bool
+atEach t = t 1 12 && (t 13 15 && (t 31 34 && (t 66 73 && (t 79 82 && (t 83 90 && (t 196 196 && t 197 200))))))
+
+-- columns that agree where a test passes agree on them if it passes at each
+same-by : (f g : ℕ → ℕ → List ℕ) (t : ℕ → ℕ → Bool) → ((a z : ℕ) → 1 ≤ a → a ≤ z + 1 → t a z ≡ true → f a z ≡ g a z)
+    → atEach t ≡ true → SameAt f g
+same-by f g t h c1 =
+    let c2 = and-right (t 1 12) _ c1 in
+    let c3 = and-right (t 13 15) _ c2 in
+    let c4 = and-right (t 31 34) _ c3 in
+    let c5 = and-right (t 66 73) _ c4 in
+    let c6 = and-right (t 79 82) _ c5 in
+    let c7 = and-right (t 83 90) _ c6 in
+    record {
+      same-key = h 1 12 (lit≤ tt) (lit≤ tt) (and-left (t 1 12) _ c1);
+      same-local = h 13 15 (lit≤ tt) (lit≤ tt) (and-left (t 13 15) _ c2);
+      same-name = h 31 34 (lit≤ tt) (lit≤ tt) (and-left (t 31 34) _ c3);
+      same-arrearage = h 66 73 (lit≤ tt) (lit≤ tt) (and-left (t 66 73) _ c4);
+      same-year = h 79 82 (lit≤ tt) (lit≤ tt) (and-left (t 79 82) _ c5);
+      same-payment = h 83 90 (lit≤ tt) (lit≤ tt) (and-left (t 83 90) _ c6);
+      same-status = h 196 196 (lit≤ tt) (lit≤ tt) (and-left (t 196 196) _ c7);
+      same-filler = h 197 200 (lit≤ tt) (lit≤ tt) (and-right (t 196 196) _ c7);
+    }
+
+-- ---- what is written into a row
+
+-- each field has all or none of the columns of each of the eight
+abbrev pub areClear : List Put → Bool
+areClear ps = atEach (λ a z. isClear a z ps)
+
+-- no field has any of them
+abbrev pub areFree : List Put → Bool
+areFree ps = atEach (λ a z. isFree a z ps)
+
+abbrev pub readOf : List Put → List ℕ → ℕ → ℕ → List ℕ
+readOf ps s first last = read first last ps s
+
+module _ (ps : List Put) (s : List ℕ) (f : AllFit 200 ps) (e : length s ≡ 200) where
+  -- a row is sound after fields are written where its columns, read off the fields, are
+  pub written-sound : areClear ps ≡ true → SoundAt (readOf ps s) → isSoundRow (written ps s) ≡ true
+  written-sound c h =
+      columns-sound (written ps s)
+      (same-sound (columnsOf (written ps s)) (readOf ps s)
+      (same-by (columnsOf (written ps s)) (readOf ps s) (λ a z. isClear a z ps)
+      (λ a z l o t. columns-written 200 a z l o ps s t f e) c) h)
+
+  -- fields in other columns leave a sound row sound
+  pub free-sound : areFree ps ≡ true → SoundAt (columnsOf s) → isSoundRow (written ps s) ≡ true
+  free-sound c h =
+      columns-sound (written ps s)
+      (same-sound (columnsOf (written ps s)) (columnsOf s)
+      (same-by (columnsOf (written ps s)) (columnsOf s) (λ a z. isFree a z ps)
+      (λ a z l o t. columns-free 200 a z l o ps s t f e) c) h)

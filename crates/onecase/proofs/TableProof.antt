@@ -1,0 +1,75 @@
+-- Document 01, "Proved table": the ten lines (a)–(j) hold together, by computation; and their records have 245 bytes, the rows 200.
+-- Assumes nothing.
+use Prim.Native.Nat.{ℕ}
+use mathlib.Core.Path.{_≡_, refl}
+use lib.ListN.{length}
+use Rattle.layout.specs.Characters.{isLetter, isDigit}
+use Rattle.layout.specs.Fields.{isBlank, isZero, allDigits, areDigits, number, digitField, sameBytes, isOneOf}
+use Rattle.layout.specs.States.{stateTable, isState}
+use Rattle.layout.specs.Ssn.{wrongSsn}
+use Rattle.layout.specs.Name.{isNameByte, isNameRest, isName, hasLetter}
+use Rattle.layout.specs.Calendar.{isLeap, daysIn, isDay, isDate}
+use Rattle.layout.specs.ProcessYear.{inWindow}
+use Rattle.layout.specs.Exclusions.{exclusionNames, isSeparator, wordsFrom, readOnto, exclusionsOf}
+use Rattle.layout.specs.Blocks.{blocks}
+use Rattle.layout.specs.Locals.{codesOfList, isListed}
+use Rattle.layout.specs.Key.{isCaseType, isSoundKey}
+use Rattle.layout.specs.Row.{isLive, isStatusSound, areFieldsSound, isSoundRow}
+use Rattle.onecase.specs.Record.{isKnownType}
+use Rattle.onecase.specs.Errors.{error01, error02, error03, error04, error05, error06, error07, error08, isLiveRow, error09}
+use Rattle.onecase.specs.Errors.{isLocalCode, error10, error11, error12, error13, wrongPart, error14, error15, error16}
+use Rattle.onecase.specs.Errors.{isOtherName, error17, error18, isWrongKey, judged09, judged17, errors}
+use Rattle.onecase.specs.Warnings.{warning51, isRenamed, warning52, warnings}
+use Rattle.onecase.specs.Verdict.{isAccepted, codes, judgement}
+use Rattle.onecase.specs.Changes.{exclusionByte, addedLocalCode, freshRow, amended}
+use Rattle.onecase.specs.Machine.{changed, added, applied, next}
+use Rattle.onecase.specs.Table.{LI, O-NE, O·NE, blank, threeWords, oneWord, RETPAS, ProvedTable}
+use Rattle.onecase.specs.Table.{base, ofSsn, ofName, ofAmount, ofCaseType, ofYear, ofDate, ofExclusions, verdict, after, gets, passes}
+use Rattle.onecase.specs.Table.{liveRow, owing, deletedRow, afterM, afterL, afterA, afterAmounts}
+
+pub proved-table : ProvedTable
+unfolding
+    isLetter isDigit isBlank isZero allDigits areDigits number digitField sameBytes isOneOf stateTable isState wrongSsn
+    isNameByte isNameRest isName hasLetter isLeap daysIn isDay isDate inWindow exclusionNames isSeparator wordsFrom readOnto exclusionsOf
+    blocks codesOfList isListed isCaseType isSoundKey isLive isStatusSound areFieldsSound isSoundRow
+    isKnownType error01 error02 error03 error04 error05 error06 error07 error08 isLiveRow error09 isLocalCode error10 error11 error12
+    error13 wrongPart error14 error15 error16 isOtherName error17 error18 isWrongKey judged09 judged17 errors
+    warning51 isRenamed warning52 warnings isAccepted codes judgement
+    exclusionByte addedLocalCode freshRow amended changed added applied next
+    base ofSsn ofName ofAmount ofCaseType ofYear ofDate ofExclusions verdict after gets passes
+    liveRow owing deletedRow afterM afterL afterA afterAmounts
+proved-table =
+    record {
+      a = (refl, refl);
+      b = (refl, refl, refl, refl, refl, refl, refl, refl);
+      c = (refl, refl, refl, refl, refl, refl, refl, refl);
+      d = (refl, refl, refl, refl, refl, refl, refl, refl);
+      e = (refl, refl, refl, refl);
+      f = (refl, refl, refl, refl, refl, refl);
+      g = (refl, refl, refl, refl);
+      h = (refl, refl, refl, refl, refl, refl, refl, refl, refl, refl, refl, refl);
+      i = refl;
+      j = (refl, refl, refl);
+    }
+
+-- the records have 245 bytes, whatever the type and the number, and the rows 200
+pub table-widths
+    : (t n : ℕ)
+    → (length (base t) ≡ 245)
+    × (length (ofSsn n (base t)) ≡ 245)
+    × (length (ofAmount n (base t)) ≡ 245)
+    × (length (ofCaseType n (base t)) ≡ 245)
+    × (length (ofYear n (base t)) ≡ 245)
+    × (length (ofDate n (base t)) ≡ 245)
+    × (length (ofName LI (base t)) ≡ 245)
+    × (length (ofName O-NE (base t)) ≡ 245)
+    × (length (ofName O·NE (base t)) ≡ 245)
+    × (length (ofName blank (base t)) ≡ 245)
+    × (length (ofExclusions threeWords (base t)) ≡ 245)
+    × (length (ofExclusions oneWord (base t)) ≡ 245)
+    × (length (ofExclusions RETPAS (base t)) ≡ 245)
+    × (length (owing n) ≡ 200)
+    × (length liveRow ≡ 200)
+    × (length deletedRow ≡ 200)
+unfolding digitField base ofSsn ofName ofAmount ofCaseType ofYear ofDate ofExclusions liveRow owing deletedRow
+table-widths t n = (refl, refl, refl, refl, refl, refl, refl, refl, refl, refl, refl, refl, refl, refl, refl, refl)

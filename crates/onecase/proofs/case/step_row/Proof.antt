@@ -1,0 +1,38 @@
+-- `case::step_row` meets its contract. Assumes nothing.
+use mathlib.Core.Path.{refl}
+use borrow.Author.Needs.{needs}
+use Rattle.onecase.specs.Record.{rowIf}
+use Rattle.onecase.proofs.JudgeLaws.{step-accepted, step-rejected}
+use Rattle.onecase.proofs.case.step_row.Statement.{statement}
+use Rattle.onecase.proofs.case.step_row.Tie as tie
+
+judge-requires : tie.Need-judge-requires
+judge-requires c κs = search needs
+
+warned-requires : tie.Need-warned-requires
+warned-requires c κs = search needs
+
+applied-row-requires : tie.Need-applied-row-requires
+applied-row-requires c κs = search needs
+
+returns : tie.Need-returns
+returns c =
+    step-accepted (c .before .before .before .before .before .before .before .before .before .before .before .args .state .now) (c .before .before .before .before .before .before .before .before .before .before .before .args .year) (c .before .before .before .before .before .before .before .before .before .before .before .args .list .now) (rowIf (c .before .before .before .before .before .before .before .before .before .before .before .args .held) (c .before .before .before .before .before .before .before .before .before .before .before .args .t2)) (c .before .before .before .before .before .before .before .before .before .before .before .args .t3) _ _ _ (c .before .before .before .before .before .before .judge .ensures .0) (c .before .before .before .before .before .if1 .taken) (c .before .before .warned .ensures) (c .applied-row .ensures)
+
+rejection-requires : tie.Need-rejection-requires
+rejection-requires c κs = search needs
+
+returns-2 : tie.Need-returns-2
+returns-2 c =
+    step-rejected (c .before .before .before .before .before .before .before .args .state .now) (c .before .before .before .before .before .before .before .args .year) (c .before .before .before .before .before .before .before .args .list .now) (rowIf (c .before .before .before .before .before .before .before .args .held) (c .before .before .before .before .before .before .before .args .t2)) (c .before .before .before .before .before .before .before .args .t3) _ _ _ _ (c .before .before .judge .ensures .0) (c .before .if1 .left) (c .before .before .judge .ensures .1) refl (c .rejection .ensures)
+
+pub step-row-spec : {M : Type 1} → statement M
+step-row-spec =
+    tie.close
+    (tie.spec
+    judge-requires
+    warned-requires
+    applied-row-requires
+    returns
+    rejection-requires
+    returns-2)

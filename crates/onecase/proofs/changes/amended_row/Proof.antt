@@ -1,0 +1,42 @@
+-- `changes::amended_row` meets its contract. Assumes nothing.
+use mathlib.Core.Path.{sym, ap, _∙_}
+use borrow.Author.Needs.{needs}
+use Rattle.layout.specs.Fields.{isZero}
+use Rattle.onecase.specs.Changes.{amended}
+use Rattle.onecase.proofs.changes.amended_row.Statement.{statement}
+use Rattle.onecase.proofs.changes.amended_row.Tie as tie
+
+copied-requires : tie.Need-copied-requires
+copied-requires c κs = search needs
+
+field-requires : tie.Need-field-requires
+field-requires c κs = search needs
+
+is-zero-requires : tie.Need-is-zero-requires
+is-zero-requires c κs = search needs
+
+slice-aggregate-written : tie.Need-slice-aggregate-written
+slice-aggregate-written c = search needs
+
+written-requires : tie.Need-written-requires
+written-requires c κs = search needs
+
+returns : tie.Need-returns
+unfolding amended
+returns c = rw (sym (c .before .before .before .is-zero .ensures ∙ ap isZero (c .before .before .before .before .field .ensures)) ∙ c .before .before .if1 .taken, c .written .ensures, c .before .before .before .before .before .before .copied .ensures)
+
+returns-2 : tie.Need-returns-2
+unfolding amended
+returns-2 c = rw (sym (c .before .is-zero .ensures ∙ ap isZero (c .before .before .field .ensures)) ∙ c .if1 .left, c .before .before .before .before .copied .ensures)
+
+pub amended-row-spec : {M : Type 1} → statement M
+amended-row-spec =
+    tie.close
+    (tie.spec
+    copied-requires
+    field-requires
+    is-zero-requires
+    slice-aggregate-written
+    written-requires
+    returns
+    returns-2)

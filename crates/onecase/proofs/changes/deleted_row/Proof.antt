@@ -1,0 +1,31 @@
+-- `changes::deleted_row` meets its contract. Assumes nothing.
+use borrow.Author.Needs.{needs}
+use Rattle.onecase.specs.Changes.{deleted}
+use Rattle.onecase.proofs.changes.deleted_row.Statement.{statement}
+use Rattle.onecase.proofs.changes.deleted_row.Tie as tie
+
+slice-aggregate-written : tie.Need-slice-aggregate-written
+slice-aggregate-written c = search needs
+
+written-requires : tie.Need-written-requires
+written-requires c κs = search needs
+
+slice-aggregate-written-2 : tie.Need-slice-aggregate-written-2
+slice-aggregate-written-2 c = search needs
+
+written-requires-2 : tie.Need-written-requires-2
+written-requires-2 c κs = search needs
+
+returns : tie.Need-returns
+unfolding deleted
+returns c = rw (c .written2 .ensures, c .before .before .written .ensures)
+
+pub deleted-row-spec : {M : Type 1} → statement M
+deleted-row-spec =
+    tie.close
+    (tie.spec
+    slice-aggregate-written
+    written-requires
+    slice-aggregate-written-2
+    written-requires-2
+    returns)

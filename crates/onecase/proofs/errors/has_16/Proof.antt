@@ -1,0 +1,18 @@
+-- `errors::has_16` meets its contract. Assumes nothing.
+use borrow.Author.Needs.{needs}
+use Rattle.onecase.specs.Errors.{error16}
+use Rattle.onecase.proofs.errors.has_16.Statement.{statement}
+use Rattle.onecase.proofs.errors.has_16.Tie as tie
+
+element-copy-out-t : tie.Need-element-copy-out-t
+element-copy-out-t c = search needs
+
+has-wrong-word-requires : tie.Need-has-wrong-word-requires
+has-wrong-word-requires c κs = search needs
+
+returns : tie.Need-returns
+unfolding error16
+returns c = rw (c .has-wrong-word .ensures)
+
+pub has-16-spec : {M : Type 1} → statement M
+has-16-spec = tie.close (tie.spec element-copy-out-t has-wrong-word-requires returns)

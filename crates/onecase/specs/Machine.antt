@@ -1,0 +1,55 @@
+-- Document 01, "One-case machine": its state is one row or none, for one key; its step reads the record, the control record's state,
+-- the year and the list, nothing else. Assumes nothing.
+use Prim.Native.Nat.{ℕ}
+use mathlib.Core.Path.{_≡_}
+use mathlib.Core.List.{List}
+use mathlib.Core.Bool.{Bool, true, false, cond}
+use mathlib.Core.Option.{Option, none, some}
+use Rattle.layout.specs.Characters.{A, B, C, D, L, M, R, S, T}
+use Rattle.layout.specs.Row.{isLive}
+use Rattle.onecase.specs.Record.{isType, rowIf}
+use Rattle.onecase.specs.Verdict.{isAccepted, judgement, meaning, saysAccepted}
+use Rattle.onecase.specs.Changes.{freshRow, recertified, renamed, reidentified, deleted, relocated, amended, excluded, paid, transferred, readdressed}
+use Rattle.onecase.specs.declared.case.Case.{Case}
+use Rattle.onecase.specs.declared.case.Step.{Step}
+
+-- a record of any type but A on its row
+unfoldable pub changed : List ℕ → List ℕ → List ℕ
+changed rec row =
+    cond (isType B rec) (renamed rec row)
+    (cond (isType C rec) (reidentified rec row)
+    (cond (isType D rec) (deleted row)
+    (cond (isType L rec) (relocated rec row)
+    (cond (isType M rec) (amended rec row)
+    (cond (isType R rec) (excluded rec row)
+    (cond (isType S rec) (paid rec row)
+    (cond (isType T rec) (transferred rec row)
+    (readdressed rec row))))))))
+
+-- A: with no row, or a deleted one, a fresh row
+unfoldable pub added : List ℕ → List ℕ → Option (List ℕ) → List ℕ
+added list rec none = freshRow list rec
+added list rec (some row) = cond (isLive row) (recertified list rec row) (freshRow list rec)
+
+-- a record of any type but A makes no row
+abbrev pub changedRow : List ℕ → Option (List ℕ) → Option (List ℕ)
+changedRow rec none = none
+changedRow rec (some row) = some (changed rec row)
+
+-- what a record without an error leaves
+unfoldable pub applied : List ℕ → Option (List ℕ) → List ℕ → Option (List ℕ)
+applied list row rec = cond (isType A rec) (some (added list rec row)) (changedRow rec row)
+
+-- the row after the step: an error changes nothing
+unfoldable pub next : List ℕ → ℕ → List ℕ → Option (List ℕ) → List ℕ → Option (List ℕ)
+next state year list row rec = cond (isAccepted state year list row rec) (applied list row rec) row
+
+-- the state that the code's value stands for
+abbrev pub rowOf : Case → Option (List ℕ)
+rowOf c = rowIf (c .held) (c .row)
+
+-- an answer of the step: the new state, the verdict, and that accepted is said exactly where no error holds
+pub record IsStep (state : List ℕ) (year : ℕ) (list : List ℕ) (row : Option (List ℕ)) (rec : List ℕ) (answer : Step) : Type 0 where
+  pub row-is : rowOf (answer .case) ≡ next state year list row rec
+  pub verdict-is : meaning (answer .verdict) ≡ judgement state year list row rec
+  pub accepted-is : saysAccepted (answer .verdict) ≡ isAccepted state year list row rec

@@ -1,0 +1,75 @@
+-- Document 01, "One-case machine": the verdict is the set of codes, and with 17 the four stored characters. Assumes nothing.
+use Prim.Native.Nat.{ℕ}
+use mathlib.Core.Path.{_≡_}
+use mathlib.Core.List.{List, [], _∷_, _++_}
+use mathlib.Core.Bool.{Bool, true, false, cond}
+use mathlib.Core.Option.{Option, none, some}
+use lib.Dec.{leb}
+use Rattle.layout.specs.Fields.{columns}
+use Rattle.layout.specs.Codes.{codesOfNumber}
+use Rattle.onecase.specs.Errors.{errors, judged17}
+use Rattle.onecase.specs.Warnings.{warnings}
+use Rattle.onecase.specs.declared.verdict.FourBytes.{FourBytes}
+use Rattle.onecase.specs.declared.verdict.Verdict.{Verdict}
+use Rattle.onecase.specs.declared.verdict.Verdict.the-variants.{Accepted, Rejected, RejectedWithName}
+
+pub record Judgement : Type 0 where
+  -- the set of codes, rising
+  pub codes : List ℕ
+  -- with 17 the four stored characters
+  pub name : Option (List ℕ)
+
+abbrev pub isEmpty : List ℕ → Bool
+isEmpty [] = true
+isEmpty (c ∷ cs) = false
+
+-- no error holds
+unfoldable pub isAccepted : List ℕ → ℕ → List ℕ → Option (List ℕ) → List ℕ → Bool
+isAccepted state year list row rec = isEmpty (errors state year list row rec)
+
+-- all errors that hold; warnings come only without errors, and join the set
+unfoldable pub codes : List ℕ → ℕ → List ℕ → Option (List ℕ) → List ℕ → List ℕ
+codes state year list row rec =
+    cond (isAccepted state year list row rec) (warnings list row rec) (errors state year list row rec)
+
+-- the first four stored characters of the last name
+abbrev pub storedName : Option (List ℕ) → Option (List ℕ)
+storedName none = none
+storedName (some row) = some (columns 31 34 row)
+
+unfoldable pub judgement : List ℕ → ℕ → List ℕ → Option (List ℕ) → List ℕ → Judgement
+judgement state year list row rec =
+    record { codes = codes state year list row rec; name = cond (judged17 state row rec) (storedName row) none }
+
+-- rejected: an error is in the set; warned: a warning is
+abbrev pub isError : ℕ → Bool
+isError c = leb c 18
+
+abbrev pub isWarning : ℕ → Bool
+isWarning c = leb 51 c
+
+unfoldable pub isRejected : Judgement → Bool
+isRejected verdict = Rattle.layout.specs.Fields.some isError (verdict .codes)
+
+unfoldable pub isWarned : Judgement → Bool
+isWarned verdict = Rattle.layout.specs.Fields.some isWarning (verdict .codes)
+
+-- what each answer of the step stands for
+abbrev pub fourBytes : FourBytes → List ℕ
+fourBytes n = n .a ∷ n .b ∷ n .c ∷ n .d ∷ []
+
+abbrev pub meaning : Verdict → Judgement
+meaning (Accepted set) = record { codes = codesOfNumber set; name = none }
+meaning (Rejected set) = record { codes = codesOfNumber set; name = none }
+meaning (RejectedWithName set n) = record { codes = codesOfNumber set; name = some (fourBytes n) }
+
+-- an answer says accepted exactly where no error holds
+abbrev pub saysAccepted : Verdict → Bool
+saysAccepted (Accepted set) = true
+saysAccepted (Rejected set) = false
+saysAccepted (RejectedWithName set n) = false
+
+-- the answer for a set of errors: with 17 the name, which is the row's
+pub record IsRejection (set : ℕ) (named : Bool) (row : List ℕ) (v : Verdict) : Type 0 where
+  pub means : meaning v ≡ record { codes = codesOfNumber set; name = cond named (some (columns 31 34 row)) none }
+  pub rejects : saysAccepted v ≡ false

@@ -1,0 +1,95 @@
+// The machine: its state by value, and a step per record that hands the new state back.
+use crate::changes;
+use crate::judge;
+use crate::verdict;
+use crate::verdict::Verdict;
+use crate::warnings;
+use layout::row;
+ghost use mathlib.Core.Path.{_≡_};
+ghost use Rattle.onecase.specs.Machine.{applied, rowOf, IsStep};
+ghost use Rattle.onecase.specs.Verdict.{IsRejection};
+ghost use Rattle.onecase.specs.Record.{rowIf};
+
+// One row or none: where no row is held, the bytes stand for nothing.
+pub struct Case {
+    pub held: bool,
+    pub row: [u8; 200],
+}
+
+// The new state, and the verdict on the record.
+pub struct Step {
+    pub case: Case,
+    pub verdict: Verdict,
+}
+
+// The row that a record without an error leaves.
+fn applied_row(held: bool, row: [u8; 200], rec: &[u8; 245], list: &[u8]) -> Case
+    ensures { λ r. ⌜ rowOf r ≡ applied (now (list .entry)) (rowIf held row) (now (rec .entry)) ⌝ }
+{
+    let t = rec[72];
+    if t == 0xC1 {
+        if held & row::is_live(&row) {
+            let next = changes::recertified_row(row, rec, list);
+            return Case {
+                held: true,
+                row: next,
+            };
+        }
+        let fresh = changes::fresh_row(rec, list);
+        return Case {
+            held: true,
+            row: fresh,
+        };
+    }
+    let next = changes::changed_row(row, rec);
+    Case { held, row: next }
+}
+
+// The verdict on a record with the errors given.
+fn rejection(set: u64, named: bool, row: [u8; 200]) -> Verdict
+    ensures { λ r. ⌜ IsRejection set named row r ⌝ }
+{
+    if named {
+        Verdict::RejectedWithName(set, verdict::stored_name(row))
+    } else {
+        Verdict::Rejected(set)
+    }
+}
+
+// One record on one row or none.
+fn step_row(
+    held: bool,
+    row: [u8; 200],
+    rec: [u8; 245],
+    state: &[u8],
+    year: u64,
+    list: &[u8],
+) -> Step
+    ensures { λ r. ⌜ IsStep (now (state .entry)) year (now (list .entry)) (rowIf held row) rec r ⌝ }
+{
+    let judged = judge::judge(&rec, held, &row, state, year, list);
+    let set = judged.set;
+    if set == 0 {
+        let warned = warnings::warned(&rec, held, &row, list);
+        let case = applied_row(held, row, &rec, list);
+        return Step {
+            case,
+            verdict: Verdict::Accepted(warned),
+        };
+    }
+    let named = judged.named;
+    let verdict = rejection(set, named, row);
+    let case = Case { held, row };
+    Step { case, verdict }
+}
+
+impl Case {
+    // One record: an error changes nothing.
+    pub fn step(self, rec: [u8; 245], state: &[u8], year: u64, list: &[u8]) -> Step
+        ensures { λ r. ⌜ IsStep (now (state .entry)) year (now (list .entry)) (rowOf self) rec r ⌝ }
+    {
+        let row = self.row;
+        let held = self.held;
+        step_row(held, row, rec, state, year, list)
+    }
+}

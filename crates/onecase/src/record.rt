@@ -1,0 +1,47 @@
+// A detail record: its key and its type.
+use layout::chart_a1;
+use layout::fields;
+use layout::row;
+ghost use mathlib.Core.Path.{_≡_};
+ghost use Rattle.onecase.specs.Record.{recordKey, typeOf, isKnownType};
+
+// The transaction types.
+pub const ADD: u8 = 0xC1;
+
+pub const RENAME: u8 = 0xC2;
+
+pub const CASE_ID: u8 = 0xC3;
+
+pub const DELETE: u8 = 0xC4;
+
+pub const LOCAL_CODE: u8 = 0xD3;
+
+pub const MODIFY: u8 = 0xD4;
+
+pub const EXCLUDE: u8 = 0xD9;
+
+pub const PAYMENT: u8 = 0xE2;
+
+pub const TRANSFER: u8 = 0xE3;
+
+pub const ADDRESS: u8 = 0xE9;
+
+// A record's key: columns 1–2, 6–14 and 74.
+pub fn record_key(rec: &[u8; 245]) -> [u8; 12]
+    ensures { λ r. ⌜ r ≡ recordKey (now (rec .entry)) ⌝ }
+{
+    let mut key = [0u8; 12];
+    fields::copy(&mut key, row::STATE, rec, chart_a1::SUBMITTING_STATE);
+    fields::copy(&mut key, row::SSN, rec, chart_a1::SSN);
+    fields::copy(&mut key, row::CASE_TYPE, rec, chart_a1::CASE_TYPE);
+    key
+}
+
+// Whether a record is of one of the ten types.
+pub fn is_known_type(rec: &[u8; 245]) -> bool
+    ensures { λ r. ⌜ r ≡ isKnownType (now (rec .entry)) ⌝ }
+{
+    let t = rec[72];
+    let first = (t == 0xC1) | (t == 0xC2) | (t == 0xC3) | (t == 0xC4) | (t == 0xD3);
+    first | (t == 0xD4) | (t == 0xD9) | (t == 0xE2) | (t == 0xE3) | (t == 0xE9)
+}

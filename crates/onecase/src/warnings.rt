@@ -1,0 +1,45 @@
+// The warnings 51 and 52, which come only without errors.
+use crate::errors;
+use crate::judge;
+use layout::chart_a1;
+use layout::fields;
+use layout::row;
+ghost use mathlib.Core.Path.{_≡_};
+ghost use Prim.Native.Nat.{_≤_};
+ghost use Rattle.layout.specs.Codes.{numberOfCodes};
+ghost use Rattle.onecase.specs.Record.{rowIf};
+ghost use Rattle.onecase.specs.Warnings.{warning51, warning52, warnings};
+
+// Warning 51 (A): the local code is neither blank, 000 nor listed.
+fn has_51(rec: &[u8; 245], list: &[u8]) -> bool
+    ensures { λ r. ⌜ r ≡ warning51 (now (list .entry)) (now (rec .entry)) ⌝ }
+{
+    let t = rec[72];
+    if t == 0xC1 {
+        !errors::is_local_code(rec, list)
+    } else {
+        false
+    }
+}
+
+// Warning 52 (A): the first or the last name differs from a live row's.
+fn has_52(rec: &[u8; 245], held: bool, row: &[u8; 200]) -> bool
+    ensures { λ r. ⌜ r ≡ warning52 (rowIf held (now (row .entry))) (now (rec .entry)) ⌝ }
+{
+    let last = fields::same(
+        fields::field(rec, chart_a1::LAST_NAME),
+        fields::field(row, row::LAST_NAME),
+    );
+    let first = fields::same(
+        fields::field(rec, chart_a1::FIRST_NAME),
+        fields::field(row, row::FIRST_NAME),
+    );
+    (rec[72] == 0xC1) & (held & (row::is_live(row) & !(last & first)))
+}
+
+// The set of a record's warnings.
+pub fn warned(rec: &[u8; 245], held: bool, row: &[u8; 200], list: &[u8]) -> u64
+    ensures { λ r. ⌜ r ≡ numberOfCodes (warnings (now (list .entry)) (rowIf held (now (row .entry))) (now (rec .entry))) ⌝ }
+{
+    judge::flag(has_51(rec, list), 51) + judge::flag(has_52(rec, held, row), 52)
+}
