@@ -4,7 +4,7 @@ use mathlib.Core.Path.{_≡_, refl, sym, ap, _∙_}
 use mathlib.Core.Logic.{_⊎_, inl, inr, ⊎-elim}
 use mathlib.Core.List.{List, [], _∷_}
 use Prim.Native.Nat.{ℕ, zero, suc, _+_, _-_, _*_, _/_, _%_, _^_, min, _≤_, _<_}
-use native.Mathlib.Nat.{add-zero, zero-add, sub-zero, pow-suc, pow-le-pow-right, eq-or-lt-of-le, le-of-suc-le-suc, not-suc-le-zero, zero-lt-suc}
+use native.Mathlib.Nat.{add-zero, zero-add, sub-zero, mul-zero, mul-suc, mul-assoc, one-mul, pow-suc, pow-le-pow-right, eq-or-lt-of-le, le-of-suc-le-suc, not-suc-le-zero, zero-lt-suc}
 use native.Mathlib.Omega.{arith}
 use native.Mathlib.Numerals.{add-one}
 use lib.Count.{trailingZeros, ones, onesIn, ones-step}
@@ -192,3 +192,26 @@ codes-over (suc d) a n (c ∷ cs) h e =
 pub codes-number : (cs : List ℕ) → RisingCodes 0 64 cs → codesOfNumber (numberOfCodes cs) ≡ cs
 unfolding codesOfNumber
 codes-number cs h = codes-over 64 0 (numberOfCodes cs) cs h (sym (over-zero cs))
+
+-- the number of the codes among the d lowest bits of n, the lowest bit being code c
+pub number-from : (d c n : ℕ) → n < 2 ^ d → numberOfCodes (codesFrom d c n) ≡ 2 ^ c * n
+unfolding codesFrom
+number-from zero c n h = let z : n ≡ 0 = omega arith in rw (z, mul-zero (2 ^ c))
+number-from (suc d) c n h =
+    let s : n < 2 ^ d * 2 = rw (pow-suc 2 d) at h in
+    let m : 2 ^ suc c * (n / 2) ≡ 2 ^ c * (2 * (n / 2)) = rw (pow-suc 2 c) (mul-assoc (2 ^ c) 2 (n / 2)) in
+    let ih : numberOfCodes (codesFrom d (suc c) (n / 2)) ≡ 2 ^ c * (2 * (n / 2)) = number-from d (suc c) (n / 2) (omega arith) ∙ m in
+    ⊎-elim
+    (λ (e : n % 2 ≡ 0).
+    let w : 2 * (n / 2) ≡ n = omega arith in
+    rw (e, ih, w))
+    (λ (e : n % 2 ≡ 1).
+    let w : suc (2 * (n / 2)) ≡ n = omega arith in
+    let x : 2 ^ c * n ≡ 2 ^ c * (2 * (n / 2)) + 2 ^ c = rw (← mul-suc (2 ^ c) (2 * (n / 2)), w) in
+    rw e (omega arith))
+    (parity n)
+
+-- the number of the set that a number of 64 bits stands for is that number
+pub number-codes : (n : ℕ) → n < 2 ^ 64 → numberOfCodes (codesOfNumber n) ≡ n
+unfolding codesOfNumber
+number-codes n h = number-from 64 0 n h ∙ one-mul n

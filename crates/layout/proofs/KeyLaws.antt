@@ -10,9 +10,10 @@ use native.Mathlib.Omega.{arith}
 use lib.Dec.{ltb}
 use lib.ListN.{length, take, drop, getD, length-map, List·getD-map, drop-of-length-le}
 use lib.Seq.{drop-cons, take-take, take-nil}
-use borrow.Author.Tests.{lt-ltb, le-ltb, ltb-true, ltb-false}
+use borrow.Author.Tests.{lt-ltb, le-ltb, ltb-true, ltb-false, eq-eqb, ne-eqb}
 use Rattle.layout.specs.declared.key.Order.the-variants.{Less, Equal, Greater}
 use Rattle.layout.specs.Blocks.{blocks}
+use Rattle.layout.specs.Fields.{sameBytes}
 use Rattle.layout.specs.Key.{orderOf, isLess, isEqual, belowFirst, rising}
 use Rattle.layout.proofs.BlocksLaws.{blocks-get, length-blocks}
 use Rattle.layout.proofs.FieldsLaws.{and-left, and-right}
@@ -139,6 +140,58 @@ not-less-flip (x ∷ xs) (y ∷ ys) h k = go (not-less-flip xs ys) (heads x y)
     go ih (upper p) = lt-head y x ys xs p
     go ih (same p) =
         lt-tail y x ys xs (sym p) (ih (rw (order-eq x y xs ys p) at h) (rw (order-eq x y xs ys p) at k))
+
+-- ---- how two keys stand, both ways round
+
+pub data Sides (a b : List ℕ) : Type 0 where
+  below : orderOf a b ≡ Less → orderOf b a ≡ Greater → Sides a b
+  level : a ≡ b → Sides a b
+  above : orderOf a b ≡ Greater → orderOf b a ≡ Less → Sides a b
+
+pub sides : (a b : List ℕ) → Sides a b
+unfolding orderOf
+sides [] [] = level refl
+sides [] (y ∷ ys) = below refl refl
+sides (x ∷ xs) [] = above refl refl
+sides (x ∷ xs) (y ∷ ys) = go (heads x y) (sides xs ys)
+  where
+    go : Heads x y → Sides xs ys → Sides (x ∷ xs) (y ∷ ys)
+    go (lower p) s = below (order-lt x y xs ys p) (order-gt y x ys xs p)
+    go (upper p) s = above (order-gt x y xs ys p) (order-lt y x ys xs p)
+    go (same p) (below h k) = below (order-eq x y xs ys p ∙ h) (order-eq y x ys xs (sym p) ∙ k)
+    go (same p) (level e) = level (cc)
+    go (same p) (above h k) = above (order-eq x y xs ys p ∙ h) (order-eq y x ys xs (sym p) ∙ k)
+
+-- a key below another, both ways round
+pub less-sides : (a b : List ℕ) → isLess (orderOf a b) ≡ true → (orderOf a b ≡ Less) × (orderOf b a ≡ Greater)
+unfolding isLess
+less-sides a b l = go (sides a b)
+  where
+    go : Sides a b → (orderOf a b ≡ Less) × (orderOf b a ≡ Greater)
+    go (below h k) = (h, k)
+    go (level e) = absurd (false≢true (rw (e, order-refl b) at l))
+    go (above h k) = absurd (false≢true (rw h at l))
+
+pub greater-flip : (a b : List ℕ) → orderOf a b ≡ Greater → orderOf b a ≡ Less
+greater-flip a b l = go (sides a b)
+  where
+    go : Sides a b → orderOf b a ≡ Less
+    go (below h k) = cc
+    go (level e) = cc (order-refl b)
+    go (above h k) = k
+
+-- keys are the same bytes where they are equal in order
+pub same-order : (a b : List ℕ) → sameBytes a b ≡ isEqual (orderOf a b)
+unfolding sameBytes orderOf isEqual
+same-order [] [] = refl
+same-order [] (y ∷ ys) = refl
+same-order (x ∷ xs) [] = refl
+same-order (x ∷ xs) (y ∷ ys) = go (same-order xs ys) (heads x y)
+  where
+    go : sameBytes xs ys ≡ isEqual (orderOf xs ys) → Heads x y → sameBytes (x ∷ xs) (y ∷ ys) ≡ isEqual (orderOf (x ∷ xs) (y ∷ ys))
+    go ih (lower p) = rw (ne-eqb x y (λ e. omega arith), order-lt x y xs ys p)
+    go ih (upper p) = rw (ne-eqb x y (λ e. omega arith), order-gt x y xs ys p)
+    go ih (same p) = rw (eq-eqb x y p, order-eq x y xs ys p) ih
 
 -- ---- keys that rise
 

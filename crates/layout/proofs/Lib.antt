@@ -9,3 +9,6 @@ pub mod BlocksLaws
 pub mod KeyLaws
 pub mod CodesLaws
 pub mod LocalsLaws
+pub mod SearchLaws
+pub mod HalvingLaws
+pub mod ShiftedLaws

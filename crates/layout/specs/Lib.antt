@@ -13,6 +13,8 @@ pub mod Locals
 pub mod Key
 pub mod Row
 pub mod Master
+pub mod Rows
+pub mod Search
 pub mod Codes
 pub mod ChartA1
 pub mod ChartA2

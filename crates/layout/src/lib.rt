@@ -17,6 +17,7 @@ pub mod master;
 pub mod name;
 pub mod process_year;
 pub mod row;
+pub mod search;
 pub mod ssn;
 pub mod states;
 pub mod zip;

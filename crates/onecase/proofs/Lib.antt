@@ -2,6 +2,7 @@ pub mod BoolLaws
 pub mod ColumnsLaws
 pub mod DigitsLaws
 pub mod JudgementLaws
+pub mod RejectedLaws
 pub mod ChangesLaws
 pub mod SoundLaws
 pub mod AcceptedLaws

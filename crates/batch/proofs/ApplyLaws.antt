@@ -1,0 +1,131 @@
+-- The first refusal from its parts, and the outcome of a run from what the work left. Assumes nothing.
+use Prim.Native.Nat.{ℕ, suc, _+_, _*_, _/_, _≤_, _<_}
+use mathlib.Core.Path.{_≡_, refl, sym, ap, _∙_}
+use mathlib.Core.Bool.{Bool, true, false, cond, _||_}
+use mathlib.Core.List.{List, [], _∷_, _++_}
+use native.Mathlib.Nat.{suc-ne-zero}
+use native.Mathlib.Omega.{arith}
+use lib.Dec.{eqb, ltb, lit≤}
+use lib.ListN.{length, take, drop, length-drop, take-append-drop}
+use lib.Seq.{length-take-le}
+use borrow.Author.Tests.{eq-eqb, ne-eqb, lt-ltb, le-ltb}
+use Rattle.layout.specs.Blocks.{blocks, joined, over, spliced, Holds}
+use Rattle.layout.specs.Fields.{Inside}
+use Rattle.layout.specs.Master.{rowsOf}
+use Rattle.layout.proofs.FieldsLaws.{length-columns}
+use Rattle.layout.proofs.BlocksLaws.{length-blocks, holds-over}
+use Rattle.batch.specs.Limits.{maxRows}
+use Rattle.batch.specs.Rejects.{numbers, rejectRecords}
+use Rattle.batch.specs.Counts.{Counts, countsOf, controlRecord}
+use Rattle.batch.specs.Tally.{countsIn}
+use Rattle.batch.specs.Totals.{detailCount, detailsOf, controlOf, submittingState}
+use Rattle.batch.specs.Apply.{Call, Result, Outcome, IsOutcome, newRows, refusal1, refusal2, refusal9, refusal10, refusal11, orElse, spaceRefusal, batchRefusal, masterRefusal, applyRefusal, resultOf, resultIn, outcomeOf, callRows, callVerdicts, carriedOut, applyOutcome}
+use Rattle.batch.specs.Progress.{Worked}
+use Rattle.batch.specs.declared.counts.Tally.{Tally}
+use Rattle.batch.specs.declared.apply.Applied.{Applied}
+use Rattle.batch.specs.declared.apply.Applied.the-variants.{Refused}
+use Rattle.batch.proofs.BatchLaws.{batch-behind}
+use Rattle.batch.proofs.RefusalsLaws.{master-passed, master-refused}
+use Rattle.batch.proofs.CountsLaws.{length-control}
+use Rattle.batch.proofs.HoldsLaws.{holds-last}
+use Rattle.batch.proofs.GoingLaws.{Known}
+
+-- ---- the space
+
+module _ (c : Call) (r : ℕ) (e : r ≡ newRows (rowsOf (c .rows) (c .master)) (detailsOf (c .batch))) where
+  pub space-9 : length (c .master) / 200 < c .rows + r → 9 ≡ spaceRefusal c
+  unfolding spaceRefusal refusal9
+  space-9 l = sym (rw (← e, lt-ltb _ _ l))
+
+  module _ (a : c .rows + r ≤ length (c .master) / 200) where
+    pub space-limit : maxRows < c .rows + r → 9 ≡ spaceRefusal c
+    unfolding spaceRefusal refusal9
+    space-limit l = sym (rw (← e, le-ltb _ _ a, lt-ltb _ _ l))
+
+    module _ (b : c .rows + r ≤ maxRows) where
+      pub space-10 : length (c .verdicts) < detailCount (c .batch) → 10 ≡ spaceRefusal c
+      unfolding spaceRefusal refusal9 refusal10
+      space-10 l = sym (rw (← e, le-ltb _ _ a, le-ltb _ _ b, lt-ltb _ _ l))
+
+      module _ (v : detailCount (c .batch) ≤ length (c .verdicts)) where
+        pub space-11 : length (c .rejects) < 245 * (detailCount (c .batch) + 1) → 11 ≡ spaceRefusal c
+        unfolding spaceRefusal refusal9 refusal10 refusal11
+        space-11 l = sym (rw (← e, le-ltb _ _ a, le-ltb _ _ b, le-ltb _ _ v, lt-ltb _ _ l))
+
+        pub space-0 : 245 * (detailCount (c .batch) + 1) ≤ length (c .rejects) → 0 ≡ spaceRefusal c
+        unfolding spaceRefusal refusal9 refusal10 refusal11
+        space-0 l = sym (rw (← e, le-ltb _ _ a, le-ltb _ _ b, le-ltb _ _ v, le-ltb _ _ l))
+
+-- ---- in order
+
+opening : (a b : Bool) (behind : ℕ) → orElse a 1 (orElse b 2 behind) ≡ cond (eqb (orElse a 1 (orElse b 2 0)) 0) behind (orElse a 1 (orElse b 2 0))
+opening true b behind = refl
+opening false true behind = refl
+opening false false behind = refl
+
+module _ (c : Call) (o : ℕ) (eo : o ≡ orElse (refusal1 (c .year)) 1 (orElse (refusal2 (c .locals)) 2 0)) where
+  behind-opening : applyRefusal c ≡ cond (eqb o 0) (masterRefusal (c .master) (c .rows) (batchRefusal (c .batch) (spaceRefusal c))) o
+  unfolding applyRefusal
+  behind-opening = opening (refusal1 (c .year)) (refusal2 (c .locals)) _ ∙ rw (← eo)
+
+  pub first-opening : (o ≡ 0 → ⊥) → o ≡ applyRefusal c
+  first-opening n = sym (behind-opening ∙ rw (ne-eqb o 0 n))
+
+  module _ (zo : o ≡ 0) (m : ℕ) (em : m ≡ masterRefusal (c .master) (c .rows) 0) where
+    past-opening : applyRefusal c ≡ masterRefusal (c .master) (c .rows) (batchRefusal (c .batch) (spaceRefusal c))
+    past-opening = behind-opening ∙ rw (eq-eqb o 0 zo)
+
+    pub first-master : (m ≡ 0 → ⊥) → m ≡ applyRefusal c
+    first-master n = sym (past-opening ∙ master-refused (c .master) (c .rows) (λ z. n (em ∙ z)) (batchRefusal (c .batch) (spaceRefusal c)) ∙ sym em)
+
+    module _ (zm : m ≡ 0) (b : ℕ) (eb : b ≡ batchRefusal (c .batch) 0) where
+      past-master : applyRefusal c ≡ cond (eqb b 0) (spaceRefusal c) b
+      past-master = past-opening ∙ master-passed (c .master) (c .rows) (sym em ∙ zm) (batchRefusal (c .batch) (spaceRefusal c)) ∙ batch-behind (c .batch) (spaceRefusal c) ∙ rw (← eb)
+
+      pub first-batch : (b ≡ 0 → ⊥) → b ≡ applyRefusal c
+      first-batch n = sym (past-master ∙ rw (ne-eqb b 0 n))
+
+      pub first-space : b ≡ 0 → (s : ℕ) → s ≡ spaceRefusal c → s ≡ applyRefusal c
+      first-space zb s es = sym (past-master ∙ rw (eq-eqb b 0 zb) (sym es))
+
+-- ---- the outcome
+
+pub ran : (c : Call) → Known c → (m : List ℕ) (n : ℕ) (v rj : List ℕ) (k : ℕ) (t : Tally) (rj′ : List ℕ) (a : Applied)
+    → Worked c m n v rj k t
+    → length v ≡ length (c .verdicts)
+    → length rj ≡ length (c .rejects)
+    → length (submittingState (c .batch)) ≡ 2
+    → rj′ ≡ spliced rj (k * 245) (controlRecord (submittingState (c .batch)) (countsIn t))
+    → resultOf a ≡ resultIn (countsIn t) n
+    → outcomeOf a m v rj′ ≡ carriedOut c
+unfolding carriedOut over
+ran c q m n v rj k t rj′ a w lv lr ls er ea =
+    let d = detailCount (c .batch) in
+    let e1 : resultOf a ≡ resultIn (countsOf (detailsOf (c .batch)) (callVerdicts c)) (length (callRows c)) =
+    ea ∙ ap (λ (z : Counts). resultIn z n) (w .counts-are) ∙ ap (resultIn (countsOf (detailsOf (c .batch)) (callVerdicts c))) (sym (length-blocks 200 n m) ∙ ap length (w .rows-are)) in
+    let e2 : m ≡ over (joined (callRows c)) (c .master) =
+    holds-over 200 (c .master) m n (callRows c) (record { blocks-are = w .rows-are; rest-kept = w .rows-kept }) (w .rows-in) in
+    let ln : length (numbers (callVerdicts c)) ≡ d = ap length (sym (w .numbers-are)) ∙ length-take-le d v (omega (arith, q .slots)) in
+    let e3 : v ≡ over (numbers (callVerdicts c)) (c .verdicts) =
+    sym (take-append-drop d v) ∙ ap (λ (z : List ℕ). z ++ drop d v) (w .numbers-are) ∙ ap (λ (z : List ℕ). numbers (callVerdicts c) ++ z) (w .numbers-kept ∙ ap (λ (z : ℕ). drop z (c .verdicts)) (sym ln)) in
+    let e4 : rj′ ≡ over (joined (rejectRecords (detailsOf (c .batch)) (callVerdicts c)) ++ controlRecord (submittingState (c .batch)) (countsOf (detailsOf (c .batch)) (callVerdicts c))) (c .rejects) =
+    er ∙ holds-last 245 (controlRecord (submittingState (c .batch)) (countsIn t)) (record { blocks-are = w .rejects-are; rest-kept = w .rejects-kept }) (length-control (submittingState (c .batch)) (countsIn t) ls) (omega (arith, q .space, w .rejects-few))
+    ∙ ap (λ (z : Counts). over (joined (rejectRecords (detailsOf (c .batch)) (callVerdicts c)) ++ controlRecord (submittingState (c .batch)) z) (c .rejects)) (w .counts-are) in
+    λ j. record { result = e1 j; master = e2 j; verdicts = e3 j; rejects = e4 j }
+
+module _ (c : Call) (n : ℕ) (e : n ≡ applyRefusal c) where
+  pub outcome-refused : (n ≡ 0 → ⊥) → IsOutcome c (outcomeOf (Refused n) (c .master) (c .verdicts) (c .rejects))
+  unfolding applyOutcome
+  outcome-refused h = record { is = sym (rw (← e, ne-eqb n 0 h)) }
+
+  pub outcome-done : n ≡ 0 → (o : Outcome) → o ≡ carriedOut c → IsOutcome c o
+  unfolding applyOutcome
+  outcome-done z o h = record { is = h ∙ sym (rw (← e, eq-eqb n 0 z)) }
+
+-- the submitting state is two bytes
+pub state-two : (c : Call) → Known c → length (submittingState (c .batch)) ≡ 2
+unfolding controlOf
+state-two c q =
+    let l : length (take 245 (drop (detailCount (c .batch) * 245) (c .batch))) ≡ 245 =
+    length-take-le 245 (drop (detailCount (c .batch) * 245) (c .batch)) (rw (length-drop (detailCount (c .batch) * 245) (c .batch)) (omega (arith, q .batch-in))) in
+    length-columns 1 2 (take 245 (drop (detailCount (c .batch) * 245) (c .batch))) (record { low = lit≤ tt; ordered = lit≤ tt; high = omega arith })

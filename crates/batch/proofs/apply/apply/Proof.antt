@@ -1,0 +1,58 @@
+-- `apply::apply` meets its contract. Assumes nothing.
+use mathlib.Core.Path.{sym, _∙_}
+use borrow.Author.Needs.{needs}
+use Rattle.batch.specs.Apply.{callOf}
+use Rattle.batch.proofs.ApplyLaws.{outcome-refused, outcome-done}
+use Rattle.batch.proofs.apply.apply.Statement.{statement}
+use Rattle.batch.proofs.apply.apply.Tie as tie
+
+first-refusal-requires : tie.Need-first-refusal-requires
+first-refusal-requires c κs = search needs
+
+same-length : tie.Need-same-length
+same-length c = search needs
+
+same-length-2 : tie.Need-same-length-2
+same-length-2 c = search needs
+
+same-length-3 : tie.Need-same-length-3
+same-length-3 c = search needs
+
+returns : tie.Need-returns
+returns c =
+    let a = c .before .before .before .before .before .before .before .before .before .before .args in
+    let g = callOf (a .master .now) (a .rows) (a .batch .now) (a .locals .now) (a .year) (a .verdicts .now) (a .rejects .now) in
+    outcome-refused g _ (c .before .first-refusal .ensures) (c .if1 .taken)
+
+run-requires : tie.Need-run-requires
+run-requires c κs = sym (c .before .before .before .before .first-refusal .ensures) ∙ c .before .before .before .if1 .left
+
+same-length-4 : tie.Need-same-length-4
+same-length-4 c = search needs
+
+same-length-5 : tie.Need-same-length-5
+same-length-5 c = search needs
+
+same-length-6 : tie.Need-same-length-6
+same-length-6 c = search needs
+
+returns-2 : tie.Need-returns-2
+returns-2 c =
+    let a = c .before .before .before .before .before .before .before .before .before .before .before .before .before .before .before .before .before .before .before .before .args in
+    let g = callOf (a .master .now) (a .rows) (a .batch .now) (a .locals .now) (a .year) (a .verdicts .now) (a .rejects .now) in
+    outcome-done g _ (c .before .before .before .before .before .before .before .before .before .before .before .first-refusal .ensures) (c .before .before .before .before .before .before .before .before .before .before .if1 .left) _ (c .before .before .before .before .before .before .run .ensures)
+
+pub apply-spec : {M : Type 1} → statement M
+apply-spec =
+    tie.close
+    (tie.spec
+    first-refusal-requires
+    same-length
+    same-length-2
+    same-length-3
+    returns
+    run-requires
+    same-length-4
+    same-length-5
+    same-length-6
+    returns-2)

@@ -1,0 +1,54 @@
+-- `totals::totals_of` meets its contract. The loop's invariant: what was added up and the details from i on make the whole.
+-- Assumes nothing.
+use Prim.Native.Nat.{_-_}
+use native.Mathlib.Omega.{arith}
+use borrow.Author.Needs.{needs}
+use Rattle.batch.proofs.TotalsLaws.{AreSoFar, totals-room, totals-next, totals-end}
+use Rattle.batch.proofs.totals.totals_of.Statement.{statement}
+use Rattle.batch.proofs.totals.totals_of.Tie as tie
+
+abbrev Inv-loop : tie.InvT-loop
+Inv-loop batch n t₀ i₀ t i = AreSoFar n batch i t
+
+abbrev μ-loop : tie.MeasureT-loop
+μ-loop batch n t₀ i₀ t i = n - i
+
+loop-holds : tie.Need-loop-holds Inv-loop μ-loop
+loop-holds c = record { tanfCount = omega arith; nonTanfCount = omega arith; tanfAmount = omega arith; nonTanfAmount = omega arith }
+
+record-at-requires : tie.Need-record-at-requires Inv-loop μ-loop
+record-at-requires c κs = omega arith
+
+with-detail-requires : tie.Need-with-detail-requires Inv-loop μ-loop
+with-detail-requires c κs =
+    let l = c .before .before .before .loop in
+    totals-room _ _ (l .i) (l .t) (l .inv) (c .before .before .before .before .before .pre .1)
+
+add-i : tie.Need-add-i Inv-loop μ-loop
+add-i c = search needs
+
+loop-less : tie.Need-loop-less Inv-loop μ-loop
+loop-less c = search needs
+
+loop-again : tie.Need-loop-again Inv-loop μ-loop
+loop-again c =
+    let l = c .before .before .before .before .loop in
+    totals-next _ _ (l .i) (l .t) (l .inv) (c .with-detail .result) (search needs)
+    (rw (c .before .before .record-at .ensures) at (c .with-detail .ensures))
+
+returns : tie.Need-returns Inv-loop μ-loop
+returns c = let l = c .before .loop in totals-end _ _ (l .i) (l .t) (l .inv) (search needs)
+
+pub totals-of-spec : {M : Type 1} → statement M
+totals-of-spec =
+    tie.close
+    (tie.spec
+    Inv-loop
+    μ-loop
+    loop-holds
+    record-at-requires
+    with-detail-requires
+    add-i
+    loop-less
+    loop-again
+    returns)

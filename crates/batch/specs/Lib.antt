@@ -1,0 +1,13 @@
+pub mod Limits
+pub mod Turns
+pub mod Rejects
+pub mod Counts
+pub mod Totals
+pub mod TotalsParts
+pub mod Tally
+pub mod Answers
+pub mod Apply
+pub mod Progress
+pub mod Find
+pub mod Reconcile
+pub mod TwoBatches

@@ -1,0 +1,59 @@
+-- Document 01, "Applying a batch": details, then the control record of Chart A-2, told by its place alone; and the totals. Assumes nothing.
+use Prim.Native.Nat.{ℕ, _+_, _-_, _*_, _/_}
+use mathlib.Core.List.{List, [], _∷_}
+use mathlib.Core.Bool.{Bool, not, cond, _&&_, _||_}
+use lib.Dec.{eqb}
+use lib.ListN.{length, take, drop}
+use Rattle.layout.specs.Characters.{A, M, N}
+use Rattle.layout.specs.Fields.{columns, isBlank, allDigits, areDigits, number, sameBytes}
+use Rattle.layout.specs.States.{isState}
+use Rattle.layout.specs.Blocks.{blocks}
+use Rattle.layout.specs.ChartA2.{controlState, control, totalTanf, totalNonTanf, amountTanf, amountNonTanf, controlFiller}
+use Rattle.onecase.specs.Record.{isType, caseTypeOf}
+use Rattle.batch.specs.Counts.{CTL}
+
+-- details are all records but the last
+abbrev pub detailCount : List ℕ → ℕ
+detailCount batch = length batch / 245 - 1
+
+unfoldable pub detailsOf : List ℕ → List (List ℕ)
+detailsOf batch = blocks 245 (detailCount batch) batch
+
+-- the control record is the last record
+unfoldable pub controlOf : List ℕ → List ℕ
+controlOf batch = take 245 (drop (detailCount batch * 245) batch)
+
+-- the submitting state is that in the control record
+abbrev pub submittingState : List ℕ → List ℕ
+submittingState batch = controlState (controlOf batch)
+
+-- Chart A-2: state in the table, CTL, digits, spaces
+unfoldable pub isControl : List ℕ → Bool
+isControl rec =
+    isState (controlState rec)
+    && (sameBytes (control rec) CTL && (allDigits (columns 6 45 rec) && isBlank (controlFiller rec)))
+
+-- the number of details of a case type
+unfoldable pub countOf : ℕ → List (List ℕ) → ℕ
+countOf caseType [] = 0
+countOf caseType (detail ∷ details) = cond (eqb (caseTypeOf detail) caseType) 1 0 + countOf caseType details
+
+-- amounts sum columns 65–72 of A and M records where they are eight digits
+unfoldable pub amountIn : ℕ → List ℕ → ℕ
+amountIn caseType detail =
+    cond (eqb (caseTypeOf detail) caseType && ((isType A detail || isType M detail) && areDigits 8 (columns 65 72 detail)))
+    (number (columns 65 72 detail)) 0
+
+unfoldable pub amountOf : ℕ → List (List ℕ) → ℕ
+amountOf caseType [] = 0
+amountOf caseType (detail ∷ details) = amountIn caseType detail + amountOf caseType details
+
+-- both counts are as the control record says
+unfoldable pub areCountsRight : List ℕ → List (List ℕ) → Bool
+areCountsRight rec details =
+    eqb (number (totalTanf rec)) (countOf A details) && eqb (number (totalNonTanf rec)) (countOf N details)
+
+-- both amounts are as the control record says
+unfoldable pub areAmountsRight : List ℕ → List (List ℕ) → Bool
+areAmountsRight rec details =
+    eqb (number (amountTanf rec)) (amountOf A details) && eqb (number (amountNonTanf rec)) (amountOf N details)

@@ -1,0 +1,226 @@
+// Applying a batch: the refusals in order, then each detail in turn.
+use crate::counts;
+use crate::counts::Tally;
+use crate::refusals;
+use crate::totals;
+use crate::turn;
+use crate::turn::Progress;
+use layout::chart_a2;
+use layout::fields;
+use layout::search;
+use layout::search::Place;
+use onecase::record;
+ghost use mathlib.Core.Path.{_≡_};
+ghost use mathlib.Core.Bool.{true};
+ghost use mathlib.Core.List.{_∷_, []};
+ghost use Prim.Native.Nat.{_+_, _*_, _≤_, _<_};
+ghost use lib.ListN.{length};
+ghost use Rattle.layout.specs.Blocks.{blocks, spliced};
+ghost use Rattle.layout.specs.Master.{rowsOf, areSoundRows};
+ghost use Rattle.batch.specs.Totals.{detailCount, submittingState};
+ghost use Rattle.batch.specs.Counts.{controlRecord};
+ghost use Rattle.batch.specs.Tally.{countsIn, AtMost};
+ghost use Rattle.batch.specs.Progress.{noTally, Worked};
+ghost use Rattle.batch.specs.Apply.{newRows, spaceRefusal, applyRefusal, carriedOut, resultOf, resultIn, callOf, outcomeOf, IsOutcome};
+
+// The answer of the call: the counts of a run that is carried out, or the number of the refusal.
+pub enum Applied {
+    Done {
+        accepted: u64,
+        rejected: u64,
+        warned: u64,
+        neither: u64,
+        rows: usize,
+    },
+    Refused(u64),
+}
+
+// 1 where a record is an A whose key has no row, else 0.
+fn is_new(m: &[u8], n: usize, rec: [u8; 245]) -> usize
+    requires { ⌜ (n * 200 ≤ length (now m)) × (areSoundRows (rowsOf n (now m)) ≡ true) ⌝ }
+    ensures { λ r. ⌜ r ≡ newRows (rowsOf n (now (m .entry))) (rec ∷ []) ⌝ }
+{
+    let t = rec[72];
+    if t != 0xC1 {
+        return 0;
+    }
+    let key = record::record_key(&rec);
+    match search::place_of(m, n, &key) {
+        Place::At(_) => 0,
+        Place::Gap(_) => 1,
+    }
+}
+
+// How many of the first d records of a batch are A records whose key has no row.
+fn count_new(m: &[u8], n: usize, batch: &[u8], d: usize) -> usize
+    requires { ⌜ (n * 200 ≤ length (now m)) × (areSoundRows (rowsOf n (now m)) ≡ true) × (d * 245 ≤ length (now batch)) ⌝ }
+    ensures { λ r. ⌜ (r ≡ newRows (rowsOf n (now (m .entry))) (blocks 245 d (now (batch .entry)))) × (r ≤ d) ⌝ }
+{
+    let mut count: usize = 0;
+    let mut i: usize = 0;
+    while i < d {
+        let rec = totals::record_at(batch, i);
+        count += is_new(m, n, rec);
+        i += 1;
+    }
+    count
+}
+
+// The number of the first of refusals 9, 10 and 11 that holds, or 0.
+fn space_refusal(
+    m: &[u8],
+    n: usize,
+    batch: &[u8],
+    locals: &[u8],
+    year: u64,
+    verdicts: &[u64],
+    rejects: &[u8],
+) -> u64
+    requires { ⌜ (n * 200 ≤ length (now m)) × (areSoundRows (rowsOf n (now m)) ≡ true) × (detailCount (now batch) * 245 + 245 ≤ length (now batch)) ⌝ }
+    ensures { λ r. ⌜ r ≡ spaceRefusal (callOf (now (m .entry)) n (now (batch .entry)) (now (locals .entry)) year (now (verdicts .entry)) (now (rejects .entry))) ⌝ }
+{
+    let d = batch.len() / 245 - 1;
+    let rows = n + count_new(m, n, batch, d);
+    if m.len() / 200 < rows {
+        return 9;
+    }
+    if refusals::MAX_ROWS < rows {
+        return 9;
+    }
+    if verdicts.len() < d {
+        return 10;
+    }
+    if rejects.len() < 245 * (d + 1) {
+        return 11;
+    }
+    0
+}
+
+// The number of the first refusal that holds, or 0.
+fn first_refusal(
+    m: &[u8],
+    n: usize,
+    batch: &[u8],
+    locals: &[u8],
+    year: u64,
+    verdicts: &[u64],
+    rejects: &[u8],
+) -> u64
+    ensures { λ r. ⌜ r ≡ applyRefusal (callOf (now (m .entry)) n (now (batch .entry)) (now (locals .entry)) year (now (verdicts .entry)) (now (rejects .entry))) ⌝ }
+{
+    let opening = refusals::opening_refusal(year, locals);
+    if opening != 0 {
+        return opening;
+    }
+    let rows = refusals::master_refusal(m, n);
+    if rows != 0 {
+        return rows;
+    }
+    let totals = totals::batch_refusal(batch);
+    if totals != 0 {
+        return totals;
+    }
+    space_refusal(m, n, batch, locals, year, verdicts, rejects)
+}
+
+// No counts yet.
+fn no_tally() -> Tally
+    ensures { λ r. ⌜ r ≡ noTally ⌝ }
+{
+    Tally {
+        tanf_accepted: 0,
+        tanf_rejected: 0,
+        non_tanf_accepted: 0,
+        non_tanf_rejected: 0,
+        tanf_warned: 0,
+        non_tanf_warned: 0,
+        neither: 0,
+    }
+}
+
+// Each detail in turn, from the first to the last.
+fn work(
+    m: &mut [u8],
+    n: usize,
+    batch: &[u8],
+    state: &[u8],
+    year: u64,
+    list: &[u8],
+    verdicts: &mut [u64],
+    rejects: &mut [u8],
+) -> Progress
+    requires { ⌜ (applyRefusal (callOf (now m) n (now batch) (now list) year (now verdicts) (now rejects)) ≡ 0) × (now state ≡ submittingState (now batch)) ⌝ }
+    ensures { λ r. ⌜ Worked (callOf (now (m .entry)) n (now (batch .entry)) (now (list .entry)) year (now (verdicts .entry)) (now (rejects .entry))) (now (m .exit)) (r .rows) (now (verdicts .exit)) (now (rejects .exit)) (r .rejects) (r .tally) ⌝ }
+{
+    let d = batch.len() / 245 - 1;
+    let tally = no_tally();
+    let mut s = Progress {
+        rows: n,
+        rejects: 0,
+        tally,
+    };
+    let mut i: usize = 0;
+    while i < d {
+        let rec = totals::record_at(batch, i);
+        s = turn::turn(m, s, i, rec, state, year, list, verdicts, rejects);
+        i += 1;
+    }
+    s
+}
+
+// Writes the control record behind the reject records, and answers the counts.
+fn finish(s: Progress, state: &[u8], rejects: &mut [u8], d: usize) -> Applied
+    requires { ⌜ (length (now state) ≡ 2) × (s .rejects * 245 + 245 ≤ length (now rejects)) × (AtMost d (s .tally)) × (d < 9223372036854775807) ⌝ }
+    ensures { λ r. ⌜ (now (rejects .exit) ≡ spliced (now (rejects .entry)) (s .rejects * 245) (controlRecord (now (state .entry)) (countsIn (s .tally)))) × (resultOf r ≡ resultIn (countsIn (s .tally)) (s .rows)) ⌝ }
+{
+    let t = s.tally;
+    let k = s.rejects;
+    let last = counts::control_record(state, t);
+    fields::copy_in(rejects, k * 245, &last);
+    Applied::Done {
+        accepted: t.tanf_accepted + t.non_tanf_accepted,
+        rejected: t.tanf_rejected + t.non_tanf_rejected,
+        warned: t.tanf_warned + t.non_tanf_warned,
+        neither: t.neither,
+        rows: s.rows,
+    }
+}
+
+// A batch that no refusal stops, carried out.
+fn run(
+    m: &mut [u8],
+    n: usize,
+    batch: &[u8],
+    locals: &[u8],
+    year: u64,
+    verdicts: &mut [u64],
+    rejects: &mut [u8],
+) -> Applied
+    requires { ⌜ applyRefusal (callOf (now m) n (now batch) (now locals) year (now verdicts) (now rejects)) ≡ 0 ⌝ }
+    ensures { λ r. ⌜ outcomeOf r (now (m .exit)) (now (verdicts .exit)) (now (rejects .exit)) ≡ carriedOut (callOf (now (m .entry)) n (now (batch .entry)) (now (locals .entry)) year (now (verdicts .entry)) (now (rejects .entry))) ⌝ }
+{
+    let d = batch.len() / 245 - 1;
+    let control = totals::record_at(batch, d);
+    let state = fields::field(&control, chart_a2::STATE);
+    let s = work(m, n, batch, state, year, locals, verdicts, rejects);
+    finish(s, state, rejects, d)
+}
+
+// Applies a batch to a master of so many rows.
+pub fn apply(
+    master: &mut [u8],
+    rows: usize,
+    batch: &[u8],
+    locals: &[u8],
+    year: u64,
+    verdicts: &mut [u64],
+    rejects: &mut [u8],
+) -> Applied
+    ensures { λ r. ⌜ IsOutcome (callOf (now (master .entry)) rows (now (batch .entry)) (now (locals .entry)) year (now (verdicts .entry)) (now (rejects .entry))) (outcomeOf r (now (master .exit)) (now (verdicts .exit)) (now (rejects .exit))) ⌝ }
+{
+    let number = first_refusal(master, rows, batch, locals, year, verdicts, rejects);
+    if number != 0 {
+        return Applied::Refused(number);
+    }
+    run(master, rows, batch, locals, year, verdicts, rejects)
+}

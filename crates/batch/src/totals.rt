@@ -1,0 +1,167 @@
+// A batch: details, then the control record of Chart A-2, and the totals that it carries.
+use crate::refusals;
+use layout::chart_a1;
+use layout::chart_a2;
+use layout::fields;
+use layout::fields::Columns;
+use layout::states;
+use onecase::record;
+ghost use mathlib.Core.Path.{_≡_};
+ghost use mathlib.Core.Bool.{true};
+ghost use Prim.Native.Nat.{_+_, _*_, _^_, _≤_};
+ghost use lib.ListN.{length, take, drop};
+ghost use Rattle.layout.specs.Blocks.{blocks};
+ghost use Rattle.batch.specs.Totals.{isControl, amountIn};
+ghost use Rattle.batch.specs.TotalsParts.{countIn, hasAmount, HasRoom, IsAdded, AreTotals, countsAgree, amountsAgree};
+ghost use Rattle.batch.specs.Apply.{refusal5, batchRefusal};
+
+pub const RECORD_WIDTH: usize = 245;
+
+// The case types.
+pub const TANF: u8 = 0xC1;
+
+pub const NON_TANF: u8 = 0xD5;
+
+// The control record's four totals, one behind the other.
+const ALL_TOTALS: Columns = Columns { first: 6, last: 45 };
+
+// The totals of some details: how many they are and what they amount to, under each case type.
+pub struct Totals {
+    pub tanf_count: u64,
+    pub non_tanf_count: u64,
+    pub tanf_amount: u64,
+    pub non_tanf_amount: u64,
+}
+
+// The record at place i, copied out.
+pub fn record_at(batch: &[u8], i: usize) -> [u8; 245]
+    requires { ⌜ i * 245 + 245 ≤ length (now batch) ⌝ }
+    ensures { λ r. ⌜ r ≡ take 245 (drop (i * 245) (now (batch .entry))) ⌝ }
+{
+    let at = i * RECORD_WIDTH;
+    let end = at + RECORD_WIDTH;
+    let mut r = [0u8; 245];
+    fields::copy_in(&mut r, 0, &batch[at..end]);
+    r
+}
+
+// Whether a record has the control record's form: a state of the table, CTL, digits, spaces.
+fn is_control(rec: &[u8; 245]) -> bool
+    ensures { λ r. ⌜ r ≡ isControl (now (rec .entry)) ⌝ }
+{
+    let state = states::is_state(fields::field(rec, chart_a2::STATE));
+    let control = fields::same(fields::field(rec, chart_a2::CONTROL), b"\xC3\xE3\xD3");
+    let digits = fields::all_digits(fields::field(rec, ALL_TOTALS));
+    let filler = fields::is_blank(fields::field(rec, chart_a2::FILLER));
+    state & (control & (digits & filler))
+}
+
+// 1 where a detail is of a case type, else 0.
+fn count_in(case_type: u8, rec: &[u8; 245]) -> u64
+    ensures { λ r. ⌜ r ≡ countIn «case_type» (now (rec .entry)) ⌝ }
+{
+    if rec[73] == case_type { 1 } else { 0 }
+}
+
+// Whether a detail is of a type whose amount counts: A or M.
+fn has_amount(rec: &[u8; 245]) -> bool
+    ensures { λ r. ⌜ r ≡ hasAmount (now (rec .entry)) ⌝ }
+{
+    let t = rec[72];
+    (t == record::ADD) | (t == record::MODIFY)
+}
+
+// The amount of a detail of a case type where it counts and is eight digits, else 0.
+fn amount_in(case_type: u8, rec: &[u8; 245]) -> u64
+    ensures { λ r. ⌜ r ≡ amountIn «case_type» (now (rec .entry)) ⌝ }
+{
+    let amount = fields::field(rec, chart_a1::ARREARAGE);
+    if (rec[73] == case_type) & (has_amount(rec) & fields::are_digits(amount, 8)) {
+        fields::number_of(amount)
+    } else {
+        0
+    }
+}
+
+// The totals with a detail added.
+fn with_detail(t: Totals, rec: &[u8; 245]) -> Totals
+    requires { ⌜ HasRoom t ⌝ }
+    ensures { λ r. ⌜ IsAdded (now (rec .entry)) t r ⌝ }
+{
+    Totals {
+        tanf_count: t.tanf_count + count_in(TANF, rec),
+        non_tanf_count: t.non_tanf_count + count_in(NON_TANF, rec),
+        tanf_amount: t.tanf_amount + amount_in(TANF, rec),
+        non_tanf_amount: t.non_tanf_amount + amount_in(NON_TANF, rec),
+    }
+}
+
+// The totals of the first n records.
+fn totals_of(batch: &[u8], n: usize) -> Totals
+    requires { ⌜ (n * 245 ≤ length (now batch)) × (n ≤ 2 ^ 32) ⌝ }
+    ensures { λ r. ⌜ AreTotals (blocks 245 n (now (batch .entry))) r ⌝ }
+{
+    let mut t = Totals {
+        tanf_count: 0,
+        non_tanf_count: 0,
+        tanf_amount: 0,
+        non_tanf_amount: 0,
+    };
+    let mut i: usize = 0;
+    while i < n {
+        let rec = record_at(batch, i);
+        t = with_detail(t, &rec);
+        i += 1;
+    }
+    t
+}
+
+// Whether the counts are those of the control record.
+fn are_counts_right(rec: &[u8; 245], t: Totals) -> bool
+    requires { ⌜ isControl (now rec) ≡ true ⌝ }
+    ensures { λ r. ⌜ r ≡ countsAgree (now (rec .entry)) t ⌝ }
+{
+    let tanf = fields::number_at(rec, chart_a2::TOTAL_TANF);
+    let non_tanf = fields::number_at(rec, chart_a2::TOTAL_NON_TANF);
+    (tanf == t.tanf_count) & (non_tanf == t.non_tanf_count)
+}
+
+// Whether the amounts are those of the control record.
+fn are_amounts_right(rec: &[u8; 245], t: Totals) -> bool
+    requires { ⌜ isControl (now rec) ≡ true ⌝ }
+    ensures { λ r. ⌜ r ≡ amountsAgree (now (rec .entry)) t ⌝ }
+{
+    let tanf = fields::number_at(rec, chart_a2::AMOUNT_TANF);
+    let non_tanf = fields::number_at(rec, chart_a2::AMOUNT_NON_TANF);
+    (tanf == t.tanf_amount) & (non_tanf == t.non_tanf_amount)
+}
+
+// Refusal 5: a batch that is empty, no multiple of a record's width, or of too many records.
+fn is_wrong_length(batch: &[u8]) -> bool
+    ensures { λ r. ⌜ r ≡ refusal5 (now (batch .entry)) ⌝ }
+{
+    let n = batch.len();
+    (n == 0) | (n % RECORD_WIDTH != 0) | (refusals::MAX_RECORDS < n / RECORD_WIDTH)
+}
+
+// The number of the first of refusals 5 to 8 that holds, or 0.
+pub fn batch_refusal(batch: &[u8]) -> u64
+    ensures { λ r. ⌜ r ≡ batchRefusal (now (batch .entry)) 0 ⌝ }
+{
+    if is_wrong_length(batch) {
+        return 5;
+    }
+    let details = batch.len() / RECORD_WIDTH - 1;
+    let control = record_at(batch, details);
+    if !is_control(&control) {
+        return 6;
+    }
+    let t = totals_of(batch, details);
+    if !are_counts_right(&control, t) {
+        return 7;
+    }
+    if !are_amounts_right(&control, t) {
+        return 8;
+    }
+    0
+}
