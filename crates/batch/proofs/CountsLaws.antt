@@ -17,12 +17,12 @@ use Rattle.batch.proofs.ColumnsWritten.{Written, written-none, written-
 abbrev pub noCounts : Counts
 noCounts =
     record {
-      tanfTaken = 0;
-      tanfRefused = 0;
-      nonTanfTaken = 0;
-      nonTanfRefused = 0;
-      tanfWarnings = 0;
-      nonTanfWarnings = 0;
+      acceptedTanf = 0;
+      rejectedTanf = 0;
+      acceptedNonTanf = 0;
+      rejectedNonTanf = 0;
+      warnedTanf = 0;
+      warnedNonTanf = 0;
       neither = 0;
     }
 
@@ -39,12 +39,12 @@ counts-none js = refl
 pub plus-assoc : (a b c : Counts) → plus (plus a b) c ≡ plus a (plus b c)
 plus-assoc a b c =
     rw (
-      add-assoc (a .tanfTaken) (b .tanfTaken) (c .tanfTaken),
-      add-assoc (a .tanfRefused) (b .tanfRefused) (c .tanfRefused),
-      add-assoc (a .nonTanfTaken) (b .nonTanfTaken) (c .nonTanfTaken),
-      add-assoc (a .nonTanfRefused) (b .nonTanfRefused) (c .nonTanfRefused),
-      add-assoc (a .tanfWarnings) (b .tanfWarnings) (c .tanfWarnings),
-      add-assoc (a .nonTanfWarnings) (b .nonTanfWarnings) (c .nonTanfWarnings),
+      add-assoc (a .acceptedTanf) (b .acceptedTanf) (c .acceptedTanf),
+      add-assoc (a .rejectedTanf) (b .rejectedTanf) (c .rejectedTanf),
+      add-assoc (a .acceptedNonTanf) (b .acceptedNonTanf) (c .acceptedNonTanf),
+      add-assoc (a .rejectedNonTanf) (b .rejectedNonTanf) (c .rejectedNonTanf),
+      add-assoc (a .warnedTanf) (b .warnedTanf) (c .warnedTanf),
+      add-assoc (a .warnedNonTanf) (b .warnedNonTanf) (c .warnedNonTanf),
       add-assoc (a .neither) (b .neither) (c .neither),
     )
 
@@ -68,24 +68,24 @@ module _ (state : List ℕ) (counts : Counts) (two : length state ≡ 2) where
   pub control-written : (a b c d e f g h : List ℕ)
       → a ≡ placed 1 2 state (spaces 245)
       → b ≡ placed 3 5 CTL a
-      → c ≡ placed 6 14 (digitField 9 (counts .tanfTaken)) b
-      → d ≡ placed 15 23 (digitField 9 (counts .tanfRefused)) c
-      → e ≡ placed 24 32 (digitField 9 (counts .nonTanfTaken)) d
-      → f ≡ placed 33 41 (digitField 9 (counts .nonTanfRefused)) e
-      → g ≡ placed 42 50 (digitField 9 (counts .tanfWarnings)) f
-      → h ≡ placed 51 59 (digitField 9 (counts .nonTanfWarnings)) g
+      → c ≡ placed 6 14 (digitField 9 (counts .acceptedTanf)) b
+      → d ≡ placed 15 23 (digitField 9 (counts .rejectedTanf)) c
+      → e ≡ placed 24 32 (digitField 9 (counts .acceptedNonTanf)) d
+      → f ≡ placed 33 41 (digitField 9 (counts .rejectedNonTanf)) e
+      → g ≡ placed 42 50 (digitField 9 (counts .warnedTanf)) f
+      → h ≡ placed 51 59 (digitField 9 (counts .warnedNonTanf)) g
       → Written 245 (controlRecord state counts) (spaces 245) h
   unfolding controlRecord
   control-written a b c d e f g h ea eb ec ed ee ef eg eh =
       let z : 2 ≡ 0 + length state = omega arith in
       let w1 = written-field (written-none (spaces 245)) 1 2 state ea refl z (lit≤ tt) in
       let w2 = written-field w1 3 5 CTL eb refl refl (lit≤ tt) in
-      let w3 = written-digits w2 6 14 9 (counts .tanfTaken) ec refl refl (lit≤ tt) in
-      let w4 = written-digits w3 15 23 9 (counts .tanfRefused) ed refl refl (lit≤ tt) in
-      let w5 = written-digits w4 24 32 9 (counts .nonTanfTaken) ee refl refl (lit≤ tt) in
-      let w6 = written-digits w5 33 41 9 (counts .nonTanfRefused) ef refl refl (lit≤ tt) in
-      let w7 = written-digits w6 42 50 9 (counts .tanfWarnings) eg refl refl (lit≤ tt) in
-      let w8 = written-digits w7 51 59 9 (counts .nonTanfWarnings) eh refl refl (lit≤ tt) in
+      let w3 = written-digits w2 6 14 9 (counts .acceptedTanf) ec refl refl (lit≤ tt) in
+      let w4 = written-digits w3 15 23 9 (counts .rejectedTanf) ed refl refl (lit≤ tt) in
+      let w5 = written-digits w4 24 32 9 (counts .acceptedNonTanf) ee refl refl (lit≤ tt) in
+      let w6 = written-digits w5 33 41 9 (counts .rejectedNonTanf) ef refl refl (lit≤ tt) in
+      let w7 = written-digits w6 42 50 9 (counts .warnedTanf) eg refl refl (lit≤ tt) in
+      let w8 = written-digits w7 51 59 9 (counts .warnedNonTanf) eh refl refl (lit≤ tt) in
       written-kept w8 60 245 refl (lit≤ tt) (lit≤ tt)
 
   pub length-control : length (controlRecord state counts) ≡ 245

@@ -1,3 +1,4 @@
+-- For the contracts of inner functions; no rule of the papers stands here.
 -- The set in each answer of the machine's step. Assumes nothing.
 use Prim.Native.Nat.{ℕ}
 use Rattle.onecase.specs.declared.verdict.Verdict.{Verdict}

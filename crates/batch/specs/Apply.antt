@@ -4,7 +4,7 @@ use mathlib.Core.Path.{_≡_}
 use mathlib.Core.List.{List, [], _∷_, _++_}
 use mathlib.Core.Bool.{Bool, true, false, not, cond, _&&_, _||_}
 use mathlib.Core.Option.{Option, none, some}
-use lib.Dec.{eqb, leb, ltb}
+use lib.Dec.{eqb, ltb}
 use lib.ListN.{length}
 use Rattle.layout.specs.Characters.{A}
 use Rattle.layout.specs.Locals.{isLocalList}
@@ -65,11 +65,12 @@ refusal7 batch = not (areCountsRight (controlOf batch) (detailsOf batch))
 unfoldable pub refusal8 : List ℕ → Bool
 refusal8 batch = not (areAmountsRight (controlOf batch) (detailsOf batch))
 
--- an A record whose key has no row
+-- no row
 abbrev pub isMissing : Option (List ℕ) → Bool
 isMissing none = true
 isMissing (some row) = false
 
+-- an A record whose key has no row
 abbrev pub isNew : List (List ℕ) → List ℕ → Bool
 isNew rows detail = isType A detail && isMissing (rowWith (recordKey detail) rows)
 
@@ -95,13 +96,14 @@ refusal11 batch rejects = ltb (length rejects) (245 * (detailCount batch + 1))
 abbrev pub orElse : Bool → ℕ → ℕ → ℕ
 orElse holds refusal behind = cond holds refusal behind
 
--- the first refusal that holds, 0 where none does; in three parts: the year, the list and the master; the batch; the space
+-- the first of 9, 10 and 11 that holds, 0 where none does
 unfoldable pub spaceRefusal : Call → ℕ
 spaceRefusal c =
     orElse (refusal9 (c .master) (c .rows) (c .batch)) 9
     (orElse (refusal10 (c .batch) (c .verdicts)) 10
     (orElse (refusal11 (c .batch) (c .rejects)) 11 0))
 
+-- the first of 5, 6, 7 and 8 that holds, else what comes behind
 unfoldable pub batchRefusal : List ℕ → ℕ → ℕ
 batchRefusal batch behind =
     orElse (refusal5 batch) 5
@@ -109,9 +111,11 @@ batchRefusal batch behind =
     (orElse (refusal7 batch) 7
     (orElse (refusal8 batch) 8 behind)))
 
+-- the first of 3 and 4 that holds, else what comes behind
 unfoldable pub masterRefusal : List ℕ → ℕ → ℕ → ℕ
 masterRefusal master rows behind = orElse (refusal3 master rows) 3 (orElse (refusal4 master rows) 4 behind)
 
+-- the first of 1 to 11 that holds, 0 where none does
 unfoldable pub applyRefusal : Call → ℕ
 applyRefusal c =
     orElse (refusal1 (c .year)) 1
@@ -144,8 +148,8 @@ left n c = record { result = refused n; master = c .master; verdicts = c .verdic
 -- the result of a run: accepted, rejected and warned over both case types, neither and rows
 abbrev pub resultIn : Counts → ℕ → Result
 resultIn counts rows =
-    done (counts .tanfTaken + counts .nonTanfTaken) (counts .tanfRefused + counts .nonTanfRefused)
-    (counts .tanfWarnings + counts .nonTanfWarnings) (counts .neither) rows
+    done (counts .acceptedTanf + counts .acceptedNonTanf) (counts .rejectedTanf + counts .rejectedNonTanf)
+    (counts .warnedTanf + counts .warnedNonTanf) (counts .neither) rows
 
 -- the rows, the numbers and the reject file written, with what stood behind each kept
 abbrev pub written : List ℕ → List (List ℕ) → List (List ℕ) → List Judgement → Counts → Call → Outcome

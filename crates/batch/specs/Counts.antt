@@ -45,23 +45,23 @@ isNeither detail verdict = not (isTanf detail || isNonTanf detail)
 
 -- the seven counts
 pub record Counts : Type 0 where
-  pub tanfTaken : ℕ
-  pub tanfRefused : ℕ
-  pub nonTanfTaken : ℕ
-  pub nonTanfRefused : ℕ
-  pub tanfWarnings : ℕ
-  pub nonTanfWarnings : ℕ
+  pub acceptedTanf : ℕ
+  pub rejectedTanf : ℕ
+  pub acceptedNonTanf : ℕ
+  pub rejectedNonTanf : ℕ
+  pub warnedTanf : ℕ
+  pub warnedNonTanf : ℕ
   pub neither : ℕ
 
 unfoldable pub countsOf : List (List ℕ) → List Judgement → Counts
 countsOf details verdicts =
     record {
-      tanfTaken = howMany tanfAccepted details verdicts;
-      tanfRefused = howMany tanfRejected details verdicts;
-      nonTanfTaken = howMany nonTanfAccepted details verdicts;
-      nonTanfRefused = howMany nonTanfRejected details verdicts;
-      tanfWarnings = howMany tanfWarned details verdicts;
-      nonTanfWarnings = howMany nonTanfWarned details verdicts;
+      acceptedTanf = howMany tanfAccepted details verdicts;
+      rejectedTanf = howMany tanfRejected details verdicts;
+      acceptedNonTanf = howMany nonTanfAccepted details verdicts;
+      rejectedNonTanf = howMany nonTanfRejected details verdicts;
+      warnedTanf = howMany tanfWarned details verdicts;
+      warnedNonTanf = howMany nonTanfWarned details verdicts;
       neither = howMany isNeither details verdicts;
     }
 
@@ -72,6 +72,6 @@ CTL = C ∷ T ∷ L ∷ []
 -- Non-TANF rejected in 33–41, TANF warning in 42–50, Non-TANF warning in 51–59, spaces in 60–245
 unfoldable pub controlRecord : List ℕ → Counts → List ℕ
 controlRecord state counts =
-    state ++ CTL ++ digitField 9 (counts .tanfTaken) ++ digitField 9 (counts .tanfRefused) ++ digitField 9 (counts .nonTanfTaken)
-    ++ digitField 9 (counts .nonTanfRefused) ++ digitField 9 (counts .tanfWarnings) ++ digitField 9 (counts .nonTanfWarnings)
+    state ++ CTL ++ digitField 9 (counts .acceptedTanf) ++ digitField 9 (counts .rejectedTanf) ++ digitField 9 (counts .acceptedNonTanf)
+    ++ digitField 9 (counts .rejectedNonTanf) ++ digitField 9 (counts .warnedTanf) ++ digitField 9 (counts .warnedNonTanf)
     ++ spaces 186

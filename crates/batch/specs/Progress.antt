@@ -1,3 +1,4 @@
+-- For the contracts of inner functions; no rule of the papers stands here.
 -- What the code keeps while it works through a batch, and what one detail leaves. Assumes nothing.
 use Prim.Native.Nat.{ℕ, _+_, _*_, _/_, _^_, _≤_, _<_}
 use mathlib.Core.Path.{_≡_}

@@ -1,5 +1,5 @@
 -- Document 01, "Reconciliation": Charts 0-6 and 0-7. Assumes nothing.
-use Prim.Native.Nat.{ℕ, suc, _+_, _*_}
+use Prim.Native.Nat.{ℕ, _+_, _*_}
 use mathlib.Core.List.{List, [], _∷_, _++_}
 use mathlib.Core.Bool.{Bool, not, cond, _&&_}
 use lib.Dec.{eqb, ltb}
@@ -50,10 +50,11 @@ rctRecord state date rows =
     RCT ++ state ++ digitField 9 (reportedOf A state rows) ++ digitField 9 (reportedOf N state rows)
     ++ digitField 9 (length (recRecords state rows)) ++ date ++ spaces 205
 
--- 12: state not in the table; 13: no calendar date as in error 15, blank included
+-- 12: state not in the table
 unfoldable pub refusal12 : List ℕ → Bool
 refusal12 state = not (isState state)
 
+-- 13: no calendar date as in error 15, blank included
 unfoldable pub refusal13 : List ℕ → Bool
 refusal13 date = not (isDate date)
 

@@ -2,7 +2,6 @@
 use Prim.Native.Nat.{ℕ}
 use mathlib.Core.List.{List, [], _∷_, _++_, map}
 use mathlib.Core.Option.{Option, none, some}
-use Rattle.layout.specs.Characters.{space}
 use Rattle.layout.specs.Fields.{columns, spaces}
 use Rattle.layout.specs.Codes.{numberOfCodes, sixLowest}
 use Rattle.onecase.specs.Verdict.{Judgement}

@@ -1,3 +1,4 @@
+-- For the contracts of inner functions; no rule of the papers stands here.
 -- The counts as the code keeps them, and what one detail adds. Assumes nothing.
 use Prim.Native.Nat.{ℕ, _+_, _≤_}
 use mathlib.Core.List.{List}
@@ -8,24 +9,24 @@ use Rattle.batch.specs.declared.counts.Tally.{Tally}
 abbrev pub countsIn : Tally → Counts
 countsIn t =
     record {
-      tanfTaken = t .«tanf_accepted»;
-      tanfRefused = t .«tanf_rejected»;
-      nonTanfTaken = t .«non_tanf_accepted»;
-      nonTanfRefused = t .«non_tanf_rejected»;
-      tanfWarnings = t .«tanf_warned»;
-      nonTanfWarnings = t .«non_tanf_warned»;
+      acceptedTanf = t .«tanf_accepted»;
+      rejectedTanf = t .«tanf_rejected»;
+      acceptedNonTanf = t .«non_tanf_accepted»;
+      rejectedNonTanf = t .«non_tanf_rejected»;
+      warnedTanf = t .«tanf_warned»;
+      warnedNonTanf = t .«non_tanf_warned»;
       neither = t .neither;
     }
 
 abbrev pub plus : Counts → Counts → Counts
 plus a b =
     record {
-      tanfTaken = a .tanfTaken + b .tanfTaken;
-      tanfRefused = a .tanfRefused + b .tanfRefused;
-      nonTanfTaken = a .nonTanfTaken + b .nonTanfTaken;
-      nonTanfRefused = a .nonTanfRefused + b .nonTanfRefused;
-      tanfWarnings = a .tanfWarnings + b .tanfWarnings;
-      nonTanfWarnings = a .nonTanfWarnings + b .nonTanfWarnings;
+      acceptedTanf = a .acceptedTanf + b .acceptedTanf;
+      rejectedTanf = a .rejectedTanf + b .rejectedTanf;
+      acceptedNonTanf = a .acceptedNonTanf + b .acceptedNonTanf;
+      rejectedNonTanf = a .rejectedNonTanf + b .rejectedNonTanf;
+      warnedTanf = a .warnedTanf + b .warnedTanf;
+      warnedNonTanf = a .warnedNonTanf + b .warnedNonTanf;
       neither = a .neither + b .neither;
     }
 
@@ -33,12 +34,12 @@ plus a b =
 unfoldable pub oneDetail : List ℕ → Bool → Bool → Counts
 oneDetail detail rejected warned =
     record {
-      tanfTaken = cond (isTanf detail && not rejected) 1 0;
-      tanfRefused = cond (isTanf detail && rejected) 1 0;
-      nonTanfTaken = cond (isNonTanf detail && not rejected) 1 0;
-      nonTanfRefused = cond (isNonTanf detail && rejected) 1 0;
-      tanfWarnings = cond (isTanf detail && warned) 1 0;
-      nonTanfWarnings = cond (isNonTanf detail && warned) 1 0;
+      acceptedTanf = cond (isTanf detail && not rejected) 1 0;
+      rejectedTanf = cond (isTanf detail && rejected) 1 0;
+      acceptedNonTanf = cond (isNonTanf detail && not rejected) 1 0;
+      rejectedNonTanf = cond (isNonTanf detail && rejected) 1 0;
+      warnedTanf = cond (isTanf detail && warned) 1 0;
+      warnedNonTanf = cond (isNonTanf detail && warned) 1 0;
       neither = cond (not (isTanf detail || isNonTanf detail)) 1 0;
     }
 

@@ -1,5 +1,5 @@
--- Document 01, "For demand 3": two batches carried out from the same master are equal in effect exactly when the one-case machine
--- agrees under every key. Assumes nothing.
+-- Demand 3: two batches carried out from the same master are equal in effect exactly when the one-case machine agrees under every key.
+-- The notions are those of document 01, "For demand 3". Assumes nothing.
 use Prim.Native.Nat.{ℕ, _<_}
 use mathlib.Core.Path.{_≡_}
 use mathlib.Core.Logic.{_↔_}
@@ -41,6 +41,7 @@ readVerdicts (number ∷ numbers) rejects = readVerdict number (take 245 rejects
 abbrev pub verdictsLeft : Call → Outcome → List Judgement
 verdictsLeft c o = readVerdicts (take (detailCount (c .batch)) (o .verdicts)) (o .rejects)
 
+-- the row count of a result; a refusal has none, and is never asked
 abbrev pub rowCount : Result → ℕ
 rowCount (refused n) = 0
 rowCount (done accepted rejected warned neither rows) = rows

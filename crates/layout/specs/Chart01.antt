@@ -1,4 +1,4 @@
--- Chart 0-1, reject record (245 bytes): columns 1–227 are those of Chart A-1: its columns, each named once. Assumes nothing.
+-- Chart 0-1, reject record (245 bytes), whose columns 1–227 are those of Chart A-1; the others, each named once. Assumes nothing.
 use Prim.Native.Nat.{ℕ}
 use mathlib.Core.List.{List}
 use Rattle.layout.specs.Fields.{columns}

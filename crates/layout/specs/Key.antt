@@ -11,7 +11,7 @@ use Rattle.layout.specs.Ssn.{wrongSsn}
 use Rattle.layout.specs.declared.key.Order.{Order}
 use Rattle.layout.specs.declared.key.Order.the-variants.{Less, Equal, Greater}
 
--- 04: case type neither A (TANF) nor N (Non-TANF)
+-- a case type: A (TANF) or N (Non-TANF); anything else is error 04
 unfoldable pub isCaseType : ℕ → Bool
 isCaseType b = eqb b A || eqb b N
 

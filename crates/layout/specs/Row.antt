@@ -1,7 +1,7 @@
 -- Document 01, "A case's row": the columns of a row and when a row is sound, live or deleted. Assumes nothing.
 use Prim.Native.Nat.{ℕ}
 use mathlib.Core.List.{List}
-use mathlib.Core.Bool.{Bool, not, cond, _&&_, _||_}
+use mathlib.Core.Bool.{Bool, cond, _&&_}
 use lib.ListN.{getD}
 use lib.Dec.{eqb}
 use Rattle.layout.specs.Characters.{space, D}

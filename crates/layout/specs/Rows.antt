@@ -1,7 +1,7 @@
 -- A master's rows under their keys: the row with a key, and a row put in its place. Assumes nothing.
 use Prim.Native.Nat.{ℕ, zero, suc}
 use mathlib.Core.List.{List, [], _∷_}
-use mathlib.Core.Bool.{Bool, cond}
+use mathlib.Core.Bool.{cond}
 use mathlib.Core.Option.{Option, none, some}
 use Rattle.layout.specs.Fields.{sameBytes}
 use Rattle.layout.specs.Key.{orderOf}
@@ -14,11 +14,12 @@ unfoldable pub rowWith : List ℕ → List (List ℕ) → Option (List ℕ)
 rowWith key [] = none
 rowWith key (row ∷ rows) = cond (sameBytes (rowKey row) key) (some row) (rowWith key rows)
 
--- the place of the row with a key, the first being 0, else none
+-- one place further on
 abbrev pub oneMore : Option ℕ → Option ℕ
 oneMore none = none
 oneMore (some place) = some (suc place)
 
+-- the place of the row with a key, the first being 0, else none
 unfoldable pub placeWith : List ℕ → List (List ℕ) → Option ℕ
 placeWith key [] = none
 placeWith key (row ∷ rows) = cond (sameBytes (rowKey row) key) (some zero) (oneMore (placeWith key rows))

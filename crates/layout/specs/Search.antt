@@ -1,3 +1,4 @@
+-- For the contracts of inner functions; no rule of the papers stands here.
 -- What a search for a key among rows in rising order answers, and a row put in at a place. Assumes nothing.
 use Prim.Native.Nat.{ℕ, _+_, _-_, _≤_}
 use mathlib.Core.Path.{_≡_}

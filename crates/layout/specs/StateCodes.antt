@@ -1,3 +1,4 @@
+-- For the contracts of inner functions; no rule of the papers stands here.
 -- The codes of the state table as numbers, in which they are looked up. Assumes nothing.
 use Prim.Native.Nat.{ℕ, _+_, _*_}
 use mathlib.Core.List.{List, [], _∷_, map}

@@ -2,7 +2,7 @@
 use Prim.Native.Nat.{ℕ}
 use mathlib.Core.List.{List, [], _∷_}
 use mathlib.Core.Bool.{Bool}
-use Rattle.layout.specs.Characters.{A, B, C, D, E, F, G, H, I, J, K, L, M, N, O, P, Q, R, S, T, U, «V», W, X, Y, Z}
+use Rattle.layout.specs.Characters.{A, C, D, E, F, G, H, I, J, K, L, M, N, O, P, R, S, T, U, «V», W, X, Y, Z}
 use Rattle.layout.specs.Fields.{isOneOf}
 
 -- state table (54)

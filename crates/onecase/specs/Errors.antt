@@ -4,7 +4,7 @@ use Prim.Native.Nat.{ℕ}
 use mathlib.Core.List.{List, [], _∷_, _++_}
 use mathlib.Core.Bool.{Bool, true, false, not, cond, _&&_, _||_}
 use mathlib.Core.Option.{Option, none, some}
-use lib.Dec.{eqb, ltb}
+use lib.Dec.{ltb}
 use Rattle.layout.specs.Characters.{isLetter, zeroDigit, A, B, C, L, M, R, S, T, Z}
 use Rattle.layout.specs.Fields.{columns, isBlank, areDigits, number, sameBytes}
 use Rattle.layout.specs.States.{isState}

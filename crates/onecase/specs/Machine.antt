@@ -3,7 +3,7 @@
 use Prim.Native.Nat.{ℕ}
 use mathlib.Core.Path.{_≡_}
 use mathlib.Core.List.{List}
-use mathlib.Core.Bool.{Bool, true, false, cond}
+use mathlib.Core.Bool.{cond}
 use mathlib.Core.Option.{Option, none, some}
 use Rattle.layout.specs.Characters.{A, B, C, D, L, M, R, S, T}
 use Rattle.layout.specs.Row.{isLive}
@@ -40,7 +40,7 @@ changedRow rec (some row) = some (changed rec row)
 unfoldable pub applied : List ℕ → Option (List ℕ) → List ℕ → Option (List ℕ)
 applied list row rec = cond (isType A rec) (some (added list rec row)) (changedRow rec row)
 
--- the row after the step: an error changes nothing
+-- the row after the step, where row is none or has the record's key: an error changes nothing
 unfoldable pub next : List ℕ → ℕ → List ℕ → Option (List ℕ) → List ℕ → Option (List ℕ)
 next state year list row rec = cond (isAccepted state year list row rec) (applied list row rec) row
 

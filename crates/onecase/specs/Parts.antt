@@ -1,3 +1,4 @@
+-- For the contracts of inner functions; no rule of the papers stands here.
 -- The parts in which the code judges a record's errors: those in front, and those behind them. Assumes nothing.
 use Prim.Native.Nat.{ℕ}
 use mathlib.Core.Path.{_≡_}

@@ -1,7 +1,7 @@
 -- Document 01, "One-case machine": the verdict is the set of codes, and with 17 the four stored characters. Assumes nothing.
 use Prim.Native.Nat.{ℕ}
 use mathlib.Core.Path.{_≡_}
-use mathlib.Core.List.{List, [], _∷_, _++_}
+use mathlib.Core.List.{List, [], _∷_}
 use mathlib.Core.Bool.{Bool, true, false, cond}
 use mathlib.Core.Option.{Option, none, some}
 use lib.Dec.{leb}
@@ -41,23 +41,26 @@ unfoldable pub judgement : List ℕ → ℕ → List ℕ → Option (List ℕ) �
 judgement state year list row rec =
     record { codes = codes state year list row rec; name = cond (judged17 state row rec) (storedName row) none }
 
--- rejected: an error is in the set; warned: a warning is
+-- errors are 01 to 18, warnings 51 and 52
 abbrev pub isError : ℕ → Bool
 isError c = leb c 18
 
 abbrev pub isWarning : ℕ → Bool
 isWarning c = leb 51 c
 
+-- rejected: an error is in the set
 unfoldable pub isRejected : Judgement → Bool
 isRejected verdict = Rattle.layout.specs.Fields.some isError (verdict .codes)
 
+-- warned: a warning is in the set
 unfoldable pub isWarned : Judgement → Bool
 isWarned verdict = Rattle.layout.specs.Fields.some isWarning (verdict .codes)
 
--- what each answer of the step stands for
+-- four bytes as a field
 abbrev pub fourBytes : FourBytes → List ℕ
 fourBytes n = n .a ∷ n .b ∷ n .c ∷ n .d ∷ []
 
+-- what each answer of the step stands for
 abbrev pub meaning : Verdict → Judgement
 meaning (Accepted set) = record { codes = codesOfNumber set; name = none }
 meaning (Rejected set) = record { codes = codesOfNumber set; name = none }

@@ -1,14 +1,14 @@
 -- Document 01, "A record's errors": the warnings 51 and 52, which come only without errors. Assumes nothing.
 use Prim.Native.Nat.{ℕ}
-use mathlib.Core.List.{List, [], _∷_, _++_}
-use mathlib.Core.Bool.{Bool, true, false, not, cond, _&&_, _||_}
+use mathlib.Core.List.{List, _++_}
+use mathlib.Core.Bool.{Bool, false, not, _&&_}
 use mathlib.Core.Option.{Option, none, some}
 use Rattle.layout.specs.Characters.{A}
 use Rattle.layout.specs.Fields.{sameBytes}
 use Rattle.layout.specs.ChartA1.{lastName, firstName}
 use Rattle.layout.specs.Row.{rowLastName, rowFirstName, isLive}
 use Rattle.onecase.specs.Record.{isType}
-use Rattle.onecase.specs.Errors.{isLocalCode, code, errors}
+use Rattle.onecase.specs.Errors.{isLocalCode, code}
 
 -- 51 (A): local code neither blank, 000 nor listed
 unfoldable pub warning51 : List ℕ → List ℕ → Bool
