@@ -1,0 +1,4 @@
+pub mod YearLaws
+pub mod DecimalLaws
+pub mod LineLaws
+pub mod RunLaws

@@ -1,0 +1,37 @@
+use denote.Ref.{now}
+use lib.Seq.{take-all}
+use lib.ListN.{take}
+use native.Mathlib.Omega.{arith}
+use mathlib.Core.Path.{_≡_}
+use Prim.Native.Nat.{ℕ, _-_}
+use mathlib.Core.Path.{sym, ap}
+use borrow.Author.Needs.{needs}
+use Rattle.apply_files.proofs.parts.first.Statement.{statement}
+use Rattle.apply_files.proofs.parts.first.Tie as tie
+use Rattle.apply_files.proofs.parts.first.Reads as reads
+use Rattle.apply_files.proofs.parts.first.Lts as lts
+
+-- src/parts.rt:10:9
+returns : tie.Need-returns
+returns c = sym (take-all (c .before .args .n) (now (c .before .args .s)) (omega arith))
+
+-- src/parts.rt:12:5
+sub-result : tie.Need-sub-result
+sub-result c = search needs
+
+-- src/parts.rt:12:5
+part-result-start : tie.Need-part-result-start
+part-result-start c = search needs
+
+-- src/parts.rt:12:5
+part-result-end : tie.Need-part-result-end
+part-result-end c = search needs
+
+-- src/parts.rt:6:1
+returns-2 : tie.Need-returns-2
+returns-2 c =
+    let e : c .before .before .args .n - 0 ≡ c .before .before .args .n = omega arith in
+    ap (λ (z : ℕ). take z (now (c .before .before .args .s))) e
+
+pub first-spec : {M : Type 1} → statement M
+first-spec = tie.close (tie.spec returns sub-result part-result-start part-result-end returns-2)

@@ -1,0 +1,70 @@
+// EBCDIC columns from ASCII text, and back.
+use layout::fields;
+
+// The EBCDIC byte of an ASCII capital letter, digit or hyphen, and a space for all else.
+pub fn from_ascii(b: u8) -> u8 {
+    match b {
+        b'A'..=b'I' => 0xC1 + (b - b'A'),
+        b'J'..=b'R' => 0xD1 + (b - b'J'),
+        b'S'..=b'Z' => 0xE2 + (b - b'S'),
+        b'0'..=b'9' => 0xF0 + (b - b'0'),
+        b'-' => 0x60,
+        _ => 0x40,
+    }
+}
+
+// The ASCII byte of an EBCDIC capital letter, digit, hyphen or space, and a dot for all else.
+pub fn to_ascii(b: u8) -> u8 {
+    match b {
+        0xC1..=0xC9 => b'A' + (b - 0xC1),
+        0xD1..=0xD9 => b'J' + (b - 0xD1),
+        0xE2..=0xE9 => b'S' + (b - 0xE2),
+        0xF0..=0xF9 => b'0' + (b - 0xF0),
+        0x60 => b'-',
+        0x40 => b' ',
+        _ => b'.',
+    }
+}
+
+// Writes a byte i columns behind a column, which count from 1, where there is one.
+fn put_byte(out: &mut [u8], column: usize, i: usize, b: u8) {
+    if i < out.len() {
+        if column <= out.len() - i {
+            if 1 <= column {
+                out[column - 1 + i] = b;
+            }
+        }
+    }
+}
+
+// Writes a text into the columns from one on.
+pub fn put(out: &mut [u8], column: usize, text: &[u8]) {
+    let mut i = 0;
+    while i < text.len() {
+        put_byte(out, column, i, from_ascii(text[i]));
+        i += 1;
+    }
+}
+
+// Writes the lowest digits of a number into the columns from one to another.
+pub fn put_number(out: &mut [u8], first: usize, last: usize, n: u64) {
+    let mut column = last;
+    let mut left = n;
+    while first <= column {
+        if column == 0 {
+            return;
+        }
+        put_byte(out, column, 0, 0xF0 + (left % 10) as u8);
+        left = left / 10;
+        column -= 1;
+    }
+}
+
+// Copies s over out from index `at` on, if there is room.
+pub fn place(out: &mut [u8], at: usize, s: &[u8]) {
+    if s.len() <= out.len() {
+        if at <= out.len() - s.len() {
+            fields::copy_in(out, at, s);
+        }
+    }
+}
