@@ -1,0 +1,208 @@
+/* fantanolive.h: the C interface of the Fantanolive library, libfantanolive.a.
+ *
+ * The library keeps a state's mirror of the federal offset case master. It has three calls:
+ *
+ *     fantanolive_apply      applies a submission batch to a master
+ *     fantanolive_find       finds a case's row in a master
+ *     fantanolive_reconcile  writes the reconciliation file of a state
+ *
+ * What the words here mean (row, record, detail, key, sound, code) and which columns the fields have is said in
+ * document 01 and its charts. Columns count from 1: column 1 is byte 0.
+ *
+ * Bytes. All text is EBCDIC: letters C1-C9, D1-D9, E2-E9, digits F0-F9, space 40, hyphen 60, comma 6B (hexadecimal).
+ * The calls convert nothing.
+ *
+ * Answers. Each call answers 0 (FANTANOLIVE_DONE) when it was carried out, else the number of a refusal, 1 to 15.
+ * A call answers the first refusal that holds, in the order that is given with it. On a refusal nothing at all is
+ * written: no byte of any buffer, and no number of the result.
+ *
+ * Memory. The caller owns every buffer, before, during and after a call. The library allocates nothing, frees nothing
+ * and keeps no pointer when a call returns. It reads no file and writes none.
+ *
+ * Pointers. A pointer must be valid for the length that goes with it: readable where it is const, else readable and
+ * writable. No pointer may be NULL, not even with a length of 0; any other pointer of the right alignment does then.
+ * Pointers to uint64_t must be aligned as uint64_t is (8 bytes); those to bytes may have any address.
+ * The calls do not check this, and a call that breaks it has no defined outcome.
+ *
+ * Overlap. A buffer that a call writes must not overlap any other argument of the call. Buffers that are only read may
+ * overlap each other: a key may be a pointer into the master that it is looked for in.
+ *
+ * Threads. There is no global state. Calls may run at once in several threads, as long as no buffer that one of them
+ * writes is read or written by another. Any number of fantanolive_find and fantanolive_reconcile calls may read the same
+ * master at once.
+ *
+ * Limits. A master has at most 65,535 rows, a batch at most 65,536 records (65,535 details and the control record).
+ * Numbers and lengths outside the limits are refused, not cut.
+ */
+#ifndef FANTANOLIVE_H
+#define FANTANOLIVE_H
+
+#include <stddef.h>
+#include <stdint.h>
+
+#ifdef __cplusplus
+extern "C" {
+#endif
+
+/* Sizes in bytes of a row of the master, and of a record of a batch, a reject file and a reconciliation file. */
+#define FANTANOLIVE_ROW 200
+#define FANTANOLIVE_RECORD 245
+
+/* Sizes in bytes of a key (columns 1-12 of a row), a state, a date and a local code. */
+#define FANTANOLIVE_KEY 12
+#define FANTANOLIVE_STATE 2
+#define FANTANOLIVE_DATE 8
+#define FANTANOLIVE_LOCAL_CODE 3
+
+/* Limits. */
+#define FANTANOLIVE_MAX_ROWS 65535
+#define FANTANOLIVE_MAX_RECORDS 65536
+
+/* Sizes that are always enough, as size_t. The arguments are numbers of details or rows.
+ *   verdicts of fantanolive_apply:  one number per detail
+ *   rejects of fantanolive_apply:   FANTANOLIVE_REJECTS_SIZE(details) bytes; fewer are refused (11)
+ *   master of fantanolive_apply:    FANTANOLIVE_MASTER_SIZE(rows + details of type A) bytes, for at most
+ *                                   FANTANOLIVE_MAX_ROWS rows
+ *   out of fantanolive_reconcile:   FANTANOLIVE_OUT_SIZE(rows) bytes
+ * The details of a batch are its records less one: batch_length / FANTANOLIVE_RECORD - 1. */
+#define FANTANOLIVE_MASTER_SIZE(rows) ((size_t)FANTANOLIVE_ROW * (size_t)(rows))
+#define FANTANOLIVE_REJECTS_SIZE(details) ((size_t)FANTANOLIVE_RECORD * ((size_t)(details) + 1))
+#define FANTANOLIVE_OUT_SIZE(rows) ((size_t)FANTANOLIVE_RECORD * ((size_t)(rows) + 1))
+
+/* The numbers of fantanolive_apply's result, by their index. */
+#define FANTANOLIVE_ACCEPTED 0 /* details of case type A or N without an error, warned ones included */
+#define FANTANOLIVE_REJECTED 1 /* details of case type A or N with an error */
+#define FANTANOLIVE_WARNED 2   /* details with a warning; they are among the accepted */
+#define FANTANOLIVE_NEITHER 3  /* details of neither case type; they are in none of the three above */
+#define FANTANOLIVE_ROWS 4     /* rows of the master afterwards, deleted ones included */
+#define FANTANOLIVE_RESULTS 5  /* how many numbers the result has */
+
+/* The answers: 0, and the refusals' numbers. */
+#define FANTANOLIVE_DONE 0            /* carried out */
+#define FANTANOLIVE_WRONG_YEAR 1      /* year outside 1900-9999 */
+#define FANTANOLIVE_WRONG_LOCALS 2    /* list not made of three-digit codes, three bytes each, strictly rising */
+#define FANTANOLIVE_WRONG_MASTER 3    /* master length no multiple of 200, or row count above length / 200 or 65,535 */
+#define FANTANOLIVE_UNSOUND_ROW 4     /* a row that is not sound, or rows not in strictly rising order of key */
+#define FANTANOLIVE_WRONG_BATCH 5     /* batch empty, no multiple of 245, or over 65,536 records */
+#define FANTANOLIVE_WRONG_CONTROL 6   /* control record malformed */
+#define FANTANOLIVE_WRONG_COUNT 7     /* a count of the control record differs from the details' */
+#define FANTANOLIVE_WRONG_AMOUNT 8    /* an amount of the control record differs from the details' */
+#define FANTANOLIVE_NO_ROOM 9         /* rows plus A records whose key has no row exceed length / 200 or 65,535 */
+#define FANTANOLIVE_SHORT_VERDICTS 10 /* verdict list shorter than the details */
+#define FANTANOLIVE_SHORT_OUTPUT 11   /* reject or reconciliation buffer below 245 x (records + 1) */
+#define FANTANOLIVE_WRONG_STATE 12    /* state not in the table of 54 */
+#define FANTANOLIVE_WRONG_DATE 13     /* not a Gregorian date CCYYMMDD of 1900-9999 */
+#define FANTANOLIVE_UNSOUND_KEY 14    /* key not of twelve bytes, or not sound */
+#define FANTANOLIVE_NO_SUCH_ROW 15    /* no row with this key */
+
+/* A verdict is a number of 64 bits: the sum of 2 to the power c over the codes c that the detail got. Errors are the
+ * codes 1 to 18, warnings 51 and 52; a verdict of 0 has none. A detail with an error is rejected and changes nothing.
+ *   FANTANOLIVE_HAS_CODE(verdict, c)   1 if the code c is in the verdict, else 0; c from 0 to 63
+ *   verdict & FANTANOLIVE_ERRORS       not 0 if the detail is rejected
+ *   verdict & FANTANOLIVE_WARNINGS     not 0 if it is accepted with a warning */
+#define FANTANOLIVE_HAS_CODE(verdict, c) ((int)(((uint64_t)(verdict) >> (c)) & 1))
+#define FANTANOLIVE_ERRORS ((uint64_t)0x7FFFE)
+#define FANTANOLIVE_WARNINGS ((uint64_t)3 << 51)
+
+/* fantanolive_apply: applies a batch to a master.
+ *
+ * The one-case machine of document 01 runs on each detail in turn. Accepted details change the rows, or add one; every
+ * detail gets its verdict, and every detail with a code its record in the reject file.
+ *
+ * master, master_length   The rows, 200 bytes each, and the space for new ones. The length is in bytes and a multiple of
+ *                         200. Bytes behind the last row may hold anything.
+ * rows                    How many rows the master has at entry, deleted ones included; 0 for an empty master.
+ * batch, batch_length     The records, 245 bytes each: the details, then the control record (Chart A-2). The length is in
+ *                         bytes. A batch of a control record alone is carried out.
+ * locals, locals_length   The list of local codes: three digits each, strictly rising, nothing between them. The length is
+ *                         in bytes; 0 for an empty list.
+ * year                    The process year, 1900 to 9999.
+ * verdicts, verdicts_length  Where the verdicts go. The length counts numbers, not bytes; at least one per detail.
+ * rejects, rejects_length Where the reject file goes. The length is in bytes, at least 245 x (details + 1), however few
+ *                         details are rejected.
+ * result                  Where the five numbers of the result go (FANTANOLIVE_ACCEPTED to FANTANOLIVE_ROWS).
+ *
+ * Returns, in the order of checking:
+ *   1   FANTANOLIVE_WRONG_YEAR      year below 1900 or above 9999
+ *   2   FANTANOLIVE_WRONG_LOCALS    locals not made of three-digit codes, three bytes each, strictly rising
+ *   3   FANTANOLIVE_WRONG_MASTER    master_length no multiple of 200, or rows above master_length / 200 or 65,535
+ *   4   FANTANOLIVE_UNSOUND_ROW     one of the rows is not sound, or their keys do not strictly rise
+ *   5   FANTANOLIVE_WRONG_BATCH     batch_length 0, no multiple of 245, or over 65,536 records
+ *   6   FANTANOLIVE_WRONG_CONTROL   the last record is not a control record: state in the table, CTL, digits, spaces
+ *   7   FANTANOLIVE_WRONG_COUNT     its count of TANF or of Non-TANF records differs from the details'
+ *   8   FANTANOLIVE_WRONG_AMOUNT    its amount for TANF or for Non-TANF differs from the details' (types A and M)
+ *   9   FANTANOLIVE_NO_ROOM         rows plus the details of type A whose key has no row at entry exceed
+ *                                   master_length / 200 or 65,535
+ *   10  FANTANOLIVE_SHORT_VERDICTS  verdicts_length below the number of details
+ *   11  FANTANOLIVE_SHORT_OUTPUT    rejects_length below 245 x (details + 1)
+ *   0   FANTANOLIVE_DONE            carried out
+ *
+ * Written when carried out: the rows, result[FANTANOLIVE_ROWS] of them, in rising order of key, with new rows put in at
+ * their place; a verdict per detail in batch order; a reject record (Chart 0-1) per detail whose verdict is not 0, in
+ * batch order, and behind them the control record of Chart 0-2; the five numbers of result.
+ * Kept: the bytes of master behind the last row, of verdicts behind the last verdict and of rejects behind the control
+ * record; batch and locals. */
+uint64_t fantanolive_apply(
+    uint8_t *master, size_t master_length, size_t rows,
+    const uint8_t *batch, size_t batch_length,
+    const uint8_t *locals, size_t locals_length,
+    uint64_t year,
+    uint64_t *verdicts, size_t verdicts_length,
+    uint8_t *rejects, size_t rejects_length,
+    uint64_t result[FANTANOLIVE_RESULTS]);
+
+/* fantanolive_find: finds the row of a key.
+ *
+ * master, master_length   The rows, 200 bytes each; the length is in bytes and a multiple of 200.
+ * rows                    How many rows the master has, deleted ones included.
+ * key, key_length         The key: state, SSN and case type, twelve bytes. The length is in bytes.
+ * place                   Where the answer goes.
+ *
+ * Returns, in the order of checking:
+ *   3   FANTANOLIVE_WRONG_MASTER    master_length no multiple of 200, or rows above master_length / 200 or 65,535
+ *   4   FANTANOLIVE_UNSOUND_ROW     one of the rows is not sound, or their keys do not strictly rise
+ *   14  FANTANOLIVE_UNSOUND_KEY     key_length not 12, state not in the table, SSN wrong (error 02), or case type neither
+ *                                   A nor N
+ *   15  FANTANOLIVE_NO_SUCH_ROW     no row has this key
+ *   0   FANTANOLIVE_DONE            found
+ *
+ * Written when found: *place, the place of the row, the first row being 0; its bytes start at
+ * master + FANTANOLIVE_ROW * *place. A deleted row (D in column 196) is found like a live one.
+ * Kept: all else. */
+uint64_t fantanolive_find(
+    const uint8_t *master, size_t master_length, size_t rows,
+    const uint8_t *key, size_t key_length,
+    uint64_t *place);
+
+/* fantanolive_reconcile: writes the reconciliation file of a state.
+ *
+ * master, master_length   The rows, 200 bytes each; the length is in bytes and a multiple of 200.
+ * rows                    How many rows the master has, deleted ones included.
+ * state, state_length     The state, two bytes. The length is in bytes.
+ * date, date_length       The date of the file, CCYYMMDD, eight bytes. The length is in bytes.
+ * out, out_length         Where the file goes. The length is in bytes, at least 245 x (live rows of the state + 1).
+ * records                 Where the number of REC records goes.
+ *
+ * Returns, in the order of checking:
+ *   3   FANTANOLIVE_WRONG_MASTER    master_length no multiple of 200, or rows above master_length / 200 or 65,535
+ *   4   FANTANOLIVE_UNSOUND_ROW     one of the rows is not sound, or their keys do not strictly rise
+ *   12  FANTANOLIVE_WRONG_STATE     state_length not 2, or state not in the table
+ *   13  FANTANOLIVE_WRONG_DATE      date_length not 8, or date not a Gregorian date of 1900-9999; blank is no date
+ *   11  FANTANOLIVE_SHORT_OUTPUT    out_length below 245 x (records + 1)
+ *   0   FANTANOLIVE_DONE            carried out
+ *
+ * Written when carried out: a REC record (Chart 0-6) per live row of the state, in order of key, and behind them the RCT
+ * record (Chart 0-7); *records, the number of REC records, which may be 0.
+ * Kept: the bytes of out behind the RCT record; all else. */
+uint64_t fantanolive_reconcile(
+    const uint8_t *master, size_t master_length, size_t rows,
+    const uint8_t *state, size_t state_length,
+    const uint8_t *date, size_t date_length,
+    uint8_t *out, size_t out_length,
+    uint64_t *records);
+
+#ifdef __cplusplus
+}
+#endif
+
+#endif

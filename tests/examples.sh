@@ -1,0 +1,31 @@
+#!/usr/bin/env bash
+# Builds each example, runs it and compares what it prints with its expected.txt. A line for each; status 1 at the first that
+# differs or fails. The library is built where it is missing or older than a file of crates/.
+set -eu
+cd -- "$(dirname -- "$(readlink -f -- "$0")")/.."
+library=target/staticlib/libfantanolive.a
+log=target/examples/build.log
+mkdir -p target/examples
+if [ -f "$library" ] && [ -z "$(find crates crates.txt -newer "$library")" ]; then only=--examples; else only=; fi
+if ! bin/build-library $only >"$log" 2>&1; then
+    cat "$log"
+    echo "examples: not built"
+    exit 1
+fi
+
+compare() {
+    if target/examples/"$2" >target/examples/"$2".out && diff "$1/expected.txt" target/examples/"$2".out; then
+        echo "$1: passed"
+    else
+        echo "$1: failed"
+        exit 1
+    fi
+}
+
+compare examples/c apply-c
+if command -v cobc >/dev/null; then
+    compare examples/cobol apply-cobol
+else
+    echo "skipped: GnuCOBOL is not installed"
+fi
+compare examples/rust apply-rust
