@@ -1,0 +1,348 @@
+//! Times of the library, the reference and the speed engine, each also as a multiple of one
+//! memcpy of 13,107,000 bytes measured in the same run. `--quick` leaves out what is predicted to
+//! take more than two seconds.
+
+mod clock;
+mod input;
+
+use std::hint::black_box;
+use std::time::{Duration, Instant, SystemTime, UNIX_EPOCH};
+
+use clock::seconds;
+use input::{adds, changes, falling, lookup, Input, MOST};
+
+const COPIED: usize = 13_107_000;
+const ENGINES: usize = 3;
+/// No measurement is started once a series has taken this long.
+const PATIENCE: Duration = Duration::from_millis(1200);
+const QUICK: f64 = 2.0;
+
+type Times = [Option<f64>; ENGINES];
+
+/// What apply writes.
+#[derive(Clone, PartialEq)]
+struct Buffers {
+    master: Vec<u8>,
+    verdicts: Vec<u64>,
+    rejects: Vec<u8>,
+    result: [u64; 5],
+}
+
+struct Bench {
+    quick: bool,
+    repetitions: usize,
+    copies: Copies,
+    /// Seconds per row moved, by engine, from the longest series of adds so far.
+    rates: [f64; ENGINES],
+}
+
+/// The memcpy that all times are compared with, measured again beside every case.
+struct Copies {
+    from: Vec<u8>,
+    to: Vec<u8>,
+    times: Vec<f64>,
+}
+
+impl Copies {
+    fn measure(&mut self) {
+        for _ in 0..5 {
+            let (from, to) = (&self.from[..], &mut self.to[..]);
+            let time = seconds(|| black_box(to).copy_from_slice(black_box(from)));
+            self.times.push(time);
+        }
+    }
+
+    fn median(&self) -> f64 {
+        median(&self.times)
+    }
+}
+
+/// One line of the table, to be printed at the end.
+struct Line {
+    name: String,
+    times: Times,
+}
+
+fn main() {
+    let quick = std::env::args().any(|argument| argument == "--quick");
+    let mut bench = Bench {
+        quick,
+        repetitions: if quick { 3 } else { 9 },
+        copies: Copies {
+            from: vec![0x5A; COPIED],
+            to: vec![0xA5; COPIED],
+            times: Vec::new(),
+        },
+        rates: [0.0; ENGINES],
+    };
+    let mut applied = Vec::new();
+    for details in [100, 1000, 8192, 16_384, 32_768, 65_535] {
+        let name = format!("65535 rows, {details} changes");
+        applied.push(bench.line(&changes(&name, MOST, details)));
+    }
+    for count in [8192, 16_384, 32_768, 65_535] {
+        let name = format!("no rows, {count} adds falling");
+        applied.push(bench.line(&falling(&name, count)));
+    }
+    let name = "45875 rows, 19660 adds";
+    applied.push(bench.line(&adds(name, 45_875, 19_660, false)));
+    let name = "45875 rows, 65535 details, 19660 adds";
+    applied.push(bench.line(&adds(name, 45_875, 19_660, true)));
+    let mut doubled = Vec::new();
+    for count in [8192, 16_384, 32_768, 65_535] {
+        doubled.push(bench.line(&changes(&format!("{count}"), count, count)));
+    }
+    let looked = [bench.finding(), bench.reconciling()];
+    print(&bench, &applied, &doubled, &looked);
+}
+
+fn median(times: &[f64]) -> f64 {
+    let mut times = times.to_vec();
+    times.sort_by(f64::total_cmp);
+    times[times.len() / 2]
+}
+
+fn run(engine: usize, input: &Input, buffers: &mut Buffers) {
+    let Buffers {
+        master,
+        verdicts,
+        rejects,
+        result,
+    } = buffers;
+    let (rows, batch, list) = (input.rows, &input.batch, &input.list);
+    let answer = match engine {
+        0 => library::apply(master, rows, batch, list, 2007, verdicts, rejects, result),
+        1 => match reference::apply(master, rows, batch, list, 2007, verdicts, rejects) {
+            Ok(counts) => {
+                *result = [
+                    counts.accepted,
+                    counts.rejected,
+                    counts.warned,
+                    counts.neither,
+                    counts.rows,
+                ];
+                0
+            }
+            Err(number) => number,
+        },
+        _ => match speed::apply(master, rows, batch, list, 2007, verdicts, rejects) {
+            Ok(counts) => {
+                *result = counts;
+                0
+            }
+            Err(number) => number,
+        },
+    };
+    assert_eq!(answer, 0, "{} was refused", input.name);
+}
+
+impl Bench {
+    /// The median time of an engine, the buffers restored before each run.
+    fn time(&self, engine: usize, input: &Input) -> (f64, Buffers) {
+        let fresh = Buffers {
+            master: input.master.clone(),
+            verdicts: vec![1; input.details],
+            rejects: vec![2; 245 * (input.details + 1)],
+            result: [3; 5],
+        };
+        let mut buffers = fresh.clone();
+        let mut times = Vec::new();
+        let begin = Instant::now();
+        while times.len() < self.repetitions && (times.is_empty() || begin.elapsed() < PATIENCE) {
+            buffers.master.copy_from_slice(&fresh.master);
+            buffers.verdicts.copy_from_slice(&fresh.verdicts);
+            buffers.rejects.copy_from_slice(&fresh.rejects);
+            times.push(seconds(|| run(engine, input, black_box(&mut buffers))));
+        }
+        (median(&times), buffers)
+    }
+
+    fn times(&mut self, input: &Input) -> Times {
+        let mut times = [None; ENGINES];
+        let mut first: Option<Buffers> = None;
+        self.copies.measure();
+        for (engine, place) in times.iter_mut().enumerate() {
+            let predicted = self.rates[engine] * input.moved;
+            if self.quick && predicted > QUICK {
+                continue;
+            }
+            let (time, buffers) = self.time(engine, input);
+            *place = Some(time);
+            if input.moved > 0.0 {
+                self.rates[engine] = time / input.moved;
+            }
+            match &first {
+                None => first = Some(buffers),
+                Some(other) => assert!(*other == buffers, "the engines differ: {}", input.name),
+            }
+        }
+        times
+    }
+
+    fn line(&mut self, input: &Input) -> Line {
+        let times = self.times(input);
+        let shown = times.map(|time| {
+            time.map_or("left out".to_string(), |time| {
+                format!("{:.2} ms", time * 1e3)
+            })
+        });
+        eprintln!("measured {}: {}", input.name, shown.join(", "));
+        Line {
+            name: input.name.clone(),
+            times,
+        }
+    }
+
+    /// Finding, per call.
+    fn finding(&mut self) -> Line {
+        let (master, keys, _) = lookup(if self.quick { 100 } else { 1000 });
+        let mut times = [Vec::new(), Vec::new()];
+        for (at, key) in keys.iter().enumerate() {
+            let (mut place, mut answer) = (0, 0);
+            times[0].push(seconds(|| {
+                answer = library::find(black_box(&master), MOST, key, &mut place);
+            }));
+            assert_eq!(answer, 0, "find was refused");
+            // The reference is slow: a part of the keys is enough.
+            if at < 40 {
+                let mut found = Err(0);
+                times[1].push(seconds(|| {
+                    found = reference::find(black_box(&master), MOST, key);
+                }));
+                assert_eq!(found, Ok(place), "find differs");
+            }
+        }
+        Line {
+            name: format!("find, one call ({} keys)", keys.len()),
+            times: [Some(median(&times[0])), Some(median(&times[1])), None],
+        }
+    }
+
+    fn reconciling(&mut self) -> Line {
+        let (master, _, state) = lookup(0);
+        let date = generator::text::text("20261115");
+        let mut one = vec![1; 245 * (MOST + 1)];
+        let mut two = one.clone();
+        let mut times = [Vec::new(), Vec::new()];
+        for _ in 0..self.repetitions {
+            one.fill(1);
+            two.fill(1);
+            let mut records = 0;
+            times[0].push(seconds(|| {
+                library::reconcile(
+                    black_box(&master),
+                    MOST,
+                    &state,
+                    &date,
+                    &mut one,
+                    &mut records,
+                );
+            }));
+            let mut written = Err(0);
+            times[1].push(seconds(|| {
+                written = reference::reconcile(black_box(&master), MOST, &state, &date, &mut two);
+            }));
+            assert!(written == Ok(records) && one == two, "reconcile differs");
+        }
+        Line {
+            name: format!("reconcile, {MOST} records"),
+            times: [Some(median(&times[0])), Some(median(&times[1])), None],
+        }
+    }
+}
+
+fn print(bench: &Bench, applied: &[Line], doubled: &[Line], looked: &[Line]) {
+    let copy = bench.copies.median();
+    let cell = |time: Option<f64>| match time {
+        Some(time) => format!("{:>9.2} ms {:>7.1}x", time * 1e3, time / copy),
+        None => "left out".to_string(),
+    };
+    let copies = bench.copies.times.len();
+    println!("machine: {}", machine());
+    println!("date: {}", date());
+    println!("times are medians of the thread's processor time");
+    println!(
+        "one memcpy of {COPIED} bytes: {:.2} ms ({copies} times, over the whole run); x counts such copies",
+        copy * 1e3
+    );
+    println!();
+    println!(
+        "{:<40}{:>22}{:>22}{:>22}{:>11}",
+        "apply", "library", "reference", "speed engine", "lib/speed"
+    );
+    for line in applied {
+        let ratio = match line.times {
+            [Some(library), _, Some(speed)] => format!("{:.2}", library / speed),
+            _ => String::new(),
+        };
+        let [library, reference, speed] = line.times.map(cell);
+        println!(
+            "{:<40}{library:>22}{reference:>22}{speed:>22}{ratio:>11}",
+            line.name
+        );
+    }
+    println!();
+    println!(
+        "{:<40}{:>22}{:>22}{:>22}",
+        "doubling: n rows, n changes", "library", "reference", "speed engine"
+    );
+    for (at, line) in doubled.iter().enumerate() {
+        let before = at
+            .checked_sub(1)
+            .map_or([None; ENGINES], |at| doubled[at].times);
+        let cells: Vec<String> = line
+            .times
+            .iter()
+            .zip(before)
+            .map(|(time, before)| match (time, before) {
+                (Some(time), Some(before)) => {
+                    format!("{:>9.2} ms   x {:.2}", time * 1e3, time / before)
+                }
+                (Some(time), None) => format!("{:>9.2} ms         ", time * 1e3),
+                _ => "left out".to_string(),
+            })
+            .collect();
+        println!(
+            "{:<40}{:>22}{:>22}{:>22}",
+            line.name, cells[0], cells[1], cells[2]
+        );
+    }
+    println!();
+    println!("{:<40}{:>22}{:>22}", "65535 rows", "library", "reference");
+    for line in looked {
+        let [library, reference, _] = line.times.map(cell);
+        println!("{:<40}{library:>22}{reference:>22}", line.name);
+    }
+}
+
+fn machine() -> String {
+    let info = std::fs::read_to_string("/proc/cpuinfo").unwrap_or_default();
+    info.lines()
+        .find(|line| line.starts_with("model name"))
+        .and_then(|line| line.split(':').nth(1))
+        .map_or("unknown".to_string(), |name| name.trim().to_string())
+}
+
+/// Today's date (UTC) by the clock.
+fn date() -> String {
+    let seconds = SystemTime::now()
+        .duration_since(UNIX_EPOCH)
+        .map_or(0, |since| since.as_secs());
+    let mut days = seconds / 86_400;
+    let leap = |year: u64| {
+        year.is_multiple_of(4) && (!year.is_multiple_of(100) || year.is_multiple_of(400))
+    };
+    let mut year = 1970;
+    while days >= 365 + u64::from(leap(year)) {
+        days -= 365 + u64::from(leap(year));
+        year += 1;
+    }
+    let february = 28 + u64::from(leap(year));
+    let months = [31, february, 31, 30, 31, 30, 31, 31, 30, 31, 30, 31];
+    let mut month = 0;
+    while days >= months[month] {
+        days -= months[month];
+        month += 1;
+    }
+    format!("{year}-{:02}-{:02}", month + 1, days + 1)
+}

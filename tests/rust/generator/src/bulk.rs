@@ -1,0 +1,91 @@
+//! Large masters and batches, quickly made: keys are numbered, and rise with their number.
+
+use crate::records::{Record, RECORD};
+use crate::rng::Rng;
+use crate::rows::ROW;
+use crate::text::{byte, digits, put, put_text, SPACE};
+
+/// The SSN and case type of a key number (below some 160 million).
+fn numbered(number: usize) -> (Vec<u8>, u8) {
+    let place = number / 2;
+    let serial = place % 9999 + 1;
+    let group = place / 9999 % 99 + 1;
+    let area = place / (9999 * 99) + 100;
+    let ssn = digits((area * 1_000_000 + group * 10_000 + serial) as u64, 9);
+    (ssn, if number.is_multiple_of(2) { 0xC1 } else { 0xD5 })
+}
+
+/// `count` live rows with the key numbers 0, `step`, 2 × `step` and on.
+pub fn rows(state: [u8; 2], count: usize, step: usize) -> Vec<u8> {
+    let mut master = Vec::with_capacity(count * ROW);
+    let mut row = [SPACE; ROW];
+    put(&mut row, 1, &state);
+    put_text(&mut row, 13, "001CASE");
+    put_text(&mut row, 31, "SMITH");
+    put_text(&mut row, 51, "JOHN");
+    put_text(&mut row, 66, "00001000");
+    put_text(&mut row, 79, "000000000000");
+    put_text(&mut row, 91, "12 MAIN STREET");
+    put_text(&mut row, 151, "COLUMBUS");
+    put_text(&mut row, 176, "OH43004");
+    put_text(&mut row, 187, "20070131");
+    row[194] = 0;
+    for at in 0..count {
+        let (ssn, case_type) = numbered(at * step);
+        put(&mut row, 3, &ssn);
+        row[11] = case_type;
+        master.extend_from_slice(&row);
+    }
+    master
+}
+
+fn start(state: [u8; 2], number: usize, kind: u8) -> Record {
+    let mut record = [SPACE; RECORD];
+    let (ssn, case_type) = numbered(number);
+    put(&mut record, 1, &state);
+    put(&mut record, 6, &ssn);
+    record[73] = case_type;
+    record[72] = byte(kind);
+    put_text(&mut record, 30, "SMITH");
+    record
+}
+
+/// A right A record.
+pub fn add(state: [u8; 2], number: usize) -> Record {
+    let mut record = start(state, number, b'A');
+    put_text(&mut record, 3, "002");
+    put_text(&mut record, 50, "JANE");
+    put_text(&mut record, 65, "00000500");
+    put_text(&mut record, 84, "7 HIGH STREET");
+    put_text(&mut record, 144, "DAYTON");
+    put_text(&mut record, 169, "OH45401");
+    put_text(&mut record, 180, "20070228");
+    put_text(&mut record, 188, "RET,PAS FIN");
+    record
+}
+
+/// A right record of one of the types given, for a live row of that name; the new name of B has
+/// the same first four characters.
+pub fn change(rng: &mut Rng, state: [u8; 2], number: usize, types: &[u8]) -> Record {
+    let kind = rng.pick(types);
+    let mut record = start(state, number, kind);
+    match kind {
+        b'M' => put(&mut record, 65, &digits(rng.between(25, 9999) as u64, 8)),
+        b'C' => put_text(&mut record, 15, "NEWCASE"),
+        b'B' => put_text(&mut record, 30, "SMITHSON            JILL"),
+        b'L' => put_text(&mut record, 3, "002"),
+        b'R' => put_text(&mut record, 188, "ADM,TAX"),
+        b'Z' => {
+            put_text(&mut record, 84, "9 LOW STREET");
+            put_text(&mut record, 144, "TOLEDO");
+            put_text(&mut record, 169, "OH43601");
+        }
+        b'S' => {
+            put_text(&mut record, 65, "00000123");
+            put_text(&mut record, 80, "2006");
+        }
+        b'T' => put_text(&mut record, 75, "WV123"),
+        _ => {}
+    }
+    record
+}

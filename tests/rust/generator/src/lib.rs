@@ -1,0 +1,11 @@
+//! Random cases for the three calls; the same seed gives the same case.
+
+pub mod bulk;
+pub mod cases;
+pub mod records;
+pub mod rng;
+pub mod rows;
+pub mod text;
+pub mod world;
+
+pub use cases::{apply_only, case, ApplyCase, Case, FindCase, ReconcileCase};

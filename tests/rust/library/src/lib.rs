@@ -1,0 +1,113 @@
+//! The C interface of `libfantanolive.a` over slices. A slice's pointer is never null, and two
+//! slices of which one is written never overlap, as the interface asks.
+
+extern "C" {
+    fn fantanolive_apply(
+        master: *mut u8,
+        master_length: usize,
+        rows: usize,
+        batch: *const u8,
+        batch_length: usize,
+        locals: *const u8,
+        locals_length: usize,
+        year: u64,
+        verdicts: *mut u64,
+        verdicts_length: usize,
+        rejects: *mut u8,
+        rejects_length: usize,
+        result: *mut u64,
+    ) -> u64;
+    fn fantanolive_find(
+        master: *const u8,
+        master_length: usize,
+        rows: usize,
+        key: *const u8,
+        key_length: usize,
+        place: *mut u64,
+    ) -> u64;
+    fn fantanolive_reconcile(
+        master: *const u8,
+        master_length: usize,
+        rows: usize,
+        state: *const u8,
+        state_length: usize,
+        date: *const u8,
+        date_length: usize,
+        out: *mut u8,
+        out_length: usize,
+        records: *mut u64,
+    ) -> u64;
+}
+
+/// Answers 0 when carried out, else the refusal's number.
+#[allow(clippy::too_many_arguments)]
+pub fn apply(
+    master: &mut [u8],
+    rows: usize,
+    batch: &[u8],
+    list: &[u8],
+    year: u64,
+    verdicts: &mut [u64],
+    rejects: &mut [u8],
+    result: &mut [u64; 5],
+) -> u64 {
+    // SAFETY: each pointer comes with the length of its slice.
+    unsafe {
+        fantanolive_apply(
+            master.as_mut_ptr(),
+            master.len(),
+            rows,
+            batch.as_ptr(),
+            batch.len(),
+            list.as_ptr(),
+            list.len(),
+            year,
+            verdicts.as_mut_ptr(),
+            verdicts.len(),
+            rejects.as_mut_ptr(),
+            rejects.len(),
+            result.as_mut_ptr(),
+        )
+    }
+}
+
+/// Answers 0 when carried out, else the refusal's number.
+pub fn find(master: &[u8], rows: usize, key: &[u8], place: &mut u64) -> u64 {
+    // SAFETY: each pointer comes with the length of its slice.
+    unsafe {
+        fantanolive_find(
+            master.as_ptr(),
+            master.len(),
+            rows,
+            key.as_ptr(),
+            key.len(),
+            place,
+        )
+    }
+}
+
+/// Answers 0 when carried out, else the refusal's number.
+pub fn reconcile(
+    master: &[u8],
+    rows: usize,
+    state: &[u8],
+    date: &[u8],
+    out: &mut [u8],
+    records: &mut u64,
+) -> u64 {
+    // SAFETY: each pointer comes with the length of its slice.
+    unsafe {
+        fantanolive_reconcile(
+            master.as_ptr(),
+            master.len(),
+            rows,
+            state.as_ptr(),
+            state.len(),
+            date.as_ptr(),
+            date.len(),
+            out.as_mut_ptr(),
+            out.len(),
+            records,
+        )
+    }
+}
