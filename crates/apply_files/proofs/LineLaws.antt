@@ -1,11 +1,11 @@
 -- Laws of the printed text: the state as letters, and texts written one behind the other. Assumes nothing.
 use mathlib.Core.Path.{_≡_, refl, sym, ap, _∙_}
 use mathlib.Core.List.{List, [], _∷_, _++_, map, append-assoc}
-use Prim.Native.Nat.{ℕ, zero, suc, _+_, _-_, _*_, _/_, _≤_, _<_}
+use Prim.Native.Nat.{ℕ, _+_, _*_, _≤_, _<_}
 use native.Mathlib.Numerals.{add-one}
 use native.Mathlib.Omega.{arith}
 use lib.ListN.{length, getD, take, drop, set, length-append, length-take}
-use lib.Seq.{take-suc, take-suc-set, take-take, take-length}
+use lib.Seq.{take-suc, take-suc-set, take-take}
 use Rattle.batch.specs.Totals.{detailCount, controlOf, submittingState}
 use Rattle.apply_files.specs.Ascii.{asciiLetter}
 use Rattle.apply_files.specs.Line.{letters, Written}

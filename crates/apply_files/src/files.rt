@@ -97,11 +97,27 @@ fn rename_both() -> bool {
     rename(b"master.bin.tmp", b"master.bin")
 }
 
+// Has the new names on the disk. The files are in place where that fails too; a message says so.
+fn sync_folder() {
+    let unsynced = b"master.bin and rejects.bin are in place, but the folder isn't synced";
+    let fd = os::open_read(b".");
+    if fd < 0 {
+        os::fail(unsynced);
+        return;
+    }
+    if libc::fsync(fd) != 0 {
+        fail_and_close(unsynced, fd);
+        return;
+    }
+    libc::close(fd);
+}
+
 // Puts the new rejects.bin and master.bin in the place of the old. Each is whole on the disk before either is renamed. Where that fails the
 // temporary files go, and the answer is false.
 pub fn replace(master: &[u8], rejects: &[u8]) -> bool {
     if write_both(master, rejects) {
         if rename_both() {
+            sync_folder();
             return true;
         }
     }

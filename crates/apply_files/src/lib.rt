@@ -36,11 +36,27 @@ fn write_files(
     }
 }
 
+// Says on standard error that standard output doesn't take the line, and, of a run that was carried out, that the files are in place.
+fn fail_line(answer: Applied) {
+    match answer {
+        Applied::Done {
+            accepted: _,
+            rejected: _,
+            warned: _,
+            neither: _,
+            rows: _,
+        } => os::fail(b"master.bin and rejects.bin are in place, but the line can't be printed"),
+        Applied::Refused(_) => os::fail(b"the line can't be printed"),
+    }
+}
+
 // Prints the line of an answer to a batch.
 fn print_line(batch: &[u8], answer: Applied) {
     let mut text = [0u8; 160];
     let n = line::put_line(&mut text, batch, answer);
-    io::write_all(libc::STDOUT_FILENO, first(&text, n));
+    if !io::write_all(libc::STDOUT_FILENO, first(&text, n)) {
+        fail_line(answer);
+    }
 }
 
 // Reads the four files of the present folder, applies the batch, writes, and prints the line.

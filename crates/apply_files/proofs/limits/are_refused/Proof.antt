@@ -1,30 +1,21 @@
-use Rattle.apply_files.specs.Limits.{refusal0}
-use mathlib.Core.Path.{refl}
+-- `limits::are_refused` meets its contract. Assumes nothing.
 use borrow.Author.Needs.{needs}
+use Rattle.apply_files.specs.Limits.{refusal0}
 use Rattle.apply_files.proofs.limits.are_refused.Statement.{statement}
 use Rattle.apply_files.proofs.limits.are_refused.Tie as tie
-use Rattle.apply_files.proofs.limits.are_refused.Reads as reads
-use Rattle.apply_files.proofs.limits.are_refused.Lts as lts
-use Rattle.apply_files.proofs.limits.is_beyond.Reads as is-beyond-reads
-use Rattle.apply_files.proofs.limits.is_missing.Reads as is-missing-reads
 
--- src/limits.rt:43:16
 is-beyond-requires : tie.Need-is-beyond-requires
 is-beyond-requires c κs = search needs
 
--- src/limits.rt:43:50
 is-missing-requires : tie.Need-is-missing-requires
 is-missing-requires c κs = search needs
 
--- src/limits.rt:44:5
 is-beyond-requires-2 : tie.Need-is-beyond-requires-2
 is-beyond-requires-2 c κs = search needs
 
--- src/limits.rt:44:40
 is-beyond-requires-3 : tie.Need-is-beyond-requires-3
 is-beyond-requires-3 c κs = search needs
 
--- src/limits.rt:40:1
 returns : tie.Need-returns
 unfolding refusal0
 returns c = rw (c .before .is-beyond2 .ensures, c .is-beyond3 .ensures, c .before .before .before .is-beyond .ensures, c .before .before .is-missing .ensures)

@@ -1,29 +1,21 @@
-use Rattle.apply_files.proofs.LineLaws.{written-then}
-use Rattle.apply_files.specs.Decimal.{decimal}
-use denote.Ref.{now}
+-- `line::append_item` meets its contract. Assumes nothing.
 use native.Mathlib.Omega.{arith}
-use mathlib.Core.Path.{_≡_, refl, sym, ap, _∙_}
 use borrow.Author.Needs.{needs}
+use denote.Ref.{now}
+use Rattle.apply_files.specs.Decimal.{decimal}
+use Rattle.apply_files.proofs.LineLaws.{written-then}
 use Rattle.apply_files.proofs.line.append_item.Statement.{statement}
 use Rattle.apply_files.proofs.line.append_item.Tie as tie
-use Rattle.apply_files.proofs.line.append_item.Reads as reads
-use Rattle.apply_files.proofs.line.append_item.Lts as lts
-use Rattle.apply_files.proofs.line.append.Reads as append-reads
-use Rattle.apply_files.proofs.line.append_number.Reads as append-number-reads
 
--- src/line.rt:81:9
 append-requires : tie.Need-append-requires
 append-requires c κs = search needs
 
--- src/line.rt:82:5
 append-number-requires : tie.Need-append-number-requires
 append-number-requires c κs = search needs
 
--- src/line.rt:77:1
 same-length : tie.Need-same-length
 same-length c = search needs
 
--- src/line.rt:77:1
 returns : tie.Need-returns
 returns c = (
   written-then (now (c .before .before .before .before .before .before .before .before .before .before .args .out)) (c .before .before .before .before .before .before .append .last .0) (c .before .before .append-number .last .0) (c .before .before .before .before .before .before .before .before .before .before .args .at) (c .before .before .before .before .before .before .append .result) (c .before .before .append-number .result)

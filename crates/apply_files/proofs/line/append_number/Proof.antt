@@ -1,48 +1,36 @@
-use Rattle.apply_files.proofs.DecimalLaws.{twenty-places}
-use Rattle.apply_files.proofs.DecimalLaws.{fewest-decimal}
-use Rattle.apply_files.specs.Decimal.{decimal}
-use denote.Ref.{now}
-use native.Mathlib.Omega.{arith}
-use lib.ListN.{length, take, length-take}
-use Prim.Native.Nat.{ℕ, _+_, _-_, _≤_}
+-- `line::append_number` meets its contract. Assumes nothing.
 use mathlib.Core.List.{List}
-use mathlib.Core.Path.{_≡_, refl, sym, ap, _∙_}
+use mathlib.Core.Path.{_≡_, _∙_}
+use Prim.Native.Nat.{ℕ, _-_, _≤_}
+use native.Mathlib.Omega.{arith}
+use lib.ListN.{take, length-take}
 use borrow.Author.Needs.{needs}
+use Rattle.apply_files.specs.Decimal.{decimal}
+use Rattle.apply_files.proofs.DecimalLaws.{twenty-places, fewest-decimal}
 use Rattle.apply_files.proofs.line.append_number.Statement.{statement}
 use Rattle.apply_files.proofs.line.append_number.Tie as tie
-use Rattle.apply_files.proofs.line.append_number.Reads as reads
-use Rattle.apply_files.proofs.line.append_number.Lts as lts
-use Rattle.apply_files.proofs.line.append.Reads as append-reads
-use Rattle.io.proofs.decimal.Reads as decimal-reads
 
--- src/line.rt:72:9
 decimal-requires : tie.Need-decimal-requires
 decimal-requires c κs = search needs
 
--- src/line.rt:73:21
 sub-append : tie.Need-sub-append
 sub-append c = search needs
 
--- src/line.rt:73:21
 part-append-start : tie.Need-part-append-start
 part-append-start c = search needs
 
--- src/line.rt:73:21
 part-append-end : tie.Need-part-append-end
 part-append-end c = search needs
 
--- src/line.rt:73:5
 append-requires : tie.Need-append-requires
 append-requires c κs =
     let k = c .before .before .before .decimal .result in
     let l : k ≤ 20 = twenty-places (c .before .before .before .before .before .before .args .n) k (omega arith) (c .before .before .before .decimal .ensures .1 .0) in
     simp length-take (omega arith)
 
--- src/line.rt:67:1
 same-length : tie.Need-same-length
 same-length c = search needs
 
--- src/line.rt:67:1
 returns : tie.Need-returns
 returns c =
     let k = c .before .before .before .before .before .before .decimal .result in

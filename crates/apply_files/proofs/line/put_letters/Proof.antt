@@ -1,17 +1,15 @@
-use Rattle.apply_files.proofs.LineLaws.{letters-next}
-use Rattle.apply_files.specs.Line.{letters}
+-- `line::put_letters` meets its contract. The loop's invariant: the letters before i are written. The measure is how many are left. Assumes nothing.
+use mathlib.Core.Path.{_≡_, refl, ap, _∙_}
+use Prim.Native.Nat.{_-_, _≤_}
 use native.Mathlib.Omega.{arith}
-use borrow.Author.Needs.{needs}
-use denote.Ref.{now}
 use lib.Seq.{take-length}
 use lib.ListN.{length, take}
-use mathlib.Core.Path.{_≡_, refl, sym, ap, _∙_}
-use Prim.Native.Nat.{_-_, _≤_}
+use borrow.Author.Needs.{needs}
+use denote.Ref.{now}
+use Rattle.apply_files.specs.Line.{letters}
+use Rattle.apply_files.proofs.LineLaws.{letters-next}
 use Rattle.apply_files.proofs.line.put_letters.Statement.{statement}
 use Rattle.apply_files.proofs.line.put_letters.Tie as tie
-use Rattle.apply_files.proofs.line.put_letters.Reads as reads
-use Rattle.apply_files.proofs.line.put_letters.Lts as lts
-use Rattle.apply_files.proofs.line.ascii_letter.Reads as ascii-letter-reads
 
 abbrev Inv-loop : tie.InvT-loop
 Inv-loop out₀ state i₀ out i = (i ≤ length state) × (length out ≡ length out₀) × (take i out ≡ letters (take i state))
@@ -19,32 +17,25 @@ Inv-loop out₀ state i₀ out i = (i ≤ length state) × (length out ≡ lengt
 abbrev μ-loop : tie.MeasureT-loop
 μ-loop out₀ state i₀ out i = length state - i
 
--- src/line.rt:51:5
 loop-holds : tie.Need-loop-holds Inv-loop μ-loop
 unfolding letters
 loop-holds c = (omega arith, refl, refl)
 
--- src/line.rt:52:31
 shared-slice-read-ascii-letter : tie.Need-shared-slice-read-ascii-letter Inv-loop μ-loop
 shared-slice-read-ascii-letter c = search needs
 
--- src/line.rt:52:18
 ascii-letter-requires : tie.Need-ascii-letter-requires Inv-loop μ-loop
 ascii-letter-requires c κs = search needs
 
--- src/line.rt:52:9
 slice-write-out : tie.Need-slice-write-out Inv-loop μ-loop
 slice-write-out c = search needs
 
--- src/line.rt:53:9
 add-i : tie.Need-add-i Inv-loop μ-loop
 add-i c = search needs
 
--- src/line.rt:51:5
 loop-less : tie.Need-loop-less Inv-loop μ-loop
 loop-less c = search needs
 
--- src/line.rt:51:5
 loop-again : tie.Need-loop-again Inv-loop μ-loop
 loop-again c = (
   search needs,
@@ -53,11 +44,9 @@ loop-again c = (
       (c .ascii-letter .ensures),
 )
 
--- src/line.rt:46:1
 same-length : tie.Need-same-length Inv-loop μ-loop
 same-length c = search needs
 
--- src/line.rt:46:1
 returns : tie.Need-returns Inv-loop μ-loop
 returns c =
     let s = now (c .before .before .before .before .args .state) in

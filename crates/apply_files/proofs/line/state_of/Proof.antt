@@ -1,52 +1,41 @@
-use Rattle.apply_files.proofs.LineLaws.{control-state, length-two}
-use denote.Ref.{now}
+-- `line::state_of` meets its contract. Assumes nothing.
+use mathlib.Core.Path.{_≡_, refl, _∙_}
+use Prim.Native.Nat.{_+_, _-_, _*_, _/_}
 use native.Mathlib.Omega.{arith}
-use lib.ListN.{length, take, drop}
-use Prim.Native.Nat.{ℕ, _+_, _-_, _*_, _/_}
-use mathlib.Core.Path.{_≡_, refl, sym, ap, _∙_}
+use lib.ListN.{length, drop}
 use borrow.Author.Needs.{needs}
+use denote.Ref.{now}
+use Rattle.apply_files.proofs.LineLaws.{control-state, length-two}
 use Rattle.apply_files.proofs.line.state_of.Statement.{statement}
 use Rattle.apply_files.proofs.line.state_of.Tie as tie
-use Rattle.apply_files.proofs.line.state_of.Reads as reads
-use Rattle.apply_files.proofs.line.state_of.Lts as lts
-use Rattle.apply_files.proofs.parts.first.Reads as first-reads
 
--- src/line.rt:38:9
 first-requires : tie.Need-first-requires
 first-requires c κs = search needs
 
--- src/line.rt:38:9
 returns : tie.Need-returns
 returns c =
     let b = now (c .before .before .before .args .batch) in
     let z : 0 ≡ (length b / 245 - 1) * 245 = omega arith in
     (c .first .ensures ∙ control-state b 0 z, rw (c .first .ensures) (length-two b))
 
--- src/line.rt:40:15
 sub-at : tie.Need-sub-at
 sub-at c = search needs
 
--- src/line.rt:40:14
 mul-at : tie.Need-mul-at
 mul-at c = search needs
 
--- src/line.rt:41:15
 add-end : tie.Need-add-end
 add-end c = search needs
 
--- src/line.rt:42:5
 sub-result : tie.Need-sub-result
 sub-result c = search needs
 
--- src/line.rt:42:5
 part-result-start : tie.Need-part-result-start
 part-result-start c = search needs
 
--- src/line.rt:42:5
 part-result-end : tie.Need-part-result-end
 part-result-end c = search needs
 
--- src/line.rt:33:1
 returns-2 : tie.Need-returns-2
 returns-2 c =
     let b = now (c .before .before .before .args .batch) in

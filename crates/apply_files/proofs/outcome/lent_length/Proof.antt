@@ -1,17 +1,13 @@
-use Rattle.apply_files.specs.Run.{lentLength}
+-- `outcome::lent_length` meets its contract. Assumes nothing.
 use borrow.Author.Tests.{eq-eqb, ne-eqb}
-use mathlib.Core.Path.{refl}
+use Rattle.apply_files.specs.Run.{lentLength}
 use Rattle.apply_files.proofs.outcome.lent_length.Statement.{statement}
 use Rattle.apply_files.proofs.outcome.lent_length.Tie as tie
-use Rattle.apply_files.proofs.outcome.lent_length.Reads as reads
-use Rattle.apply_files.proofs.outcome.lent_length.Lts as lts
 
--- src/outcome.rt:29:1
 returns : tie.Need-returns
 unfolding lentLength
 returns c = rw (eq-eqb _ _ (c .if1 .taken))
 
--- src/outcome.rt:29:1
 returns-2 : tie.Need-returns-2
 unfolding lentLength
 returns-2 c = rw (ne-eqb _ _ (c .if1 .left))

@@ -1,63 +1,47 @@
-use Rattle.apply_files.proofs.RunLaws.{in-space}
-use Rattle.apply_files.specs.Run.{runOutcome}
-use lib.ListN.{length}
+-- `outcome::outcome_of` meets its contract. Assumes nothing.
+use mathlib.Core.Path.{_≡_, sym, _∙_}
 use native.Mathlib.Omega.{arith}
-use mathlib.Core.Path.{_≡_, refl, sym, ap, _∙_}
+use lib.ListN.{length}
 use borrow.Author.Needs.{needs}
+use Rattle.apply_files.specs.Run.{runOutcome}
+use Rattle.apply_files.proofs.RunLaws.{in-space}
 use Rattle.apply_files.proofs.outcome.outcome_of.Statement.{statement}
 use Rattle.apply_files.proofs.outcome.outcome_of.Tie as tie
-use Rattle.apply_files.proofs.outcome.outcome_of.Reads as reads
-use Rattle.apply_files.proofs.outcome.outcome_of.Lts as lts
-use Rattle.apply_files.proofs.limits.are_refused.Reads as are-refused-reads
-use Rattle.apply_files.proofs.outcome.length_of.Reads as length-of-reads
-use Rattle.apply_files.proofs.outcome.with_year_text.Reads as with-year-text-reads
-use Rattle.apply_files.proofs.parts.first.Reads as first-reads
 
--- src/outcome.rt:59:8
 are-refused-requires : tie.Need-are-refused-requires
 are-refused-requires c κs = search needs
 
--- src/outcome.rt:60:9
 returns : tie.Need-returns
 unfolding runOutcome
 returns c = rw (sym (c .before .are-refused .ensures) ∙ c .if1 .taken)
 
--- src/outcome.rt:62:36
 length-of-requires : tie.Need-length-of-requires
 length-of-requires c κs = search needs
 
--- src/outcome.rt:62:9
 first-requires : tie.Need-first-requires
 first-requires c κs = search needs
 
--- src/outcome.rt:63:38
 length-of-requires-2 : tie.Need-length-of-requires-2
 length-of-requires-2 c κs = search needs
 
--- src/outcome.rt:63:9
 first-requires-2 : tie.Need-first-requires-2
 first-requires-2 c κs = search needs
 
--- src/outcome.rt:64:34
 length-of-requires-3 : tie.Need-length-of-requires-3
 length-of-requires-3 c κs = search needs
 
--- src/outcome.rt:64:9
 first-requires-3 : tie.Need-first-requires-3
 first-requires-3 c κs = search needs
 
--- src/outcome.rt:65:28
 length-of-requires-4 : tie.Need-length-of-requires-4
 length-of-requires-4 c κs = search needs
 
--- src/outcome.rt:65:5
 with-year-text-requires : tie.Need-with-year-text-requires
 with-year-text-requires c κs =
     let a = c .before .before .before .before .before .before .before .before .before .before .before .before .before .before .before .args in
     let n : length (a .master .now) ≡ 40001 = search needs in
     (omega (arith, c .before .before .length-of4 .ensures, in-space (a .m) (a .b) (a .l) (a .y) (sym (c .before .before .before .before .before .before .before .before .before .before .before .are-refused .ensures) ∙ c .before .before .before .before .before .before .before .before .before .before .if1 .left)), omega arith)
 
--- src/outcome.rt:56:1
 returns-2 : tie.Need-returns-2
 unfolding runOutcome
 returns-2 c =

@@ -1,52 +1,40 @@
-use Rattle.apply_files.proofs.RunLaws.{lent-bound, rest-behind}
-use Rattle.apply_files.specs.Run.{lentLength}
-use denote.Ref.{now}
+-- `outcome::with_year` meets its contract. Assumes nothing.
+use mathlib.Core.Path.{_≡_}
+use Prim.Native.Nat.{_-_, _≤_}
 use native.Mathlib.Omega.{arith}
-use Prim.Native.Nat.{ℕ, _-_, _≤_}
-use mathlib.Core.Path.{_≡_, refl, sym, ap, _∙_}
 use borrow.Author.Needs.{needs}
+use denote.Ref.{now}
+use Rattle.apply_files.specs.Run.{lentLength}
+use Rattle.apply_files.proofs.RunLaws.{lent-bound, rest-behind}
 use Rattle.apply_files.proofs.outcome.with_year.Statement.{statement}
 use Rattle.apply_files.proofs.outcome.with_year.Tie as tie
-use Rattle.apply_files.proofs.outcome.with_year.Reads as reads
-use Rattle.apply_files.proofs.outcome.with_year.Lts as lts
-use Rattle.apply_files.proofs.outcome.lent_length.Reads as lent-length-reads
-use Rattle.batch.proofs.apply.apply.Reads as apply-reads
 
--- src/outcome.rt:39:9
 lent-length-requires : tie.Need-lent-length-requires
 lent-length-requires c κs = search needs
 
--- src/outcome.rt:40:18
 sub-apply : tie.Need-sub-apply
 sub-apply c = search needs
 
--- src/outcome.rt:40:18
 part-apply-start : tie.Need-part-apply-start
 part-apply-start c = search needs
 
--- src/outcome.rt:40:18
 part-apply-end : tie.Need-part-apply-end
 part-apply-end c =
     let l : lentLength (c .before .before .before .before .before .before .args .n) ≤ 40000 = lent-bound (c .before .before .before .before .before .before .args .n) (c .before .before .before .before .before .before .pre .0) in
     omega (arith, c .lent-length .ensures, c .before .before .before .before .before .before .pre .1)
 
--- src/outcome.rt:40:5
 apply-requires : tie.Need-apply-requires
 apply-requires c κs = search needs
 
--- src/outcome.rt:35:1
 same-length : tie.Need-same-length
 same-length c = search needs
 
--- src/outcome.rt:35:1
 same-length-2 : tie.Need-same-length-2
 same-length-2 c = search needs
 
--- src/outcome.rt:35:1
 same-length-3 : tie.Need-same-length-3
 same-length-3 c = search needs
 
--- src/outcome.rt:35:1
 returns : tie.Need-returns
 returns c =
     let e = c .before .before .before .before .before .before .before .before .before .before .lent-length .result in

@@ -1,33 +1,26 @@
-use denote.Ref.{now}
+-- `parts::first` meets its contract. Assumes nothing.
+use mathlib.Core.Path.{_≡_, sym, ap}
+use Prim.Native.Nat.{ℕ, _-_}
+use native.Mathlib.Omega.{arith}
 use lib.Seq.{take-all}
 use lib.ListN.{take}
-use native.Mathlib.Omega.{arith}
-use mathlib.Core.Path.{_≡_}
-use Prim.Native.Nat.{ℕ, _-_}
-use mathlib.Core.Path.{sym, ap}
 use borrow.Author.Needs.{needs}
+use denote.Ref.{now}
 use Rattle.apply_files.proofs.parts.first.Statement.{statement}
 use Rattle.apply_files.proofs.parts.first.Tie as tie
-use Rattle.apply_files.proofs.parts.first.Reads as reads
-use Rattle.apply_files.proofs.parts.first.Lts as lts
 
--- src/parts.rt:10:9
 returns : tie.Need-returns
 returns c = sym (take-all (c .before .args .n) (now (c .before .args .s)) (omega arith))
 
--- src/parts.rt:12:5
 sub-result : tie.Need-sub-result
 sub-result c = search needs
 
--- src/parts.rt:12:5
 part-result-start : tie.Need-part-result-start
 part-result-start c = search needs
 
--- src/parts.rt:12:5
 part-result-end : tie.Need-part-result-end
 part-result-end c = search needs
 
--- src/parts.rt:6:1
 returns-2 : tie.Need-returns-2
 returns-2 c =
     let e : c .before .before .args .n - 0 ≡ c .before .before .args .n = omega arith in

@@ -1,29 +1,21 @@
-use mathlib.Core.Path.{refl}
+-- `year::are_digits` meets its contract. Assumes nothing.
 use mathlib.Core.Bool.{and-true}
 use borrow.Author.Needs.{needs}
 use Rattle.apply_files.proofs.year.are_digits.Statement.{statement}
 use Rattle.apply_files.proofs.year.are_digits.Tie as tie
-use Rattle.apply_files.proofs.year.are_digits.Reads as reads
-use Rattle.apply_files.proofs.year.are_digits.Lts as lts
-use Rattle.layout.proofs.characters.is_within.Reads as is-within-reads
 
--- src/year.rt:29:15
 is-within-requires : tie.Need-is-within-requires
 is-within-requires c κs = search needs
 
--- src/year.rt:29:42
 is-within-requires-2 : tie.Need-is-within-requires-2
 is-within-requires-2 c κs = search needs
 
--- src/year.rt:30:5
 is-within-requires-3 : tie.Need-is-within-requires-3
 is-within-requires-3 c κs = search needs
 
--- src/year.rt:30:33
 is-within-requires-4 : tie.Need-is-within-requires-4
 is-within-requires-4 c κs = search needs
 
--- src/year.rt:26:1
 returns : tie.Need-returns
 returns c = rw (and-true, c .before .is-within3 .ensures, c .is-within4 .ensures, c .before .before .before .is-within .ensures, c .before .before .is-within2 .ensures)
 
