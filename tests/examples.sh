@@ -29,3 +29,9 @@ else
     echo "skipped: GnuCOBOL is not installed"
 fi
 compare examples/rust apply-rust
+if bin/paper-example >target/examples/paper.out && diff examples/paper/expected.txt target/examples/paper.out; then
+    echo "examples/paper: passed"
+else
+    echo "examples/paper: failed"
+    exit 1
+fi

@@ -1,16 +1,14 @@
 -- The first refusal from its parts, and the outcome of a run from what the work left. Assumes nothing.
-use Prim.Native.Nat.{ℕ, suc, _+_, _*_, _/_, _≤_, _<_}
+use Prim.Native.Nat.{ℕ, _+_, _*_, _/_, _≤_, _<_}
 use mathlib.Core.Path.{_≡_, refl, sym, ap, _∙_}
-use mathlib.Core.Bool.{Bool, true, false, cond, _||_}
-use mathlib.Core.List.{List, [], _∷_, _++_}
-use native.Mathlib.Nat.{suc-ne-zero}
+use mathlib.Core.Bool.{Bool, true, false, cond}
+use mathlib.Core.List.{List, _++_}
 use native.Mathlib.Omega.{arith}
-use lib.Dec.{eqb, ltb, lit≤}
+use lib.Dec.{eqb, lit≤}
 use lib.ListN.{length, take, drop, length-drop, take-append-drop}
 use lib.Seq.{length-take-le}
 use borrow.Author.Tests.{eq-eqb, ne-eqb, lt-ltb, le-ltb}
-use Rattle.layout.specs.Blocks.{blocks, joined, over, spliced, Holds}
-use Rattle.layout.specs.Fields.{Inside}
+use Rattle.layout.specs.Blocks.{joined, over, spliced}
 use Rattle.layout.specs.Master.{rowsOf}
 use Rattle.layout.proofs.FieldsLaws.{length-columns}
 use Rattle.layout.proofs.BlocksLaws.{length-blocks, holds-over}
@@ -19,7 +17,7 @@ use Rattle.batch.specs.Rejects.{numbers, rejectRecords}
 use Rattle.batch.specs.Counts.{Counts, countsOf, controlRecord}
 use Rattle.batch.specs.Tally.{countsIn}
 use Rattle.batch.specs.Totals.{detailCount, detailsOf, controlOf, submittingState}
-use Rattle.batch.specs.Apply.{Call, Result, Outcome, IsOutcome, newRows, refusal1, refusal2, refusal9, refusal10, refusal11, orElse, spaceRefusal, batchRefusal, masterRefusal, applyRefusal, resultOf, resultIn, outcomeOf, callRows, callVerdicts, carriedOut, applyOutcome}
+use Rattle.batch.specs.Apply.{Call, Outcome, IsOutcome, newRows, refusal1, refusal2, refusal9, refusal10, refusal11, orElse, spaceRefusal, batchRefusal, masterRefusal, applyRefusal, resultOf, resultIn, outcomeOf, callRows, callVerdicts, carriedOut, applyOutcome}
 use Rattle.batch.specs.Progress.{Worked}
 use Rattle.batch.specs.declared.counts.Tally.{Tally}
 use Rattle.batch.specs.declared.apply.Applied.{Applied}
@@ -28,7 +26,7 @@ use Rattle.batch.proofs.BatchLaws.{batch-behind}
 use Rattle.batch.proofs.RefusalsLaws.{master-passed, master-refused}
 use Rattle.batch.proofs.CountsLaws.{length-control}
 use Rattle.batch.proofs.HoldsLaws.{holds-last}
-use Rattle.batch.proofs.GoingLaws.{Known}
+use Rattle.batch.proofs.KnownLaws.{Known}
 
 -- ---- the space
 

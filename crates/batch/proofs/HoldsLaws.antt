@@ -4,18 +4,11 @@ use mathlib.Core.Path.{_≡_, refl, sym, ap, _∙_}
 use mathlib.Core.List.{List, [], _∷_, _++_, append-assoc, append-nil}
 use native.Mathlib.Nat.{one-mul, add-mul, mul-le-mul-right}
 use native.Mathlib.Omega.{arith}
-use lib.ListN.{length, drop, length-append}
-use lib.Seq.{drop-drop}
+use lib.ListN.{length, length-append}
 use Rattle.layout.specs.Blocks.{blocks, joined, over, spliced, Holds}
 use Rattle.layout.proofs.SplicedLaws.{length-spliced}
+use Rattle.layout.proofs.MovedLaws.{kept-further}
 use Rattle.layout.proofs.BlocksLaws.{length-blocks, holds-append, holds-over}
-
--- what is kept from a place on is kept from a later one on
-pub kept-later : (x y : List ℕ) (a z : ℕ) → a ≤ z → drop a x ≡ drop a y → drop z x ≡ drop z y
-kept-later x y a z l e =
-    let ez : a + (z - a) ≡ z = omega arith in
-    let from : (s : List ℕ) → drop (z - a) (drop a s) ≡ drop z s = λ s. drop-drop (z - a) a s ∙ ap (λ (t : ℕ). drop t s) ez in
-    sym (from x) ∙ ap (drop (z - a)) e ∙ from y
 
 -- blocks joined in two parts
 pub joined-append : (a b : List (List ℕ)) → joined (a ++ b) ≡ joined a ++ joined b
@@ -43,7 +36,7 @@ module _ (w : ℕ) where
       let l : n ≤ k = omega (arith, holds-count g, length-append (blocks w n m₁) b, length-blocks w n m₁) in
       record {
         blocks-are = g .blocks-are ∙ ap (λ (z : List (List ℕ)). z ++ b) (h .blocks-are);
-        rest-kept = g .rest-kept ∙ kept-later m₁ m (n * w) (k * w) (mul-le-mul-right w l) (h .rest-kept);
+        rest-kept = g .rest-kept ∙ kept-further m₁ m (n * w) (k * w) (mul-le-mul-right w l) (h .rest-kept);
       }
 
   -- a last block behind those given: the whole buffer

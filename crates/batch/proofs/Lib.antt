@@ -8,9 +8,7 @@ pub mod TwoBatchesProof
 pub mod ColumnsWritten
 pub mod CountsLaws
 pub mod RejectsLaws
-pub mod GoingLaws
-pub mod PlaceLaws
-pub mod TurnLaws
+pub mod WritingLaws
 pub mod LimitsLaws
 pub mod SumLaws
 pub mod ControlLaws
@@ -23,3 +21,16 @@ pub mod ReconcileOutcomeLaws
 pub mod NewLaws
 pub mod FindLaws
 pub mod ApplyLaws
+pub mod KeyOrderLaws
+pub mod GroupLaws
+pub mod PassLaws
+pub mod MarkLaws
+pub mod StandLaws
+pub mod WalkLaws
+pub mod KeysLaws
+pub mod WalkingLaws
+pub mod CountingLaws
+pub mod WorkLaws
+pub mod WalkStepLaws
+pub mod KnownLaws
+pub mod WorkedLaws

@@ -13,3 +13,8 @@ max-records = refl
 pub few-records : maxRecords ≤ 2 ^ 32
 unfolding maxRecords
 few-records = lit≤ tt
+
+-- and a detail's index has 24 bits
+pub few-details : maxRecords ≤ 2 ^ 24
+unfolding maxRecords
+few-details = lit≤ tt

@@ -8,6 +8,9 @@ pub mod Tally
 pub mod Answers
 pub mod Apply
 pub mod Progress
+pub mod Written
 pub mod Find
 pub mod Reconcile
 pub mod TwoBatches
+pub mod Walk
+pub mod Walking

@@ -1,12 +1,16 @@
-// Applying a batch: the refusals in order, then each detail in turn.
+// Applying a batch: the refusals in order, then its details, key by key.
 use crate::counts;
-use crate::counts::Tally;
 use crate::refusals;
 use crate::totals;
-use crate::turn;
-use crate::turn::Progress;
+use crate::verdicts;
+use crate::verdicts::Progress;
+use crate::walk;
+use keyorder::key_work;
+use keyorder::order;
+use keyorder::records;
 use layout::chart_a2;
 use layout::fields;
+use layout::master;
 use layout::search;
 use layout::search::Place;
 use onecase::record;
@@ -20,7 +24,7 @@ ghost use Rattle.layout.specs.Master.{rowsOf, areSoundRows};
 ghost use Rattle.batch.specs.Totals.{detailCount, submittingState};
 ghost use Rattle.batch.specs.Counts.{controlRecord};
 ghost use Rattle.batch.specs.Tally.{countsIn, AtMost};
-ghost use Rattle.batch.specs.Progress.{noTally, Worked};
+ghost use Rattle.batch.specs.Progress.{Worked};
 ghost use Rattle.batch.specs.Apply.{newRows, spaceRefusal, applyRefusal, carriedOut, resultOf, resultIn, callOf, outcomeOf, IsOutcome};
 
 // The answer of the call: the counts of a run that is carried out, or the number of the refusal.
@@ -59,7 +63,7 @@ fn count_new(m: &[u8], n: usize, batch: &[u8], d: usize) -> usize
     let mut count: usize = 0;
     let mut i: usize = 0;
     while i < d {
-        let rec = totals::record_at(batch, i);
+        let rec = records::record_at(batch, i);
         count += is_new(m, n, rec);
         i += 1;
     }
@@ -123,22 +127,7 @@ fn first_refusal(
     space_refusal(m, n, batch, locals, year, verdicts, rejects)
 }
 
-// No counts yet.
-fn no_tally() -> Tally
-    ensures { λ r. ⌜ r ≡ noTally ⌝ }
-{
-    Tally {
-        tanf_accepted: 0,
-        tanf_rejected: 0,
-        non_tanf_accepted: 0,
-        non_tanf_rejected: 0,
-        tanf_warned: 0,
-        non_tanf_warned: 0,
-        neither: 0,
-    }
-}
-
-// Each detail in turn, from the first to the last.
+// All details worked, key by key: what that leaves is what each in turn leaves.
 fn work(
     m: &mut [u8],
     n: usize,
@@ -153,19 +142,13 @@ fn work(
     ensures { λ r. ⌜ Worked (callOf (now (m .entry)) n (now (batch .entry)) (now (list .entry)) year (now (verdicts .entry)) (now (rejects .entry))) (now (m .exit)) (r .rows) (now (verdicts .exit)) (now (rejects .exit)) (r .rejects) (r .tally) ⌝ }
 {
     let d = batch.len() / 245 - 1;
-    let tally = no_tally();
-    let mut s = Progress {
-        rows: n,
-        rejects: 0,
-        tally,
-    };
-    let mut i: usize = 0;
-    while i < d {
-        let rec = totals::record_at(batch, i);
-        s = turn::turn(m, s, i, rec, state, year, list, verdicts, rejects);
-        i += 1;
-    }
-    s
+    let own = order::order_details(batch, d, state, verdicts);
+    let new = walk::new_rows(m, n, batch, verdicts, own, state, year, list);
+    let rows = n + new;
+    master::shift_rows(m, n, new);
+    walk::walk_keys(m, new, rows, batch, verdicts, own, state, year, list);
+    key_work::judge_alone(batch, verdicts, own, d, state, year, list);
+    verdicts::write_verdicts(rows, batch, d, verdicts, rejects)
 }
 
 // Writes the control record behind the reject records, and answers the counts.
@@ -200,7 +183,7 @@ fn run(
     ensures { λ r. ⌜ outcomeOf r (now (m .exit)) (now (verdicts .exit)) (now (rejects .exit)) ≡ carriedOut (callOf (now (m .entry)) n (now (batch .entry)) (now (locals .entry)) year (now (verdicts .entry)) (now (rejects .entry))) ⌝ }
 {
     let d = batch.len() / 245 - 1;
-    let control = totals::record_at(batch, d);
+    let control = records::record_at(batch, d);
     let state = fields::field(&control, chart_a2::STATE);
     let s = work(m, n, batch, state, year, locals, verdicts, rejects);
     finish(s, state, rejects, d)

@@ -6,4 +6,5 @@ pub mod reconcile;
 pub mod refusals;
 pub mod rejects;
 pub mod totals;
-pub mod turn;
+pub mod verdicts;
+pub mod walk;

@@ -1,5 +1,6 @@
 // Reconciliation.
 use crate::refusals;
+use keyorder::records::RECORD_WIDTH;
 use layout::calendar;
 use layout::chart_06;
 use layout::chart_07;
@@ -32,8 +33,6 @@ struct Cases {
     tanf: usize,
     non_tanf: usize,
 }
-
-const RECORD_WIDTH: usize = 245;
 
 // A first name cut to ten.
 const FIRST_NAME_CUT: Columns = Columns {

@@ -1,5 +1,7 @@
 // A batch: details, then the control record of Chart A-2, and the totals that it carries.
 use crate::refusals;
+use keyorder::records;
+use keyorder::records::RECORD_WIDTH;
 use layout::chart_a1;
 use layout::chart_a2;
 use layout::fields;
@@ -15,8 +17,6 @@ ghost use Rattle.batch.specs.Totals.{isControl, amountIn};
 ghost use Rattle.batch.specs.TotalsParts.{countIn, hasAmount, HasRoom, IsAdded, AreTotals, countsAgree, amountsAgree};
 ghost use Rattle.batch.specs.Apply.{refusal5, batchRefusal};
 
-pub const RECORD_WIDTH: usize = 245;
-
 // The case types.
 pub const TANF: u8 = 0xC1;
 
@@ -31,18 +31,6 @@ pub struct Totals {
     pub non_tanf_count: u64,
     pub tanf_amount: u64,
     pub non_tanf_amount: u64,
-}
-
-// The record at place i, copied out.
-pub fn record_at(batch: &[u8], i: usize) -> [u8; 245]
-    requires { ⌜ i * 245 + 245 ≤ length (now batch) ⌝ }
-    ensures { λ r. ⌜ r ≡ take 245 (drop (i * 245) (now (batch .entry))) ⌝ }
-{
-    let at = i * RECORD_WIDTH;
-    let end = at + RECORD_WIDTH;
-    let mut r = [0u8; 245];
-    fields::copy_in(&mut r, 0, &batch[at..end]);
-    r
 }
 
 // Whether a record has the control record's form: a state of the table, CTL, digits, spaces.
@@ -109,7 +97,7 @@ fn totals_of(batch: &[u8], n: usize) -> Totals
     };
     let mut i: usize = 0;
     while i < n {
-        let rec = record_at(batch, i);
+        let rec = records::record_at(batch, i);
         t = with_detail(t, &rec);
         i += 1;
     }
@@ -152,7 +140,7 @@ pub fn batch_refusal(batch: &[u8]) -> u64
         return 5;
     }
     let details = batch.len() / RECORD_WIDTH - 1;
-    let control = record_at(batch, details);
+    let control = records::record_at(batch, details);
     if !is_control(&control) {
         return 6;
     }

@@ -1,15 +1,15 @@
 -- Laws of blocks that stand one behind the other, and of a buffer that holds blocks and keeps the rest, over any width.
 -- Assumes nothing.
-use mathlib.Core.Path.{_≡_, refl, sym, ap, _∙_, subst}
+use mathlib.Core.Path.{_≡_, refl, sym, ap, _∙_}
 use mathlib.Core.Bool.{Bool, true, _&&_}
-use mathlib.Core.List.{List, [], _∷_, _++_, append-nil, map}
+use mathlib.Core.List.{List, [], _∷_, _++_, map}
 use Prim.Native.Nat.{ℕ, zero, suc, _+_, _-_, _*_, _≤_, _<_}
 use native.Mathlib.Nat.{suc-add, zero-add, zero-mul, one-mul, suc-mul, add-mul, mul-le-mul-right, not-suc-le-zero, le-of-suc-le-suc, le-refl}
 use native.Mathlib.Numerals.{add-one}
 use native.Mathlib.Omega.{arith}
-use lib.ListN.{length, take, drop, getD, set, length-take, length-drop, take-append-drop, drop-of-length-le}
+use lib.ListN.{length, take, drop, getD, length-drop, take-append-drop, drop-of-length-le}
 use lib.Seq.{length-take-le, take-append-le, drop-append-le, take-take, take-add, take-all}
-use lib.Seq.{drop-drop, drop-cons, set-split}
+use lib.Seq.{drop-drop, drop-cons}
 use Rattle.layout.specs.Blocks.{blocks, everyBlock, joined, over, spliced, Holds}
 use Rattle.layout.proofs.SplicedLaws.{drop-spliced, drop-take}
 
@@ -111,36 +111,6 @@ module _ (w : ℕ) where
   every-block-end f n xs i l = rw (drop-of-length-le (blocks w n xs) {i = i} (rw (length-blocks n xs) l))
 
   -- ---- what a buffer holds
-
-  stored : (p q : ℕ) (m r : List ℕ) → length r ≡ w → (p + (1 + q)) * w ≤ length m
-      → Holds w m (spliced m (p * w) r) (p + (1 + q)) (set (blocks w (p + (1 + q)) m) p r)
-  unfolding spliced
-  stored p q m r er h =
-      let n : ℕ = p + (1 + q) in
-      let en : n * w ≡ p * w + (w + q * w) = omega (arith, add-mul p (1 + q) w, add-mul 1 q w, one-mul w) in
-      let b : List ℕ = drop (p * w + length r) m in
-      let ea : length (take (p * w) m) ≡ p * w = length-take-le (p * w) m (omega arith) in
-      let hb : q * w ≤ length b = rw (length-drop (p * w + length r) m) (omega arith) in
-      let es : suc p * w ≡ p * w + length r = omega (arith, suc-mul p w) in
-      let ep : suc p + q ≡ n = omega arith in
-      let eb : blocks w q b ≡ drop (suc p) (blocks w n m) = rw (← es, ← ep) (sym (drop-blocks (suc p) q m)) in
-      record {
-        blocks-are =
-            ap (λ (z : List ℕ). blocks w n (take (p * w) m ++ (r ++ z))) (sym (append-nil b))
-            ∙ blocks-parts p q (take (p * w) m) r b [] ea er hb
-            ∙ ap (λ (z : List (List ℕ)). z ++ r ∷ blocks w q b) (blocks-prefix p m ∙ sym (take-blocks p n m (omega arith)))
-            ∙ ap (λ (z : List (List ℕ)). take p (blocks w n m) ++ r ∷ z) eb
-            ∙ sym (set-split (blocks w n m) p r (rw (length-blocks n m) (omega arith)));
-        rest-kept = drop-spliced m (p * w) r (n * w) (omega arith) (omega arith);
-      }
-
-  -- a block written over block p of n
-  pub holds-set : (n p : ℕ) (m r : List ℕ) → length r ≡ w → p < n → n * w ≤ length m
-      → Holds w m (spliced m (p * w) r) n (set (blocks w n m) p r)
-  holds-set n p m r er l h =
-      let e : p + (1 + (n - suc p)) ≡ n = omega arith in
-      subst (λ (z : ℕ). Holds w m (spliced m (p * w) r) z (set (blocks w z m) p r)) e
-      (stored p (n - suc p) m r er (rw e h))
 
   -- a block written behind n
   pub holds-append : (n : ℕ) (m r : List ℕ) → length r ≡ w → n * w + w ≤ length m

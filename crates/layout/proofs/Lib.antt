@@ -11,4 +11,4 @@ pub mod CodesLaws
 pub mod LocalsLaws
 pub mod SearchLaws
 pub mod HalvingLaws
-pub mod ShiftedLaws
+pub mod MovedLaws

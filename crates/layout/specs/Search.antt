@@ -1,11 +1,15 @@
 -- For the contracts of inner functions; no rule of the papers stands here.
--- What a search for a key among rows in rising order answers, and a row put in at a place. Assumes nothing.
-use Prim.Native.Nat.{ℕ, _+_, _-_, _≤_}
+-- What a search for a key among rows answers, and rows put in, pulled down and moved up. Assumes nothing.
+use Prim.Native.Nat.{ℕ, _+_, _-_, _*_, _≤_, _<_}
 use mathlib.Core.Path.{_≡_}
-use mathlib.Core.List.{List, _∷_, _++_}
-use mathlib.Core.Option.{Option, none, some}
+use mathlib.Core.Bool.{true, false}
+use mathlib.Core.Logic.{_⊎_}
+use mathlib.Core.List.{List, [], _∷_, _++_}
+use mathlib.Core.Option.{none, some}
 use lib.ListN.{length, take, drop}
+use Rattle.layout.specs.Key.{orderOf, isLess}
 use Rattle.layout.specs.Row.{rowKey}
+use Rattle.layout.specs.Master.{rowsOf}
 use Rattle.layout.specs.Rows.{placeWith, withRow}
 use Rattle.layout.specs.declared.search.Place.{Place}
 use Rattle.layout.specs.declared.search.Place.the-variants.{At, Gap}
@@ -28,3 +32,27 @@ pub record IsGap (p : ℕ) (key : List ℕ) (rows : List (List ℕ)) : Type 0 wh
 abbrev pub IsPlace : Place → List ℕ → List (List ℕ) → Type 0
 IsPlace (At p) key rows = placeWith key rows ≡ some p
 IsPlace (Gap p) key rows = IsGap p key rows
+
+-- from place `from` on, count rows have keys below the one given, and the row behind them, if it's before place end, hasn't
+pub record AreBelow (m : List ℕ) (from end : ℕ) (key : List ℕ) (count : ℕ) : Type 0 where
+  pub within : from + count ≤ end
+  pub below : (j : ℕ) → j < count → isLess (orderOf (take 12 (drop ((from + j) * 200) m)) key) ≡ true
+  pub stops : (from + count ≡ end) ⊎ (isLess (orderOf (take 12 (drop ((from + count) * 200) m)) key) ≡ false)
+
+-- the buffer has a row at place p; the rows before it and the bytes behind it are kept
+pub record RowPut (before : List ℕ) (p : ℕ) (row after : List ℕ) : Type 0 where
+  pub rows-are : rowsOf (p + 1) after ≡ rowsOf p before ++ row ∷ []
+  pub rest-kept : drop ((p + 1) * 200) after ≡ drop ((p + 1) * 200) before
+  pub same-length : length after ≡ length before
+
+-- count rows from place `from` on are copied down to place `to`; the rows before it and the bytes behind those copied are kept
+pub record Pulled (before : List ℕ) (from to count : ℕ) (after : List ℕ) : Type 0 where
+  pub rows-are : rowsOf (to + count) after ≡ rowsOf to before ++ rowsOf count (drop (from * 200) before)
+  pub rest-kept : drop ((from + count) * 200) after ≡ drop ((from + count) * 200) before
+  pub same-length : length after ≡ length before
+
+-- the first n rows stand `by` places further up; the bytes behind them are kept
+pub record Raised (before : List ℕ) (n by : ℕ) (after : List ℕ) : Type 0 where
+  pub rows-are : rowsOf n (drop (by * 200) after) ≡ rowsOf n before
+  pub rest-kept : drop ((n + by) * 200) after ≡ drop ((n + by) * 200) before
+  pub same-length : length after ≡ length before

@@ -3,11 +3,12 @@ use crate::fields;
 use crate::key;
 use crate::row;
 ghost use mathlib.Core.Path.{_≡_};
-ghost use Prim.Native.Nat.{_+_, _*_, _≤_, _<_};
-ghost use lib.ListN.{length, take, drop, set};
-ghost use Rattle.layout.specs.Blocks.{everyBlock, Holds};
+ghost use Prim.Native.Nat.{_+_, _*_, _≤_};
+ghost use lib.ListN.{length, take, drop};
+ghost use Rattle.layout.specs.Blocks.{everyBlock, spliced};
 ghost use Rattle.layout.specs.Row.{isSoundRow};
 ghost use Rattle.layout.specs.Master.{rowsOf, areSoundRows};
+ghost use Rattle.layout.specs.Search.{Pulled, RowPut, Raised};
 
 pub const ROW_WIDTH: usize = 200;
 
@@ -23,12 +24,51 @@ pub fn row_at(m: &[u8], p: usize) -> [u8; 200]
     r
 }
 
-// Copies a row in at place p of n; the other rows and what stands behind them are kept.
-pub fn replace_row(m: &mut [u8], n: usize, p: usize, row: [u8; 200])
-    requires { ⌜ (p < n) × (n * 200 ≤ length (now m)) ⌝ }
-    ensures { λ _. ⌜ Holds 200 (now (m .entry)) (now (m .exit)) n (set (rowsOf n (now (m .entry))) p row) ⌝ }
+// Writes a row at place p; the rows before it and what stands behind it are kept.
+pub fn put_row(m: &mut [u8], p: usize, row: [u8; 200])
+    requires { ⌜ p * 200 + 200 ≤ length (now m) ⌝ }
+    ensures { λ _. ⌜ RowPut (now (m .entry)) p row (now (m .exit)) ⌝ }
 {
     fields::copy_in(m, p * ROW_WIDTH, &row);
+}
+
+// Copies the row at place `from` over the one at place `to`.
+fn copy_row(m: &mut [u8], from: usize, to: usize)
+    requires { ⌜ (from * 200 + 200 ≤ length (now m)) × (to * 200 + 200 ≤ length (now m)) ⌝ }
+    ensures { λ _. ⌜ now (m .exit) ≡ spliced (now (m .entry)) (to * 200) (take 200 (drop (from * 200) (now (m .entry)))) ⌝ }
+{
+    let row = row_at(m, from);
+    fields::copy_in(m, to * ROW_WIDTH, &row);
+}
+
+// Copies `count` rows from place `from` on down to place `to` on.
+pub fn pull_rows(m: &mut [u8], from: usize, to: usize, count: usize)
+    requires { ⌜ (to ≤ from) × ((from + count) * 200 ≤ length (now m)) ⌝ }
+    ensures { λ _. ⌜ Pulled (now (m .entry)) from to count (now (m .exit)) ⌝ }
+{
+    if from == to {
+        return;
+    }
+    let mut i = 0;
+    while i < count {
+        copy_row(m, from + i, to + i);
+        i += 1;
+    }
+}
+
+// Moves the first n rows `by` places up, the last first.
+pub fn shift_rows(m: &mut [u8], n: usize, by: usize)
+    requires { ⌜ (n + by) * 200 ≤ length (now m) ⌝ }
+    ensures { λ _. ⌜ Raised (now (m .entry)) n by (now (m .exit)) ⌝ }
+{
+    if by == 0 {
+        return;
+    }
+    let mut i = n;
+    while 0 < i {
+        i -= 1;
+        copy_row(m, i, i + by);
+    }
 }
 
 // Whether each of the first n rows is sound.

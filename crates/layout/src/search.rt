@@ -1,5 +1,4 @@
-// The place of a key among a master's rows, and a row put in there.
-use crate::fields;
+// The place of a key among a master's rows, and how many rows from a place on are below it.
 use crate::key;
 use crate::key::Order;
 use crate::master::ROW_WIDTH;
@@ -7,10 +6,9 @@ ghost use mathlib.Core.Path.{_≡_};
 ghost use mathlib.Core.Bool.{true};
 ghost use Prim.Native.Nat.{_+_, _*_, _≤_, _<_};
 ghost use lib.ListN.{length, take, drop};
-ghost use Rattle.layout.specs.Key.{orderOf, rising};
-ghost use Rattle.layout.specs.Blocks.{Holds};
+ghost use Rattle.layout.specs.Key.{orderOf, isLess, rising};
 ghost use Rattle.layout.specs.Master.{rowsOf, keysOf};
-ghost use Rattle.layout.specs.Search.{IsPlace, inserted, shifted};
+ghost use Rattle.layout.specs.Search.{IsPlace, AreBelow};
 
 // Where a key's row is, or where it would go.
 pub enum Place {
@@ -52,24 +50,27 @@ pub fn place_of(m: &[u8], n: usize, key: &[u8]) -> Place
     Place::Gap(lo)
 }
 
-// Moves the bytes from `at` up to `end` one row up.
-fn shift_up(m: &mut [u8], at: usize, end: usize)
-    requires { ⌜ (at ≤ end) × (end + 200 ≤ length (now m)) ⌝ }
-    ensures { λ _. ⌜ now (m .exit) ≡ shifted (now (m .entry)) at end 200 ⌝ }
-{
-    let mut i = end;
-    while at < i {
-        i -= 1;
-        m[i + ROW_WIDTH] = m[i];
-    }
-}
-
-// Puts a row in at place p of n, the rows from p on one place up; what stands behind them is kept.
-pub fn insert_row(m: &mut [u8], n: usize, p: usize, row: [u8; 200])
-    requires { ⌜ (p ≤ n) × (n * 200 + 200 ≤ length (now m)) ⌝ }
-    ensures { λ _. ⌜ Holds 200 (now (m .entry)) (now (m .exit)) (n + 1) (inserted p row (rowsOf n (now (m .entry)))) ⌝ }
+// Whether the key of the row at place p is below a key.
+fn is_row_below(m: &[u8], p: usize, key: &[u8]) -> bool
+    requires { ⌜ (p * 200 + 12 ≤ length (now m)) × (length (now key) ≡ 12) ⌝ }
+    ensures { λ r. ⌜ r ≡ isLess (orderOf (take 12 (drop (p * 200) (now (m .entry)))) (now (key .entry))) ⌝ }
 {
     let at = p * ROW_WIDTH;
-    shift_up(m, at, n * ROW_WIDTH);
-    fields::copy_in(m, at, &row);
+    let end = at + 12;
+    key::is_below(&m[at..end], key)
+}
+
+// How many rows from place `from` on, up to place `end`, stand one behind the other with a key below the one given.
+pub fn rows_below(m: &[u8], from: usize, end: usize, key: &[u8]) -> usize
+    requires { ⌜ (from ≤ end) × (end * 200 ≤ length (now m)) × (length (now key) ≡ 12) ⌝ }
+    ensures { λ r. ⌜ AreBelow (now (m .entry)) from end (now (key .entry)) r ⌝ }
+{
+    let mut r: usize = 0;
+    while from + r < end {
+        if !is_row_below(m, from + r, key) {
+            return r;
+        }
+        r += 1;
+    }
+    r
 }

@@ -5,7 +5,7 @@ use borrow.Author.Needs.{needs}
 use Rattle.batch.specs.Apply.{callOf}
 use Rattle.batch.proofs.ApplyLaws.{first-opening, first-master, first-batch, first-space}
 use Rattle.batch.proofs.FindLaws.{rows-sound}
-use Rattle.batch.proofs.GoingLaws.{whole-records}
+use Rattle.batch.proofs.KnownLaws.{whole-records}
 use Rattle.batch.proofs.RefusalsLaws.{master-rows}
 use Rattle.batch.proofs.apply.first_refusal.Statement.{statement}
 use Rattle.batch.proofs.apply.first_refusal.Tie as tie

@@ -13,7 +13,7 @@ use Rattle.batch.specs.Totals.{controlOf, submittingState}
 use Rattle.layout.specs.Blocks.{spliced}
 use Rattle.layout.specs.Fields.{columns}
 use Rattle.batch.proofs.ApplyLaws.{ran, state-two}
-use Rattle.batch.proofs.GoingLaws.{known}
+use Rattle.batch.proofs.KnownLaws.{known}
 use Rattle.batch.proofs.PassedLaws.{passed}
 use Rattle.batch.proofs.apply.run.Statement.{statement}
 use Rattle.batch.proofs.apply.run.Tie as tie

@@ -1,103 +1,97 @@
--- `apply::work` meets its contract. The invariant is `Going`: what stands in the buffers and what is left to do make the whole. Assumes nothing.
-use mathlib.Core.List.{List}
-use mathlib.Core.Path.{sym, subst}
-use Prim.Native.Nat.{ℕ, _-_, _*_}
+-- `apply::work` meets its contract. Assumes nothing.
+use mathlib.Core.Path.{_∙_}
 use native.Mathlib.Omega.{arith}
-use lib.ListN.{take, drop}
-use borrow.Author.Needs.{needs}
 use Rattle.batch.specs.Apply.{callOf}
-use Rattle.batch.specs.Progress.{Ready, Turned}
-use Rattle.batch.specs.Totals.{submittingState}
-use Rattle.batch.specs.declared.counts.Tally.{Tally}
-use Rattle.batch.proofs.GoingLaws.{Going, known, going-start, going-ready, going-next, going-done}
 use Rattle.batch.proofs.PassedLaws.{passed}
+use Rattle.batch.proofs.KnownLaws.{known}
+use Rattle.batch.proofs.WorkedLaws.{ordered, rows-room, walk-ready, all-usable, marked, all-worked}
 use Rattle.batch.proofs.apply.work.Statement.{statement}
 use Rattle.batch.proofs.apply.work.Tie as tie
 
-abbrev Inv-loop : tie.InvT-loop
-Inv-loop m₀ n batch state year list verdicts₀ rejects₀ d s₀ i₀ m verdicts rejects s i = Going (callOf m₀ n batch list year verdicts₀ rejects₀) m (s .rows) verdicts rejects (s .rejects) (s .tally) i
-
-abbrev μ-loop : tie.MeasureT-loop
-μ-loop m₀ n batch state year list verdicts₀ rejects₀ d s₀ i₀ m verdicts rejects s i = d - i
-
-sub-d : tie.Need-sub-d Inv-loop μ-loop
+sub-d : tie.Need-sub-d
 sub-d c =
     let a = c .before .before .before .before .before .before .args in
     let k = known (callOf (a .m .now) (a .n) (a .batch .now) (a .list .now) (a .year) (a .verdicts .now) (a .rejects .now)) (passed _ (c .before .before .before .before .before .before .pre .0)) in
     omega (arith, k .batch-in)
 
-no-tally-requires : tie.Need-no-tally-requires Inv-loop μ-loop
-no-tally-requires c κs = search needs
-
-loop-holds : tie.Need-loop-holds Inv-loop μ-loop
-loop-holds c =
+order-details-requires : tie.Need-order-details-requires
+order-details-requires c κs =
     let a = c .before .before .before .before .before .before .before .args in
+    let k = known (callOf (a .m .now) (a .n) (a .batch .now) (a .list .now) (a .year) (a .verdicts .now) (a .rejects .now)) (passed _ (c .before .before .before .before .before .before .before .pre .0)) in
+    (omega (arith, k .batch-in), k .slots, k .few)
+
+new-rows-requires : tie.Need-new-rows-requires
+new-rows-requires c κs =
+    let a = c .before .before .before .before .before .before .before .before .before .before .before .before .args in
     let g = callOf (a .m .now) (a .n) (a .batch .now) (a .list .now) (a .year) (a .verdicts .now) (a .rejects .now) in
-    subst (λ (t : Tally). Going g (a .m .now) (a .n) (a .verdicts .now) (a .rejects .now) 0 t 0) (sym (c .no-tally .ensures)) (going-start g (known g (passed g (c .before .before .before .before .before .before .before .pre .0))))
+    let k = known g (passed g (c .before .before .before .before .before .before .before .before .before .before .before .before .pre .0)) in
+    (ordered g k (a .state .now) (c .before .before .before .before .before .before .before .before .before .before .before .before .pre .1) _ _ (c .before .before .before .before .order-details .ensures), k .rows-in, k .sound)
 
-record-at-requires : tie.Need-record-at-requires Inv-loop μ-loop
-record-at-requires c κs =
-    let a = c .before .before .before .before .before .before .before .before .before .args in
-    let k = known (callOf (a .m .now) (a .n) (a .batch .now) (a .list .now) (a .year) (a .verdicts .now) (a .rejects .now)) (passed _ (c .before .before .before .before .before .before .before .before .before .pre .0)) in
-    omega (arith, k .batch-in, c .loop-test .taken)
-
-turn-requires : tie.Need-turn-requires Inv-loop μ-loop
-turn-requires c κs =
+add-rows : tie.Need-add-rows
+add-rows c =
     let a = c .before .before .before .before .before .before .before .before .before .before .before .before .before .args in
     let g = callOf (a .m .now) (a .n) (a .batch .now) (a .list .now) (a .year) (a .verdicts .now) (a .rejects .now) in
-    let l = c .before .before .before .before .before .loop in
-    subst (λ (z : List ℕ). Ready (l .m) (l .s .rows) z (l .verdicts) (l .i) (l .rejects) (l .s .rejects) (l .s .tally)) (sym (c .before .before .before .record-at .ensures))
-    (going-ready g (known g (passed g (c .before .before .before .before .before .before .before .before .before .before .before .before .before .pre .0))) (l .m) (l .s .rows) (l .verdicts) (l .rejects) (l .s .rejects) (l .s .tally) (l .i) (l .inv) (c .before .before .before .before .loop-test .taken))
+    let k = known g (passed g (c .before .before .before .before .before .before .before .before .before .before .before .before .before .pre .0)) in
+    omega (arith, rows-room g k (a .state .now) (c .before .before .before .before .before .before .before .before .before .before .before .before .before .pre .1) _ _ (c .before .before .before .before .before .order-details .ensures) _ (c .new-rows .ensures), c .before .before .before .before .before .before .before .before .before .before .before .before .before .good .0)
 
-add-i : tie.Need-add-i Inv-loop μ-loop
-add-i c = omega (arith, c .before .before .before .before .before .before .before .before .before .before .before .loop-test .taken, c .before .before .before .before .before .before .before .before .before .before .before .before .before .before .before .before .before .before .before .before .good .1 .1 .0)
-
-loop-less : tie.Need-loop-less Inv-loop μ-loop
-loop-less c = omega (arith, c .before .before .before .before .before .before .before .before .before .before .before .loop-test .taken)
-
-loop-again : tie.Need-loop-again Inv-loop μ-loop
-loop-again c =
-    let a = c .before .before .before .before .before .before .before .before .before .before .before .before .before .before .before .before .before .before .before .before .args in
+shift-rows-requires : tie.Need-shift-rows-requires
+shift-rows-requires c κs =
+    let a = c .before .before .before .before .before .before .before .before .before .before .before .before .before .before .args in
     let g = callOf (a .m .now) (a .n) (a .batch .now) (a .list .now) (a .year) (a .verdicts .now) (a .rejects .now) in
-    let l = c .before .before .before .before .before .before .before .before .before .before .before .before .loop in
-    let o = c .before .before .before .before .before .before .turn in
-    let t : Turned (submittingState (a .batch .now)) (a .year) (a .list .now) (take 245 (drop (l .i * 245) (a .batch .now))) (l .m) (l .s .rows) (l .verdicts) (l .i) (l .rejects) (l .s .rejects) (l .s .tally) (o .last .0) (o .result .rows) (o .last .1 .1 .1 .1 .1 .1 .1 .0) (o .last .1 .1 .1 .1 .1 .1 .1 .1 .0) (o .result .rejects) (o .result .tally) =
-    subst (λ (z : List ℕ). Turned (submittingState (a .batch .now)) (a .year) (a .list .now) z (l .m) (l .s .rows) (l .verdicts) (l .i) (l .rejects) (l .s .rejects) (l .s .tally) (o .last .0) (o .result .rows) (o .last .1 .1 .1 .1 .1 .1 .1 .0) (o .last .1 .1 .1 .1 .1 .1 .1 .1 .0) (o .result .rejects) (o .result .tally)) (c .before .before .before .before .before .before .before .before .before .before .record-at .ensures)
-    (subst (λ (z : List ℕ). Turned z (a .year) (a .list .now) (c .before .before .before .before .before .before .before .before .before .before .record-at .result) (l .m) (l .s .rows) (l .verdicts) (l .i) (l .rejects) (l .s .rejects) (l .s .tally) (o .last .0) (o .result .rows) (o .last .1 .1 .1 .1 .1 .1 .1 .0) (o .last .1 .1 .1 .1 .1 .1 .1 .1 .0) (o .result .rejects) (o .result .tally)) (c .before .before .before .before .before .before .before .before .before .before .before .before .before .before .before .before .before .before .before .before .pre .1) (o .ensures)) in
-    going-next g (known g (passed g (c .before .before .before .before .before .before .before .before .before .before .before .before .before .before .before .before .before .before .before .before .pre .0))) (l .m) (l .s .rows) (l .verdicts) (l .rejects) (l .s .rejects) (l .s .tally) (l .i) (l .inv) (c .before .before .before .before .before .before .before .before .before .before .before .loop-test .taken)
-    (o .last .0) (o .result .rows) (o .last .1 .1 .1 .1 .1 .1 .1 .0) (o .last .1 .1 .1 .1 .1 .1 .1 .1 .0) (o .result .rejects) (o .result .tally)
-    (o .kept .0) (o .kept .1 .1 .1 .1 .1 .1 .1 .0) (o .kept .1 .1 .1 .1 .1 .1 .1 .1 .0) t
+    let k = known g (passed g (c .before .before .before .before .before .before .before .before .before .before .before .before .before .before .pre .0)) in
+    rows-room g k (a .state .now) (c .before .before .before .before .before .before .before .before .before .before .before .before .before .before .pre .1) _ _ (c .before .before .before .before .before .before .order-details .ensures) _ (c .before .new-rows .ensures)
 
-same-length : tie.Need-same-length Inv-loop μ-loop
-same-length c = c .before .loop .inv .len-m
+walk-keys-requires : tie.Need-walk-keys-requires
+walk-keys-requires c κs =
+    let a = c .before .before .before .before .before .before .before .before .before .before .before .before .before .before .before .before .before .before .before .args in
+    let g = callOf (a .m .now) (a .n) (a .batch .now) (a .list .now) (a .year) (a .verdicts .now) (a .rejects .now) in
+    let k = known g (passed g (c .before .before .before .before .before .before .before .before .before .before .before .before .before .before .before .before .before .before .before .pre .0)) in
+    walk-ready g k (a .state .now) (c .before .before .before .before .before .before .before .before .before .before .before .before .before .before .before .before .before .before .before .pre .1) _ _ (c .before .before .before .before .before .before .before .before .before .before .before .order-details .ensures) _ (c .before .before .before .before .before .before .new-rows .ensures) _ (c .before .before .before .before .shift-rows .ensures)
 
-same-length-2 : tie.Need-same-length-2 Inv-loop μ-loop
-same-length-2 c = c .before .loop .inv .len-v
+judge-alone-requires : tie.Need-judge-alone-requires
+judge-alone-requires c κs =
+    let a = c .before .before .before .before .before .before .before .before .before .before .before .before .before .before .before .before .before .before .before .before .before .before .before .before .before .args in
+    let g = callOf (a .m .now) (a .n) (a .batch .now) (a .list .now) (a .year) (a .verdicts .now) (a .rejects .now) in
+    let k = known g (passed g (c .before .before .before .before .before .before .before .before .before .before .before .before .before .before .before .before .before .before .before .before .before .before .before .before .before .pre .0)) in
+    (c .before .before .before .before .before .before .before .before .before .before .before .before .before .before .before .before .before .order-details .ensures .own-in, all-usable g k (a .state .now) (c .before .before .before .before .before .before .before .before .before .before .before .before .before .before .before .before .before .before .before .before .before .before .before .before .before .pre .1) _ _ (c .before .before .before .before .before .before .before .before .before .before .before .before .before .before .before .before .before .order-details .ensures) _ (c .before .before .before .before .before .before .before .before .before .before .before .before .new-rows .ensures) _ (c .before .before .before .before .before .before .before .before .before .before .shift-rows .ensures) _ _ (c .before .before .before .before .before .walk-keys .kept .1 .1 .1 .1 .0) (c .before .before .before .before .before .walk-keys .ensures))
 
-same-length-3 : tie.Need-same-length-3 Inv-loop μ-loop
-same-length-3 c = c .before .loop .inv .len-r
+write-verdicts-requires : tie.Need-write-verdicts-requires
+write-verdicts-requires c κs =
+    let a = c .before .before .before .before .before .before .before .before .before .before .before .before .before .before .before .before .before .before .before .before .before .before .before .before .before .before .before .before .before .before .args in
+    let g = callOf (a .m .now) (a .n) (a .batch .now) (a .list .now) (a .year) (a .verdicts .now) (a .rejects .now) in
+    let k = known g (passed g (c .before .before .before .before .before .before .before .before .before .before .before .before .before .before .before .before .before .before .before .before .before .before .before .before .before .before .before .before .before .before .pre .0)) in
+    (omega (arith, k .batch-in), omega (arith, k .slots, c .before .before .before .before .before .before .before .before .before .before .before .before .before .before .before .before .before .before .before .before .before .before .order-details .kept .1 .1 .1 .0, c .before .before .before .before .before .before .before .before .before .before .walk-keys .kept .1 .1 .1 .1 .0, c .before .before .before .before .judge-alone .kept .1 .0), k .space)
 
-returns : tie.Need-returns Inv-loop μ-loop
+same-length : tie.Need-same-length
+same-length c = c .before .before .before .before .before .before .before .before .before .before .before .before .before .before .before .walk-keys .kept .0 ∙ c .before .before .before .before .before .before .before .before .before .before .before .before .before .before .before .before .before .before .before .before .shift-rows .kept .0
+
+same-length-2 : tie.Need-same-length-2
+same-length-2 c = c .before .before .before .before .write-verdicts .kept .1 .1 .1 .0 ∙ c .before .before .before .before .before .before .before .before .before .judge-alone .kept .1 .0 ∙ c .before .before .before .before .before .before .before .before .before .before .before .before .before .before .before .walk-keys .kept .1 .1 .1 .1 .0 ∙ c .before .before .before .before .before .before .before .before .before .before .before .before .before .before .before .before .before .before .before .before .before .before .before .before .before .before .before .order-details .kept .1 .1 .1 .0
+
+same-length-3 : tie.Need-same-length-3
+same-length-3 c = c .before .before .before .before .write-verdicts .kept .1 .1 .1 .1 .0
+
+returns : tie.Need-returns
 returns c =
-    let a = c .before .before .before .before .before .before .before .before .before .args in
+    let a = c .before .before .before .before .before .before .before .before .before .before .before .before .before .before .before .before .before .before .before .before .before .before .before .before .before .before .before .before .before .before .before .before .before .before .before .args in
     let g = callOf (a .m .now) (a .n) (a .batch .now) (a .list .now) (a .year) (a .verdicts .now) (a .rejects .now) in
-    let l = c .before .loop in
-    going-done g (known g (passed g (c .before .before .before .before .before .before .before .before .before .pre .0))) (l .m) (l .s .rows) (l .verdicts) (l .rejects) (l .s .rejects) (l .s .tally) (l .i) (l .inv) (c .loop-test .left)
+    let k = known g (passed g (c .before .before .before .before .before .before .before .before .before .before .before .before .before .before .before .before .before .before .before .before .before .before .before .before .before .before .before .before .before .before .before .before .before .before .before .pre .0)) in
+    let w = c .before .before .before .before .write-verdicts .ensures in
+    let h = marked g k (a .state .now) (c .before .before .before .before .before .before .before .before .before .before .before .before .before .before .before .before .before .before .before .before .before .before .before .before .before .before .before .before .before .before .before .before .before .before .before .pre .1) _ _ (c .before .before .before .before .before .before .before .before .before .before .before .before .before .before .before .before .before .before .before .before .before .before .before .before .before .before .before .order-details .ensures) _ (c .before .before .before .before .before .before .before .before .before .before .before .before .before .before .before .before .before .before .before .before .before .before .new-rows .ensures) _ (c .before .before .before .before .before .before .before .before .before .before .before .before .before .before .before .before .before .before .before .before .shift-rows .ensures) _ _ (c .before .before .before .before .before .before .before .before .before .before .before .before .before .before .before .walk-keys .kept .1 .1 .1 .1 .0) (c .before .before .before .before .before .before .before .before .before .before .before .before .before .before .before .walk-keys .ensures) _ (c .before .before .before .before .before .before .before .before .before .judge-alone .ensures) in
+    all-worked g k (a .state .now) (c .before .before .before .before .before .before .before .before .before .before .before .before .before .before .before .before .before .before .before .before .before .before .before .before .before .before .before .before .before .before .before .before .before .before .before .pre .1) _ _ (c .before .before .before .before .before .before .before .before .before .before .before .before .before .before .before .before .before .before .before .before .before .before .before .before .before .before .before .order-details .ensures) _ (c .before .before .before .before .before .before .before .before .before .before .before .before .before .before .before .before .before .before .before .before .before .before .new-rows .ensures) _ (c .before .before .before .before .before .before .before .before .before .before .before .before .before .before .before .before .before .before .before .before .shift-rows .ensures) _ _ (c .before .before .before .before .before .before .before .before .before .before .before .before .before .before .before .walk-keys .kept .1 .1 .1 .1 .0) (c .before .before .before .before .before .before .before .before .before .before .before .before .before .before .before .walk-keys .ensures) _ (c .before .before .before .before .before .before .before .before .before .judge-alone .ensures) _ _ _ _ _ (c .before .before .before .before .before .before .before .before .before .before .before .before .before .before .before .walk-keys .kept .0 ∙ c .before .before .before .before .before .before .before .before .before .before .before .before .before .before .before .before .before .before .before .before .shift-rows .kept .0) (w .0) (w .3 _ h)
 
 pub work-spec : {M : Type 1} → statement M
 work-spec =
     tie.close
     (tie.spec
-    Inv-loop
-    μ-loop
     sub-d
-    no-tally-requires
-    loop-holds
-    record-at-requires
-    turn-requires
-    add-i
-    loop-less
-    loop-again
+    order-details-requires
+    new-rows-requires
+    add-rows
+    shift-rows-requires
+    walk-keys-requires
+    judge-alone-requires
+    write-verdicts-requires
     same-length
     same-length-2
     same-length-3

@@ -1,0 +1,539 @@
+-- Laws of a batch worked key by key: each key's row is the machine's, the rows stay sound, as many rows come as there are new keys, and in
+-- the end they are the rows that the details leave in batch order. Assumes nothing.
+use Prim.Native.Nat.{ℕ, zero, suc, _+_, _-_, _≤_, _<_}
+use mathlib.Core.Path.{_≡_, refl, sym, ap, _∙_}
+use mathlib.Core.Logic.{_⊎_, inl, inr}
+use mathlib.Core.Bool.{Bool, true, false, not, cond, _&&_, false≢true}
+use mathlib.Core.List.{List, [], _∷_}
+use mathlib.Core.Option.{Option, none, some}
+use native.Mathlib.Nat.{eq-or-lt-of-le, not-suc-le-zero, le-of-suc-le-suc}
+use native.Mathlib.Omega.{arith}
+use borrow.Author.Tests.{ltb-true, ltb-false}
+use lib.Dec.{ltb}
+use lib.ListN.{length, take, drop, getD, drop-of-length-le}
+use lib.Seq.{length-take-le, drop-cons, getD-take}
+use Rattle.layout.specs.Fields.{sameBytes}
+use Rattle.layout.specs.Locals.{isLocalList}
+use Rattle.layout.specs.declared.key.Order.the-variants.{Less}
+use Rattle.layout.specs.Key.{orderOf, isLess, isEqual, belowFirst, rising}
+use Rattle.layout.specs.Row.{rowKey, isSoundRow}
+use Rattle.layout.specs.Master.{areSoundRows}
+use Rattle.layout.specs.Rows.{rowWith, withStored}
+use Rattle.layout.proofs.FieldsLaws.{and-left, and-right}
+use Rattle.layout.proofs.SameLaws.{eq-same, same-eq}
+use Rattle.layout.proofs.KeyLaws.{less-trans, less-sides, same-order}
+use Rattle.layout.proofs.SearchLaws.{row-key, with-sound, length-replaced, length-added, row-with-same, row-with-other}
+use Rattle.onecase.specs.Record.{recordKey}
+use Rattle.onecase.specs.Machine.{next}
+use Rattle.onecase.proofs.MachineLaws.{Each, IsWide, Keyed, GoodRow, each-some, row-stays, next-keyed, next-good}
+use Rattle.keyorder.specs.Order.{isOwnKey, noRank, rankOf, rankAt, Before, InKeyOrder}
+use Rattle.keyorder.proofs.RankLaws.{own-below, below-own, rank-same, rank-less}
+use Rattle.batch.specs.Turns.{finalRows}
+use Rattle.batch.specs.Apply.{isMissing}
+use Rattle.batch.specs.TwoBatches.{isUnder, detailsUnder, runRow}
+use Rattle.batch.specs.Walk.{keysAt, isFirst, distinct, keyRow, workedKeys, isNewKey, newKeys}
+use Rattle.batch.proofs.WidthLaws.{All, every-all}
+use Rattle.batch.proofs.RowsLaws.{Of, found-all, all-put, same-rows}
+use Rattle.batch.proofs.TurnsLaws.{Fit, rows-sound, rows-rise}
+use Rattle.batch.proofs.UnderLaws.{IsRecord, final-fit, found-final}
+use Rattle.batch.proofs.KeyOrderLaws.{keyAt, under-none, kept-alone}
+
+-- ---- of each run of the same key, one
+
+module _ (k : List ℕ) (ks : List (List ℕ)) where
+  pub distinct-same : isFirst k ks ≡ true → distinct (k ∷ ks) ≡ distinct ks
+  unfolding distinct
+  distinct-same t = rw t
+
+  pub distinct-other : isFirst k ks ≡ false → distinct (k ∷ ks) ≡ k ∷ distinct ks
+  unfolding distinct
+  distinct-other t = rw t
+
+module _ (kk : List (List ℕ)) where
+  -- the key at e, if there is one, is another
+  ends : (k : List ℕ) (e : ℕ) → e ≤ length kk → (e ≡ length kk) ⊎ (sameBytes k (getD kk e []) ≡ false) → isFirst k (drop e kk) ≡ false
+  ends k e m (inl z) = rw (drop-of-length-le kk {i = e} (omega arith))
+  ends k e m (inr f) = go (eq-or-lt-of-le m)
+    where
+      go : (e ≡ length kk) ⊎ (e < length kk) → isFirst k (drop e kk) ≡ false
+      go (inl z) = rw (drop-of-length-le kk {i = e} (omega arith))
+      go (inr l) = rw (drop-cons kk e [] l) f
+
+  group : (n p e : ℕ) → suc p + n ≡ e → e ≤ length kk → ((q : ℕ) → p ≤ q → q < e → getD kk q [] ≡ getD kk p [])
+      → (e ≡ length kk) ⊎ (sameBytes (getD kk p []) (getD kk e []) ≡ false)
+      → distinct (drop p kk) ≡ getD kk p [] ∷ distinct (drop e kk)
+  group zero p e h m same end =
+      let s : suc p ≡ e = omega arith in
+      let f : isFirst (getD kk p []) (drop (suc p) kk) ≡ false =
+      ap (λ (i : ℕ). isFirst (getD kk p []) (drop i kk)) s ∙ ends (getD kk p []) e m end in
+      ap distinct (drop-cons kk p [] (omega arith))
+      ∙ distinct-other (getD kk p []) (drop (suc p) kk) f
+      ∙ ap (λ (i : ℕ). getD kk p [] ∷ distinct (drop i kk)) s
+  group (suc n) p e h m same end =
+      let g : getD kk (suc p) [] ≡ getD kk p [] = same (suc p) (omega arith) (omega arith) in
+      let f : isFirst (getD kk p []) (drop (suc p) kk) ≡ true =
+      ap (isFirst (getD kk p [])) (drop-cons kk (suc p) [] (omega arith)) ∙ eq-same (getD kk p []) (getD kk (suc p) []) (sym g) in
+      ap distinct (drop-cons kk p [] (omega arith))
+      ∙ distinct-same (getD kk p []) (drop (suc p) kk) f
+      ∙ group n (suc p) e (omega arith) m (λ q a b. same q (omega arith) b ∙ sym g) (other g end)
+      ∙ ap (λ (k : List ℕ). k ∷ distinct (drop e kk)) g
+    where
+      other : getD kk (suc p) [] ≡ getD kk p [] → (e ≡ length kk) ⊎ (sameBytes (getD kk p []) (getD kk e []) ≡ false)
+          → (e ≡ length kk) ⊎ (sameBytes (getD kk (suc p) []) (getD kk e []) ≡ false)
+      other g (inl z) = inl z
+      other g (inr f) = inr (rw g f)
+
+  -- the keys from p to e that are the same give one
+  pub distinct-group : (p e : ℕ) → p < e → e ≤ length kk → ((q : ℕ) → p ≤ q → q < e → getD kk q [] ≡ getD kk p [])
+      → (e ≡ length kk) ⊎ (sameBytes (getD kk p []) (getD kk e []) ≡ false)
+      → distinct (drop p kk) ≡ getD kk p [] ∷ distinct (drop e kk)
+  distinct-group p e l m same end = group (e - suc p) p e (omega arith) m same end
+
+-- each key but x
+abbrev pub Apart : List ℕ → List (List ℕ) → Type 0
+Apart x ks = All (λ (k : List ℕ). sameBytes k x ≡ false) ks
+
+-- a key that isn't among the distinct ones is not among them all
+pub distinct-apart : (x : List ℕ) (ks : List (List ℕ)) → Apart x (distinct ks) → Apart x ks
+distinct-apart x [] a = tt
+distinct-apart x (k ∷ ks) a = go (distinct-apart x ks) (isFirst k ks) refl
+  where
+    first : (ls : List (List ℕ)) → isFirst k ls ≡ true → Apart x ls → sameBytes k x ≡ false
+    first [] t b = absurd (false≢true t)
+    first (l ∷ ls) t b = rw (same-eq k l t) (b .0)
+
+    go : (Apart x (distinct ks) → Apart x ks) → (t : Bool) → isFirst k ks ≡ t → Apart x (k ∷ ks)
+    go ih true t = let b : Apart x ks = ih (rw (distinct-same k ks t) at a) in (first ks t b, b)
+    go ih false t = let b : Apart x (k ∷ distinct ks) = rw (distinct-other k ks t) at a in (b .0, ih (b .1))
+
+-- ---- keys that don't fall
+
+-- a key is the same as the first of some keys or below it
+abbrev pub StepTo : List ℕ → List (List ℕ) → Type 0
+StepTo k [] = Unit {0}
+StepTo k (l ∷ ls) = (k ≡ l) ⊎ (isLess (orderOf k l) ≡ true)
+
+-- so is each key to those behind it
+abbrev pub Climbs : List (List ℕ) → Type 0
+Climbs [] = Unit {0}
+Climbs (k ∷ ks) = StepTo k ks × Climbs ks
+
+climbs-drop : (p : ℕ) (ks : List (List ℕ)) → Climbs ks → Climbs (drop p ks)
+climbs-drop zero ks c = c
+climbs-drop (suc p) [] c = tt
+climbs-drop (suc p) (k ∷ ks) c = climbs-drop p ks (c .1)
+
+-- the first of the distinct keys is the first of them all
+first-distinct : (k : List ℕ) (ks : List (List ℕ)) → belowFirst k (distinct ks) ≡ belowFirst k ks
+unfolding belowFirst distinct
+first-distinct k [] = refl
+first-distinct k (l ∷ ls) = go (isFirst l ls) refl (first-distinct k ls)
+  where
+    first : (ms : List (List ℕ)) → isFirst l ms ≡ true → belowFirst k ms ≡ isLess (orderOf k l)
+    first [] t = absurd (false≢true t)
+    first (m ∷ ms) t = rw (same-eq l m t)
+
+    go : (t : Bool) → isFirst l ls ≡ t → belowFirst k (distinct ls) ≡ belowFirst k ls
+        → belowFirst k (cond t (distinct ls) (l ∷ distinct ls)) ≡ isLess (orderOf k l)
+    go true t ih = ih ∙ first ls t
+    go false t ih = refl
+
+-- the distinct keys of such rise
+pub distinct-rises : (ks : List (List ℕ)) → Climbs ks → rising (distinct ks) ≡ true
+unfolding rising distinct belowFirst
+distinct-rises [] c = refl
+distinct-rises (k ∷ ks) c = go (isFirst k ks) refl (distinct-rises ks (c .1))
+  where
+    step : (ls : List (List ℕ)) → isFirst k ls ≡ false → StepTo k ls → belowFirst k ls ≡ true
+    step [] t s = refl
+    step (l ∷ ls) t (inl e) = absurd (false≢true (sym t ∙ eq-same k l e))
+    step (l ∷ ls) t (inr b) = b
+
+    go : (t : Bool) → isFirst k ks ≡ t → rising (distinct ks) ≡ true → rising (distinct (k ∷ ks)) ≡ true
+    go true t ih = rw (distinct-same k ks t) ih
+    go false t ih = rw (distinct-other k ks t) (rw (first-distinct k ks, step ks t (c .0)) ih)
+
+-- a key below those that follow is none of them
+below-apart : (k : List ℕ) (ks : List (List ℕ)) → belowFirst k ks ≡ true → rising ks ≡ true → All (λ (l : List ℕ). sameBytes k l ≡ false) ks
+unfolding belowFirst rising isEqual
+below-apart k [] b r = tt
+below-apart k (l ∷ ls) b r = (
+  rw (same-order k l, less-sides k l b .0),
+  below-apart k ls (lower ls (and-left (belowFirst l ls) (rising ls) r)) (and-right (belowFirst l ls) (rising ls) r),
+)
+  where
+    lower : (ms : List (List ℕ)) → belowFirst l ms ≡ true → belowFirst k ms ≡ true
+    lower [] h = refl
+    lower (m ∷ ms) h = less-trans k l m b h
+
+module _ (k : List ℕ) (ks : List (List ℕ)) (r : rising (k ∷ ks) ≡ true) where
+  pub keys-tail : rising ks ≡ true
+  unfolding rising
+  keys-tail = and-right (belowFirst k ks) (rising ks) r
+
+  pub keys-apart : All (λ (l : List ℕ). sameBytes k l ≡ false) ks
+  unfolding rising
+  keys-apart = below-apart k ks (and-left (belowFirst k ks) (rising ks) r) keys-tail
+
+same-flip : (k l : List ℕ) → sameBytes k l ≡ false → sameBytes l k ≡ false
+same-flip k l f = go (sameBytes l k) refl
+  where
+    go : (t : Bool) → sameBytes l k ≡ t → t ≡ false
+    go true t = sym (eq-same k l (sym (same-eq l k t))) ∙ f
+    go false t = refl
+
+apart-flip : (k : List ℕ) (ks : List (List ℕ)) → All (λ (l : List ℕ). sameBytes k l ≡ false) ks → Apart k ks
+apart-flip k [] n = tt
+apart-flip k (l ∷ ls) n = (same-flip k l (n .0), apart-flip k ls (n .1))
+
+-- ---- the machine's run under a key
+
+-- a row of the key, as wide as rows are
+pub record KeyRow (key row : List ℕ) : Type 0 where
+  pub wide : length row ≡ 200
+  pub key-is : rowKey row ≡ key
+
+-- and sound
+pub record SoundKeyRow (key row : List ℕ) : Type 0 where
+  pub wide : length row ≡ 200
+  pub key-is : rowKey row ≡ key
+  pub sound : isSoundRow row ≡ true
+
+each-map : (P Q : List ℕ → Type 0) → ((row : List ℕ) → P row → Q row) → (o : Option (List ℕ)) → Each P o → Each Q o
+each-map P Q f none h = tt
+each-map P Q f (some row) h = f row h
+
+module _ (state : List ℕ) (year : ℕ) (list : List ℕ) (key : List ℕ) where
+  -- what each step under the key keeps, the run keeps
+  run-each : (P : List ℕ → Type 0)
+      → ((o : Option (List ℕ)) (d : List ℕ) → IsRecord d → recordKey d ≡ key → Each P o → Each P (next state year list o d))
+      → (o : Option (List ℕ)) (details : List (List ℕ)) → All IsRecord details → Each P o
+      → Each P (runRow state year list o (detailsUnder key details))
+  unfolding runRow detailsUnder
+  run-each P step o [] a h = h
+  run-each P step o (d ∷ details) a h = go (λ s k. run-each P step s details (a .1) k) (isUnder key d) refl
+    where
+      go : ((s : Option (List ℕ)) → Each P s → Each P (runRow state year list s (detailsUnder key details))) → (t : Bool) → isUnder key d ≡ t
+          → Each P (runRow state year list o (cond t (d ∷ detailsUnder key details) (detailsUnder key details)))
+      go ih true t = ih (next state year list o d) (step o d (a .0) (same-eq (recordKey d) key t) h)
+      go ih false t = ih o h
+
+  -- width and key
+  run-keyed : (o : Option (List ℕ)) (details : List (List ℕ)) → All IsRecord details → Each (KeyRow key) o
+      → Each (KeyRow key) (runRow state year list o (detailsUnder key details))
+  run-keyed =
+      run-each (KeyRow key)
+      (λ o d e k h.
+      each-map (Keyed d) (KeyRow key) (λ row r. record { wide = r .wide; key-is = r .key ∙ k }) (next state year list o d)
+      (next-keyed state year list o d e (each-map (KeyRow key) (Keyed d) (λ row r. record { wide = r .wide; key = r .key-is ∙ sym k }) o h)))
+
+  -- and soundness
+  run-sound : isLocalList list ≡ true → (o : Option (List ℕ)) (details : List (List ℕ)) → All IsRecord details → Each (SoundKeyRow key) o
+      → Each (SoundKeyRow key) (runRow state year list o (detailsUnder key details))
+  run-sound l =
+      run-each (SoundKeyRow key)
+      (λ o d e k h.
+      each-map (GoodRow d) (SoundKeyRow key) (λ row r. record { wide = r .wide; key-is = r .key ∙ k; sound = r .sound }) (next state year list o d)
+      (next-good state year list o d e l
+      (each-map (SoundKeyRow key) (GoodRow d) (λ row r. record { wide = r .wide; key = r .key-is ∙ sym k; sound = r .sound }) o h)))
+
+  run-none : (o : Option (List ℕ)) (ds : List (List ℕ)) → ds ≡ [] → runRow state year list o ds ≡ o
+  unfolding runRow
+  run-none o ds e = rw e
+
+  -- a row stays
+  pub run-stays : (details : List (List ℕ)) (row : List ℕ) → (new : List ℕ) × (runRow state year list (some row) details ≡ some new)
+  unfolding runRow
+  run-stays [] row = (row, refl)
+  run-stays (d ∷ details) row =
+      let s = row-stays state year list row d in
+      let t = run-stays details (s .0) in
+      (t .0, ap (λ (o : Option (List ℕ)). runRow state year list o details) (s .1) ∙ t .1)
+
+  -- under a key that is not an own one nothing changes
+  run-other : isOwnKey state key ≡ false → (o : Option (List ℕ)) (details : List (List ℕ)) → All IsRecord details
+      → runRow state year list o (detailsUnder key details) ≡ o
+  unfolding runRow detailsUnder
+  run-other f o [] a = refl
+  run-other f o (d ∷ details) a = go (isUnder key d) refl (run-other f o details (a .1))
+    where
+      go : (t : Bool) → isUnder key d ≡ t → runRow state year list o (detailsUnder key details) ≡ o
+          → runRow state year list o (cond t (d ∷ detailsUnder key details) (detailsUnder key details)) ≡ o
+      go true t ih =
+          let k : recordKey d ≡ key = same-eq (recordKey d) key t in
+          ap (λ (s : Option (List ℕ)). runRow state year list s (detailsUnder key details))
+          (kept-alone state d (a .0) year list o (ap (isOwnKey state) k ∙ f))
+          ∙ ih
+      go false t ih = ih
+
+-- ---- one key worked
+
+module _ (state : List ℕ) (year : ℕ) (list : List ℕ) (details : List (List ℕ)) (a : All IsRecord details) where
+  module _ (k : List ℕ) (rows : List (List ℕ)) (w : All IsWide rows) where
+    -- what the machine leaves under the key
+    abbrev row : Option (List ℕ)
+    row = keyRow state year list details k rows
+
+    row-keyed : Each (KeyRow k) row
+    row-keyed = run-keyed state year list k (rowWith k rows) details a (go (rowWith k rows) refl (found-all IsWide k rows w))
+      where
+        go : (o : Option (List ℕ)) → rowWith k rows ≡ o → Of IsWide o → Each (KeyRow k) o
+        go none e h = tt
+        go (some r) e h = record { wide = h; key-is = row-key k rows r e }
+
+    -- a row that it leaves has the key
+    pub keyRow-key : (r : List ℕ) → keyRow state year list details k rows ≡ some r → rowKey r ≡ k
+    keyRow-key r e = each-some (KeyRow k) row r row-keyed e .key-is
+
+    pub keyRow-wide : (r : List ℕ) → keyRow state year list details k rows ≡ some r → length r ≡ 200
+    keyRow-wide r e = each-some (KeyRow k) row r row-keyed e .wide
+
+    -- under any other key nothing changes
+    pub worked-other : (x : List ℕ) → sameBytes k x ≡ false
+        → rowWith x (withStored (keyRow state year list details k rows) rows) ≡ rowWith x rows
+    worked-other x n = go row row-keyed
+      where
+        go : (o : Option (List ℕ)) → Each (KeyRow k) o → rowWith x (withStored o rows) ≡ rowWith x rows
+        go none h = refl
+        go (some r) h = row-with-other x r rows (rw (h .key-is) n)
+
+    -- under the key stands what the machine left
+    pub worked-here : rowWith k (withStored (keyRow state year list details k rows) rows) ≡ keyRow state year list details k rows
+    worked-here = go row refl row-keyed
+      where
+        missing : (o : Option (List ℕ)) → runRow state year list o (detailsUnder k details) ≡ none → o ≡ none
+        missing none e = refl
+        missing (some r) e = let s = run-stays state year list k (detailsUnder k details) r in cc (s .1)
+
+        go : (o : Option (List ℕ)) → row ≡ o → Each (KeyRow k) o → rowWith k (withStored o rows) ≡ o
+        go none e h = missing (rowWith k rows) e
+        go (some r) e h = row-with-same k r rows (h .key-is)
+
+    pub worked-wide : All IsWide (withStored (keyRow state year list details k rows) rows)
+    worked-wide = go row row-keyed
+      where
+        go : (o : Option (List ℕ)) → Each (KeyRow k) o → All IsWide (withStored o rows)
+        go none h = w
+        go (some r) h = all-put IsWide r rows (h .wide) w
+
+  -- the rows after a key
+  abbrev worked : List ℕ → List (List ℕ) → List (List ℕ)
+  worked k rows = withStored (keyRow state year list details k rows) rows
+
+  module _ (l : isLocalList list ≡ true) (k : List ℕ) (rows : List (List ℕ)) where
+    -- rows stay sound, wide and in order
+    pub worked-fit : Fit rows → Fit (withStored (keyRow state year list details k rows) rows)
+    worked-fit f =
+        put (keyRow state year list details k rows)
+        (run-sound state year list k l (rowWith k rows) details a
+        (go (rowWith k rows) refl (found-all IsWide k rows (f .wide))
+        (found-all Sound k rows (every-all isSoundRow rows (rows-sound rows (f .sound))))))
+      where
+        Sound : List ℕ → Type 0
+        Sound r = isSoundRow r ≡ true
+
+        go : (o : Option (List ℕ)) → rowWith k rows ≡ o → Of IsWide o → Of Sound o → Each (SoundKeyRow k) o
+        go none e h s = tt
+        go (some r) e h s = record { wide = h; key-is = row-key k rows r e; sound = s }
+
+        put : (o : Option (List ℕ)) → Each (SoundKeyRow k) o → Fit (withStored o rows)
+        put none h = f
+        put (some r) h = record { wide = all-put IsWide r rows (h .wide) (f .wide); sound = with-sound r rows (f .sound) (h .sound) }
+
+    pub worked-sound : All IsWide rows → areSoundRows rows ≡ true
+        → areSoundRows (withStored (keyRow state year list details k rows) rows) ≡ true
+    worked-sound w s = worked-fit (record { wide = w; sound = s }) .sound
+
+  -- one row more for a new key, else as many
+  pub worked-one : (k : List ℕ) (rows : List (List ℕ)) → All IsWide rows → areSoundRows rows ≡ true
+      → length (withStored (keyRow state year list details k rows) rows) ≡ length rows + cond (isNewKey state year list details rows k) 1 0
+  worked-one k rows w s = go (keyRow state year list details k rows) (row-keyed k rows w) (rowWith k rows) refl
+    where
+      go : (o : Option (List ℕ)) → Each (KeyRow k) o → (q : Option (List ℕ)) → rowWith k rows ≡ q
+          → length (withStored o rows) ≡ length rows + cond (isMissing q && not (isMissing o)) 1 0
+      go none h none e = omega arith
+      go none h (some old) e = omega arith
+      go (some r) h none e = length-added r rows (rw (h .key-is) e) ∙ omega arith
+      go (some r) h (some old) e = length-replaced r rows old (rows-rise rows s) (rw (h .key-is) e) ∙ omega arith
+
+  -- whether another key is new stays
+  pub new-other : (k x : List ℕ) (rows : List (List ℕ)) → All IsWide rows → sameBytes k x ≡ false
+      → isNewKey state year list details (withStored (keyRow state year list details k rows) rows) x ≡ isNewKey state year list details rows x
+  new-other k x rows w n =
+      ap (λ (o : Option (List ℕ)). isMissing o && not (isMissing (runRow state year list o (detailsUnder x details)))) (worked-other k rows w x n)
+
+  pub new-others : (k : List ℕ) (ks rows : List (List ℕ)) → All IsWide rows → All (λ (x : List ℕ). sameBytes k x ≡ false) ks
+      → newKeys state year list details ks (withStored (keyRow state year list details k rows) rows) ≡ newKeys state year list details ks rows
+  unfolding newKeys
+  new-others k [] rows w n = refl
+  new-others k (x ∷ ks) rows w n = rw (new-other k x rows w (n .0), new-others k ks rows w (n .1))
+
+  -- ---- keys in rising order
+
+  -- as many rows come as there are new keys
+  pub worked-length : isLocalList list ≡ true → (ks rows : List (List ℕ)) → rising ks ≡ true → All IsWide rows → areSoundRows rows ≡ true
+      → length (workedKeys state year list details ks rows) ≡ length rows + newKeys state year list details ks rows
+  unfolding workedKeys newKeys
+  worked-length l [] rows r w s = omega arith
+  worked-length l (k ∷ ks) rows r w s =
+      worked-length l ks (worked k rows) (keys-tail k ks r) (worked-wide k rows w) (worked-sound l k rows w s)
+      ∙ rw (worked-one k rows w s, new-others k ks rows w (keys-apart k ks r)) (omega arith)
+
+  pub worked-low : isLocalList list ≡ true → (ks rows : List (List ℕ)) → rising ks ≡ true → All IsWide rows → areSoundRows rows ≡ true
+      → length rows ≤ length (workedKeys state year list details ks rows)
+  worked-low l ks rows r w s = omega (arith, worked-length l ks rows r w s)
+
+  pub workedKeys-fit : isLocalList list ≡ true → (ks rows : List (List ℕ)) → Fit rows → Fit (workedKeys state year list details ks rows)
+  unfolding workedKeys
+  workedKeys-fit l [] rows f = f
+  workedKeys-fit l (k ∷ ks) rows f =
+      workedKeys-fit l ks (withStored (keyRow state year list details k rows) rows) (worked-fit l k rows f)
+
+  -- under a key that is none of them nothing changes
+  pub found-apart : (x : List ℕ) (ks rows : List (List ℕ)) → Apart x ks → All IsWide rows
+      → rowWith x (workedKeys state year list details ks rows) ≡ rowWith x rows
+  unfolding workedKeys
+  found-apart x [] rows n w = refl
+  found-apart x (k ∷ ks) rows n w =
+      found-apart x ks (withStored (keyRow state year list details k rows) rows) (n .1) (worked-wide k rows w) ∙ worked-other k rows w x (n .0)
+
+  -- under each of them stands what the machine leaves of the row at the start
+  pub found-among : (x : List ℕ) (ks rows : List (List ℕ)) → rising ks ≡ true → All IsWide rows
+      → (rowWith x (workedKeys state year list details ks rows) ≡ keyRow state year list details x rows) ⊎ Apart x ks
+  unfolding workedKeys
+  found-among x [] rows r w = inr tt
+  found-among x (k ∷ ks) rows r w =
+      go (sameBytes k x) refl (found-among x ks (worked k rows) (keys-tail k ks r) (worked-wide k rows w))
+    where
+      go : (t : Bool) → sameBytes k x ≡ t
+          → (rowWith x (workedKeys state year list details ks (worked k rows)) ≡ keyRow state year list details x (worked k rows)) ⊎ Apart x ks
+          → (rowWith x (workedKeys state year list details ks (worked k rows)) ≡ keyRow state year list details x rows) ⊎ Apart x (k ∷ ks)
+      go true t ih =
+          inl (rw (← same-eq k x t)
+          (found-apart k ks (worked k rows) (apart-flip k ks (keys-apart k ks r)) (worked-wide k rows w) ∙ worked-here k rows w))
+      go false t (inl e) =
+          inl (e ∙ ap (λ (o : Option (List ℕ)). runRow state year list o (detailsUnder x details)) (worked-other k rows w x t))
+      go false t (inr n) = inr (t, n)
+
+-- ---- the keys of the details in key order
+
+keys-get : (details : List (List ℕ)) (order : List ℕ) (q : ℕ) → q < length order → getD (keysAt details order) q [] ≡ keyAt details (getD order q 0)
+unfolding keysAt
+keys-get details [] q h = absurd (not-suc-le-zero h)
+keys-get details (i ∷ is) zero h = refl
+keys-get details (i ∷ is) (suc q) h = keys-get details is q (le-of-suc-le-suc h)
+
+pub length-keysAt : (details : List (List ℕ)) (order : List ℕ) → length (keysAt details order) ≡ length order
+unfolding keysAt
+length-keysAt details [] = refl
+length-keysAt details (i ∷ is) = ap suc (length-keysAt details is)
+
+apart-get : (x : List ℕ) (ks : List (List ℕ)) (q : ℕ) → Apart x ks → q < length ks → sameBytes (getD ks q []) x ≡ false
+apart-get x [] q n h = absurd (not-suc-le-zero h)
+apart-get x (k ∷ ks) zero n h = n .0
+apart-get x (k ∷ ks) (suc q) n h = apart-get x ks q (n .1) (le-of-suc-le-suc h)
+
+less-is : (k l : List ℕ) → orderOf k l ≡ Less → isLess (orderOf k l) ≡ true
+unfolding isLess
+less-is k l e = rw e
+
+-- one key does not fall to the next
+abbrev NextKey : List (List ℕ) → ℕ → ℕ → Type 0
+NextKey details i j = (keyAt details i ≡ keyAt details j) ⊎ (isLess (orderOf (keyAt details i) (keyAt details j)) ≡ true)
+
+climbs-at : (details : List (List ℕ)) (order : List ℕ)
+    → ((q : ℕ) → suc q < length order → NextKey details (getD order q 0) (getD order (suc q) 0)) → Climbs (keysAt details order)
+unfolding keysAt
+climbs-at details [] h = tt
+climbs-at details (i ∷ []) h = (tt, tt)
+climbs-at details (i ∷ (j ∷ is)) h = (h 0 (omega arith), climbs-at details (j ∷ is) (λ q l. h (suc q) (omega arith)))
+
+-- of the first own places of the order
+module _ (details : List (List ℕ)) (order : List ℕ) (own : ℕ) (h : own ≤ length order) where
+  own-length : length (take own order) ≡ own
+  own-length = length-take-le own order h
+
+  pub length-own : length (keysAt details (take own order)) ≡ own
+  length-own = length-keysAt details (take own order) ∙ own-length
+
+  pub own-key : (q : ℕ) → q < own → getD (keysAt details (take own order)) q [] ≡ keyAt details (getD order q 0)
+  own-key q l = keys-get details (take own order) q (rw own-length l) ∙ ap (keyAt details) (getD-take own order q 0 l)
+
+module _ (state : List ℕ) (details : List (List ℕ)) (order : List ℕ) (own : ℕ) (o : InKeyOrder state details order) (own-in : own ≤ length order)
+    (own-low : (q : ℕ) → q < own → rankAt state details (getD order q 0) < noRank) where
+  -- the keys of the own details
+  abbrev kk : List (List ℕ)
+  kk = keysAt details (take own order)
+
+  -- the key at a place of the order
+  abbrev key : ℕ → List ℕ
+  key q = keyAt details (getD order q 0)
+
+  -- they don't fall
+  pub keys-climb : Climbs (keysAt details (take own order))
+  keys-climb =
+      climbs-at details (take own order)
+      (λ q l.
+      let m : suc q < own = rw (own-length details order own own-in) at l in
+      rw (getD-take own order q 0 (omega arith), getD-take own order (suc q) 0 m) (step q m (o .in-order q (suc q) (omega arith) (omega arith))))
+    where
+      own-is : (q : ℕ) → q < own → isOwnKey state (key q) ≡ true
+      own-is q l = below-own state (key q) (own-low q l)
+
+      step : (q : ℕ) → suc q < own → Before state details (getD order q 0) (getD order (suc q) 0)
+          → NextKey details (getD order q 0) (getD order (suc q) 0)
+      step q m (inl b) =
+          inr (less-is (key q) (key (suc q)) (rank-less state (key q) (key (suc q)) (own-is q (omega arith)) (own-is (suc q) m) b))
+      step q m (inr b) = inl (rank-same state (key q) (key (suc q)) (own-is q (omega arith)) (own-is (suc q) m) (b .0))
+
+  -- so each run of the same key gives one, and these rise
+  pub keys-rise : (p : ℕ) → rising (distinct (drop p (keysAt details (take own order)))) ≡ true
+  keys-rise p = distinct-rises (drop p kk) (climbs-drop p kk keys-climb)
+
+  module _ (own-high : (q : ℕ) → own ≤ q → q < length order → rankAt state details (getD order q 0) ≡ noRank) where
+    -- an own key that is none of them has no detail
+    pub apart-none : (x : List ℕ) → isOwnKey state x ≡ true → Apart x (distinct (keysAt details (take own order))) → detailsUnder x details ≡ []
+    apart-none x t n =
+        under-none x details
+        (λ i l e. let c = o .all i l in none-at i (c .0) (c .1) (c .2) e)
+      where
+        none-at : (i q : ℕ) → q < length order → getD order q 0 ≡ i → keyAt details i ≡ x → ⊥
+        none-at i q h f e = go (ltb q own) refl
+          where
+            k : keyAt details (getD order q 0) ≡ x
+            k = ap (keyAt details) f ∙ e
+
+            go : (b : Bool) → ltb q own ≡ b → ⊥
+            go true b =
+                let l : q < own = ltb-true q own b in
+                let g : sameBytes (getD kk q []) x ≡ false =
+                apart-get x kk q (distinct-apart x kk n) (rw (length-own details order own own-in) l) in
+                false≢true (sym g ∙ eq-same (getD kk q []) x (own-key details order own own-in q l ∙ k))
+            go false b =
+                let r : rankAt state details (getD order q 0) ≡ noRank = own-high q (ltb-false q own b) h in
+                let z : rankOf state x ≡ noRank = sym (ap (rankOf state) k) ∙ r in
+                omega (arith, own-below state x t)
+
+    -- the keys worked one behind the other leave the rows that the details leave in batch order
+    pub worked-final : (year : ℕ) (list : List ℕ) (rows : List (List ℕ)) → isLocalList list ≡ true → All IsRecord details
+        → All IsWide rows → areSoundRows rows ≡ true
+        → workedKeys state year list details (distinct (keysAt details (take own order))) rows ≡ finalRows state year list rows details
+    worked-final year list rows l a w s =
+        let f : Fit rows = record { wide = w; sound = s } in
+        same-rows (workedKeys state year list details (distinct kk) rows) (finalRows state year list rows details)
+        (rows-rise (workedKeys state year list details (distinct kk) rows) (workedKeys-fit state year list details a l (distinct kk) rows f .sound))
+        (rows-rise (finalRows state year list rows details) (final-fit state year list l rows details a f .sound))
+        (λ x. at x (found-among state year list details a x (distinct kk) rows (keys-rise 0) w)
+        ∙ sym (found-final state year list x rows details a w))
+      where
+        kept : (x : List ℕ) → Apart x (distinct kk) → (t : Bool) → isOwnKey state x ≡ t
+            → rowWith x rows ≡ runRow state year list (rowWith x rows) (detailsUnder x details)
+        kept x n true t = sym (run-none state year list x (rowWith x rows) (detailsUnder x details) (apart-none x t n))
+        kept x n false t = sym (run-other state year list x t (rowWith x rows) details a)
+
+        at : (x : List ℕ)
+            → (rowWith x (workedKeys state year list details (distinct kk) rows) ≡ keyRow state year list details x rows) ⊎ Apart x (distinct kk)
+            → rowWith x (workedKeys state year list details (distinct kk) rows)
+            ≡ runRow state year list (rowWith x rows) (detailsUnder x details)
+        at x (inl e) = e
+        at x (inr n) = found-apart state year list details a x (distinct kk) rows n w ∙ kept x n (isOwnKey state x) refl

@@ -1,0 +1,116 @@
+-- A call that no refusal stops: the steps of the work on its batch make what all details leave. Assumes nothing.
+use Prim.Native.Nat.{ℕ, _+_, _-_, _*_, _/_, _≤_, _<_}
+use mathlib.Core.Path.{_≡_, ap, _∙_, subst}
+use mathlib.Core.List.{List}
+use native.Mathlib.Omega.{arith}
+use lib.ListN.{length, take, drop, getD}
+use Rattle.layout.specs.Blocks.{blocks}
+use Rattle.layout.specs.Master.{rowsOf}
+use Rattle.layout.specs.Search.{Raised}
+use Rattle.layout.proofs.BlocksLaws.{length-blocks}
+use Rattle.keyorder.specs.Order.{indexesIn, Ordered}
+use Rattle.keyorder.specs.Packed.{Packed}
+use Rattle.keyorder.specs.KeyWork.{Usable, JudgedRun}
+use Rattle.batch.specs.Turns.{verdictsOn}
+use Rattle.batch.specs.Totals.{detailCount, detailsOf, submittingState}
+use Rattle.batch.specs.Tally.{AtMost}
+use Rattle.batch.specs.Apply.{Call, newRows}
+use Rattle.batch.specs.Progress.{Worked}
+use Rattle.batch.specs.Walk.{keysAt, distinct, newKeys}
+use Rattle.batch.specs.Walking.{rowsFrom, OrderReady, WalkReady, Walked}
+use Rattle.batch.specs.Written.{noJudgement, HoldsVerdicts, Written}
+use Rattle.batch.specs.declared.counts.Tally.{Tally}
+use Rattle.batch.proofs.WidthLaws.{blocks-wide}
+use Rattle.batch.proofs.TurnsLaws.{Fit}
+use Rattle.batch.proofs.KnownLaws.{Known}
+use Rattle.batch.proofs.KeysLaws.{usable}
+use Rattle.batch.proofs.WorkLaws.{order-ready, new-few, all-marked, numbers-behind}
+
+module _ (c : Call) (k : Known c) (st : List ℕ) (se : st ≡ submittingState (c .batch)) where
+  abbrev d : ℕ
+  d = detailCount (c .batch)
+
+  abbrev details : List (List ℕ)
+  details = blocks 245 d (c .batch)
+
+  abbrev rows : List (List ℕ)
+  rows = rowsOf (c .rows) (c .master)
+
+  count-rows : length rows ≡ c .rows
+  count-rows = length-blocks 200 (c .rows) (c .master)
+
+  fit : Fit rows
+  fit = record { wide = blocks-wide 200 (c .rows) (c .master) (k .rows-in); sound = k .sound }
+
+  records-in : d * 245 ≤ length (c .batch)
+  records-in = omega (arith, k .batch-in)
+
+  module _ (own : ℕ) (v₁ : List ℕ) (x : Ordered st details d (c .verdicts) v₁ own) where
+    pub ordered : OrderReady st (c .batch) d own v₁
+    ordered = order-ready st (c .batch) d (c .verdicts) v₁ own records-in (k .slots) x
+
+    module _ (new : ℕ) (ni : new ≡ newKeys st (c .year) (c .locals) details (distinct (keysAt details (take own (indexesIn d v₁)))) rows) where
+      -- the rows that there will be have room
+      pub rows-room : (c .rows + new) * 200 ≤ length (c .master)
+      unfolding detailsOf
+      rows-room =
+          let few : newKeys st (c .year) (c .locals) details (distinct (keysAt details (take own (indexesIn d v₁)))) rows ≤ newRows rows details =
+          new-few st (c .year) (c .locals) (c .batch) d own rows v₁ ordered fit (k .list) in
+          let room : c .rows + newRows rows details ≤ length (c .master) / 200 = k .room in
+          omega (arith, ni, few, room)
+
+      module _ (m₁ : List ℕ) (raised : Raised (c .master) (c .rows) new m₁) where
+        rows-are : rowsFrom new (c .rows + new) m₁ ≡ rows
+        rows-are =
+            let e : c .rows + new - new ≡ c .rows = omega arith in
+            ap (λ (z : ℕ). rowsOf z (drop (new * 200) m₁)) e ∙ raised .rows-are
+
+        pub walk-ready : WalkReady st (c .year) (c .locals) (c .batch) d own (c .rows + new) new m₁ v₁
+        walk-ready =
+            record {
+              listed = k .list;
+              ordered = ordered;
+              within = omega arith;
+              rows-in = omega (arith, rows-room, raised .same-length);
+              sound = rw rows-are (k .sound);
+              room = rw rows-are ni;
+            }
+
+        module _ (m₂ v₂ : List ℕ) (len : length v₂ ≡ length v₁)
+            (walked : Walked st (c .year) (c .locals) (c .batch) d own (c .rows + new) new m₁ v₁ m₂ v₂) where
+          pub all-usable : Usable (c .batch) v₂ d
+          all-usable = usable st (c .batch) d own v₁ ordered v₂ len (walked .indexes) d (omega arith)
+
+          module _ (v₃ : List ℕ) (judged : JudgedRun st (c .year) (c .locals) (c .batch) own (d - own) v₂ v₃) where
+            verdicts-walked : (q : ℕ) → q < own
+                → (index : ℕ)
+                × Packed (getD v₂ (getD (indexesIn d v₁) q 0) 0) index
+                (getD (verdictsOn st (c .year) (c .locals) rows details) (getD (indexesIn d v₁) q 0) noJudgement)
+            verdicts-walked q l = rw (← rows-are) (walked .verdicts q l)
+
+            pub marked : HoldsVerdicts d v₃ (verdictsOn st (c .year) (c .locals) rows details)
+            marked = all-marked st (c .year) (c .locals) (c .batch) d own rows v₁ ordered fit (k .list) v₂ v₃ len (walked .indexes) verdicts-walked judged
+
+            kept : drop d v₃ ≡ drop d (c .verdicts)
+            kept =
+                numbers-behind st (c .year) (c .locals) (c .batch) d own rows v₁ ordered fit (k .list) v₂ v₃ len (walked .indexes) verdicts-walked judged
+                ∙ walked .numbers-kept ∙ x .kept
+
+            pub all-worked : (v₄ rj : List ℕ) (n : ℕ) (rejects : ℕ) (t : Tally) → length m₂ ≡ length (c .master) → n ≡ c .rows + new
+                → Written details (verdictsOn st (c .year) (c .locals) rows details) v₃ (c .rejects) v₄ rj rejects t
+                → Worked c m₂ n v₄ rj rejects t
+            unfolding detailsOf
+            all-worked v₄ rj n rejects t lm ne w =
+                let e : length details ≡ d = length-blocks 245 d (c .batch) in
+                record {
+                  rows-are = rw (ne, walked .rows-are, rows-are, se);
+                  rows-in = omega (arith, rows-room, lm, ne);
+                  rows-kept = rw ne (walked .rows-kept ∙ raised .rest-kept);
+                  numbers-are = rw (e, se) at (w .numbers-are);
+                  numbers-kept = (rw e at (w .numbers-kept)) ∙ kept;
+                  rejects-are = rw se at (w .rejects-are);
+                  rejects-few = omega (arith, w .rejects-few, e);
+                  rejects-kept = w .rejects-kept;
+                  counts-are = rw se at (w .counts-are);
+                  counted = subst (λ (z : ℕ). AtMost z t) e (w .counted);
+                }

@@ -1,0 +1,64 @@
+-- For the contracts of inner functions; no rule of the papers stands here.
+-- The details of a batch in the order of their keys: the ranks of keys, and the list of the details' indexes by rank. Assumes nothing.
+use Prim.Native.Nat.{ℕ, _+_, _*_, _/_, _%_, _^_, _≤_, _<_}
+use mathlib.Core.Path.{_≡_}
+use mathlib.Core.List.{List, [], map}
+use mathlib.Core.Bool.{Bool, cond, _&&_}
+use mathlib.Core.Logic.{_⊎_}
+use lib.Dec.{eqb}
+use lib.ListN.{length, take, drop, getD}
+use Rattle.layout.specs.Characters.{N}
+use Rattle.layout.specs.Fields.{columns, sameBytes, number}
+use Rattle.layout.specs.Key.{isSoundKey}
+use Rattle.onecase.specs.Record.{recordKey}
+
+-- a sound key of the submitting state: one free of 01, 02 and 04
+unfoldable pub isOwnKey : List ℕ → List ℕ → Bool
+isOwnKey state key = isSoundKey key && sameBytes (columns 1 2 key) state
+
+-- above the rank of every such key
+abbrev pub noRank : ℕ
+noRank = 2 ^ 31
+
+-- its rank among them: the SSN's number and the case type, A before N; any other key comes behind them all
+unfoldable pub rankOf : List ℕ → List ℕ → ℕ
+rankOf state key = cond (isOwnKey state key) (number (columns 3 11 key) * 2 + cond (eqb (getD key 11 0) N) 1 0) noRank
+
+-- the detail at an index
+abbrev pub detailAt : List (List ℕ) → ℕ → List ℕ
+detailAt details i = getD details i []
+
+-- the rank of its key
+abbrev pub rankAt : List ℕ → List (List ℕ) → ℕ → ℕ
+rankAt state details i = rankOf state (recordKey (detailAt details i))
+
+-- detail i comes before detail j: by rank, and within a rank in batch order
+abbrev pub Before : List ℕ → List (List ℕ) → ℕ → ℕ → Type 0
+Before state details i j =
+    (rankAt state details i < rankAt state details j) ⊎ ((rankAt state details i ≡ rankAt state details j) × (i < j))
+
+-- the indexes of all details in this order
+pub record InKeyOrder (state : List ℕ) (details : List (List ℕ)) (order : List ℕ) : Type 0 where
+  pub count : length order ≡ length details
+  pub inside : (q : ℕ) → q < length order → getD order q 0 < length details
+  pub all : (i : ℕ) → i < length details → (q : ℕ) × (q < length order) × (getD order q 0 ≡ i)
+  pub in-order : (q p : ℕ) → q < p → p < length order → Before state details (getD order q 0) (getD order p 0)
+
+-- the index that a number of the verdict list holds in its bits 19 to 42
+abbrev pub indexIn : ℕ → ℕ
+indexIn n = n / 2 ^ 19 % 2 ^ 24
+
+-- the indexes in the first d numbers
+abbrev pub indexesIn : ℕ → List ℕ → List ℕ
+indexesIn d numbers = map indexIn (take d numbers)
+
+-- the first d numbers hold the indexes of d details in key order and nothing else, those of the submitting state's sound keys being
+-- the first own of them; the numbers behind are kept
+pub record Ordered (state : List ℕ) (details : List (List ℕ)) (d : ℕ) (before after : List ℕ) (own : ℕ) : Type 0 where
+  pub in-order : InKeyOrder state details (indexesIn d after)
+  pub alone : (q : ℕ) → q < d → getD after q 0 ≡ getD (indexesIn d after) q 0 * 2 ^ 19
+  pub kept : drop d after ≡ drop d before
+  pub width : length after ≡ length before
+  pub own-in : own ≤ d
+  pub own-low : (q : ℕ) → q < own → rankAt state details (getD (indexesIn d after) q 0) < noRank
+  pub own-high : (q : ℕ) → own ≤ q → q < d → rankAt state details (getD (indexesIn d after) q 0) ≡ noRank

@@ -1,0 +1,150 @@
+// The details at some positions of the key order, worked through the machine.
+use crate::packed;
+use crate::records;
+use layout::fields;
+use onecase::case::Case;
+ghost use mathlib.Core.Path.{_≡_};
+ghost use mathlib.Core.Option.{none};
+ghost use Prim.Native.Nat.{_-_, _*_, _+_, _≤_, _<_};
+ghost use lib.ListN.{length, getD};
+ghost use Rattle.onecase.specs.Record.{recordKey};
+ghost use Rattle.onecase.specs.Machine.{next, rowOf};
+ghost use Rattle.keyorder.specs.Order.{indexIn};
+ghost use Rattle.keyorder.specs.KeyWork.{recordIn, Usable, IsKeyEnd, Marked, KeyRun, JudgedRun, makesRow};
+
+// 2 to the power 19: where a number's index begins.
+const INDEX: u64 = 0x80000;
+
+// The machine's state without a row.
+pub fn no_case() -> Case
+    ensures { λ r. ⌜ rowOf r ≡ none ⌝ }
+{
+    let row = [0x40u8; 200];
+    Case { held: false, row }
+}
+
+// The record at a position of the key order.
+pub fn record_in(batch: &[u8], numbers: &[u64], p: usize) -> [u8; 245]
+    requires { ⌜ (p < length (now numbers)) × (indexIn (getD (now numbers) p 0) * 245 + 245 ≤ length (now batch)) ⌝ }
+    ensures { λ r. ⌜ r ≡ recordIn (now (batch .entry)) (now (numbers .entry)) p ⌝ }
+{
+    records::record_at(batch, packed::index_in(numbers[p]))
+}
+
+// The key of the detail at a position of the key order.
+pub fn key_in(batch: &[u8], numbers: &[u64], p: usize) -> [u8; 12]
+    requires { ⌜ (p < length (now numbers)) × (indexIn (getD (now numbers) p 0) * 245 + 245 ≤ length (now batch)) ⌝ }
+    ensures { λ r. ⌜ r ≡ recordKey (recordIn (now (batch .entry)) (now (numbers .entry)) p) ⌝ }
+{
+    records::key_at(batch, packed::index_in(numbers[p]))
+}
+
+// The first position behind p whose detail has another key than that at p, or own where there is none.
+pub fn key_end(batch: &[u8], numbers: &[u64], p: usize, own: usize) -> usize
+    requires { ⌜ (p < own) × Usable (now batch) (now numbers) own ⌝ }
+    ensures { λ r. ⌜ IsKeyEnd (now (batch .entry)) (now (numbers .entry)) p own r ⌝ }
+{
+    let key = key_in(batch, numbers, p);
+    let mut e = p + 1;
+    while e < own {
+        let other = key_in(batch, numbers, e);
+        if !fields::same(&key, &other) {
+            return e;
+        }
+        e += 1;
+    }
+    e
+}
+
+// The detail at position p judged on a row or none: the verdict goes beside the index in the detail's own number, the new state is
+// handed back.
+fn work_detail(
+    case: Case,
+    batch: &[u8],
+    numbers: &mut [u64],
+    p: usize,
+    state: &[u8],
+    year: u64,
+    list: &[u8],
+) -> Case
+    requires { ⌜ (p < length (now numbers)) × (indexIn (getD (now numbers) p 0) < length (now numbers)) × (indexIn (getD (now numbers) p 0) * 245 + 245 ≤ length (now batch)) ⌝ }
+    ensures { λ r. ⌜ (rowOf r ≡ next (now (state .entry)) year (now (list .entry)) (rowOf case) (recordIn (now (batch .entry)) (now (numbers .entry)) p)) × Marked (now (state .entry)) year (now (list .entry)) (now (batch .entry)) p (rowOf case) (now (numbers .entry)) (now (numbers .exit)) ⌝ }
+{
+    let i = packed::index_in(numbers[p]);
+    let rec = records::record_at(batch, i);
+    let step = case.step(rec, state, year, list);
+    let verdict = step.verdict;
+    let left = step.case;
+    let index = packed::index_in(numbers[i]) as u64;
+    numbers[i] = packed::with_verdict(index * INDEX, verdict);
+    left
+}
+
+// The details of one key, at positions p up to e, through the machine in batch order; the state that they leave is handed back.
+pub fn work_key(
+    case: Case,
+    batch: &[u8],
+    numbers: &mut [u64],
+    p: usize,
+    e: usize,
+    state: &[u8],
+    year: u64,
+    list: &[u8],
+) -> Case
+    requires { ⌜ (p ≤ e) × Usable (now batch) (now numbers) e ⌝ }
+    ensures { λ r. ⌜ KeyRun (now (state .entry)) year (now (list .entry)) (now (batch .entry)) p (e - p) (rowOf case) (now (numbers .entry)) (rowOf r) (now (numbers .exit)) ⌝ }
+{
+    let mut c = case;
+    let mut q = p;
+    while q < e {
+        c = work_detail(c, batch, numbers, q, state, year, list);
+        q += 1;
+    }
+    c
+}
+
+// The details at positions p up to e, each judged on no row.
+pub fn judge_alone(
+    batch: &[u8],
+    numbers: &mut [u64],
+    p: usize,
+    e: usize,
+    state: &[u8],
+    year: u64,
+    list: &[u8],
+)
+    requires { ⌜ (p ≤ e) × Usable (now batch) (now numbers) e ⌝ }
+    ensures { λ _. ⌜ JudgedRun (now (state .entry)) year (now (list .entry)) (now (batch .entry)) p (e - p) (now (numbers .entry)) (now (numbers .exit)) ⌝ }
+{
+    let mut q = p;
+    while q < e {
+        let _ = work_detail(no_case(), batch, numbers, q, state, year, list);
+        q += 1;
+    }
+}
+
+// Whether one of the details at positions p up to e makes a row from none.
+pub fn makes_row(
+    batch: &[u8],
+    numbers: &[u64],
+    p: usize,
+    e: usize,
+    state: &[u8],
+    year: u64,
+    list: &[u8],
+) -> bool
+    requires { ⌜ (p ≤ e) × Usable (now batch) (now numbers) e ⌝ }
+    ensures { λ r. ⌜ r ≡ makesRow (now (state .entry)) year (now (list .entry)) (now (batch .entry)) (now (numbers .entry)) p (e - p) ⌝ }
+{
+    let mut q = p;
+    while q < e {
+        let rec = record_in(batch, numbers, q);
+        let step = no_case().step(rec, state, year, list);
+        let case = step.case;
+        if case.held {
+            return true;
+        }
+        q += 1;
+    }
+    false
+}

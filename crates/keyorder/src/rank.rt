@@ -1,0 +1,45 @@
+// The rank of a key among the submitting state's sound keys.
+use layout::fields;
+use layout::fields::Columns;
+use layout::key;
+ghost use mathlib.Core.Path.{_≡_};
+ghost use mathlib.Core.Bool.{cond};
+ghost use Prim.Native.Nat.{_≤_, _^_};
+ghost use lib.Dec.{eqb};
+ghost use Rattle.layout.specs.Characters.{N};
+ghost use Rattle.keyorder.specs.Order.{isOwnKey, rankOf};
+
+const STATE: Columns = Columns { first: 1, last: 2 };
+
+const SSN: Columns = Columns { first: 3, last: 11 };
+
+// Behind the ranks of all sound keys of one state.
+pub const NO_RANK: u64 = 2147483648;
+
+// Whether a key is a sound one of a state.
+pub fn is_own_key(state: &[u8], key: &[u8]) -> bool
+    ensures { λ r. ⌜ r ≡ isOwnKey (now (state .entry)) (now (key .entry)) ⌝ }
+{
+    if !key::is_sound_key(key) {
+        return false;
+    }
+    fields::same(fields::field(key, STATE), state)
+}
+
+// One for Non-TANF, else none: within an SSN the case type A comes first.
+fn type_rank(b: u8) -> u64
+    ensures { λ r. ⌜ r ≡ cond (eqb b N) 1 0 ⌝ }
+{
+    if b == 0xD5 { 1 } else { 0 }
+}
+
+// A key's rank: by SSN and case type, or behind all such.
+pub fn rank_of(state: &[u8], key: &[u8]) -> u64
+    ensures { λ r. ⌜ (r ≡ rankOf (now (state .entry)) (now (key .entry))) × (r ≤ 2 ^ 31) ⌝ }
+{
+    if !is_own_key(state, key) {
+        return NO_RANK;
+    }
+    let ssn = fields::number_at(key, SSN);
+    ssn * 2 + type_rank(key[11])
+}
