@@ -31,6 +31,7 @@ pub mod KeysLaws
 pub mod WalkingLaws
 pub mod CountingLaws
 pub mod WorkLaws
+pub mod AddLaws
 pub mod WalkStepLaws
 pub mod KnownLaws
 pub mod WorkedLaws

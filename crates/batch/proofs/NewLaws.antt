@@ -1,18 +1,24 @@
 -- Counting the A records whose key has no row. Assumes nothing.
 use Prim.Native.Nat.{ℕ, _+_, _*_, _≤_, _<_}
-use mathlib.Core.Path.{_≡_, refl, sym, ap, _∙_}
-use mathlib.Core.Bool.{Bool, true, false, cond, _&&_, and-false}
+use mathlib.Core.Path.{_≡_, ap, _∙_}
+use mathlib.Core.Bool.{Bool, true, false, cond, and-false}
 use mathlib.Core.List.{List, [], _∷_}
 use mathlib.Core.Option.{none, some}
 use native.Mathlib.Omega.{arith}
-use lib.ListN.{length, take, drop, drop-of-length-le}
+use lib.Dec.{lit≤}
+use lib.ListN.{take, drop, getD, drop-of-length-le}
+use lib.Seq.{getD-take, getD-drop}
 use Rattle.layout.specs.Characters.{A}
 use Rattle.layout.specs.Blocks.{blocks}
-use Rattle.layout.specs.Rows.{rowWith, placeWith}
+use Rattle.layout.specs.Rows.{placeWith}
 use Rattle.layout.proofs.BlocksLaws.{blocks-next, length-blocks}
 use Rattle.layout.proofs.SearchLaws.{place-row, no-place-row}
-use Rattle.onecase.specs.Record.{isType, recordKey}
+use Rattle.onecase.specs.Record.{isType, typeOf, recordKey}
 use Rattle.batch.specs.Apply.{isNew, newRows}
+
+-- a record's type, read in the batch
+pub type-in : (batch : List ℕ) (i : ℕ) → typeOf (take 245 (drop (i * 245) batch)) ≡ getD batch (i * 245 + 72) 0
+type-in batch i = getD-take 245 (drop (i * 245) batch) 72 0 (lit≤ tt) ∙ getD-drop (i * 245) batch 72 0
 
 module _ (rows : List (List ℕ)) (rec : List ℕ) where
   pub new-other : isType A rec ≡ false → newRows rows (rec ∷ []) ≡ 0

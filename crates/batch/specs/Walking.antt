@@ -4,16 +4,17 @@
 use Prim.Native.Nat.{ℕ, _+_, _-_, _*_, _≤_, _<_}
 use mathlib.Core.Path.{_≡_}
 use mathlib.Core.List.{List, [], _∷_, _++_}
-use mathlib.Core.Bool.{Bool, true, not, cond, _&&_}
+use mathlib.Core.Bool.{Bool, true, false, not, cond, _&&_, _||_}
 use mathlib.Core.Option.{Option, none, some}
 use lib.Dec.{ltb}
 use lib.ListN.{length, take, drop, getD}
+use Rattle.layout.specs.Characters.{A}
 use Rattle.layout.specs.Fields.{sameBytes}
 use Rattle.layout.specs.Blocks.{blocks}
 use Rattle.layout.specs.Locals.{isLocalList}
 use Rattle.layout.specs.Master.{rowsOf, areSoundRows}
 use Rattle.layout.specs.Search.{AreBelow}
-use Rattle.onecase.specs.Record.{recordKey, rowIf}
+use Rattle.onecase.specs.Record.{isType, recordKey, rowIf}
 use Rattle.onecase.specs.Verdict.{Judgement}
 use Rattle.keyorder.specs.Order.{indexIn, indexesIn, rankAt, noRank, InKeyOrder}
 use Rattle.keyorder.specs.Packed.{Packed}
@@ -21,6 +22,11 @@ use Rattle.keyorder.specs.KeyWork.{recordIn, IsKeyEnd, KeyRun, makesRow}
 use Rattle.batch.specs.Turns.{finalRows, verdictsOn}
 use Rattle.batch.specs.Walk.{keysAt, distinct, newKeys}
 use Rattle.batch.specs.Written.{noJudgement}
+
+-- one of some details is of type A
+unfoldable pub hasAdd : List (List ℕ) → Bool
+hasAdd [] = false
+hasAdd (detail ∷ details) = isType A detail || hasAdd details
 
 -- the row at a place
 abbrev pub rowIn : List ℕ → ℕ → List ℕ

@@ -13,12 +13,11 @@ use layout::fields;
 use layout::master;
 use layout::search;
 use layout::search::Place;
-use onecase::record;
 ghost use mathlib.Core.Path.{_≡_};
 ghost use mathlib.Core.Bool.{true};
 ghost use mathlib.Core.List.{_∷_, []};
 ghost use Prim.Native.Nat.{_+_, _*_, _≤_, _<_};
-ghost use lib.ListN.{length};
+ghost use lib.ListN.{length, take, drop};
 ghost use Rattle.layout.specs.Blocks.{blocks, spliced};
 ghost use Rattle.layout.specs.Master.{rowsOf, areSoundRows};
 ghost use Rattle.batch.specs.Totals.{detailCount, submittingState};
@@ -39,16 +38,16 @@ pub enum Applied {
     Refused(u64),
 }
 
-// 1 where a record is an A whose key has no row, else 0.
-fn is_new(m: &[u8], n: usize, rec: [u8; 245]) -> usize
-    requires { ⌜ (n * 200 ≤ length (now m)) × (areSoundRows (rowsOf n (now m)) ≡ true) ⌝ }
-    ensures { λ r. ⌜ r ≡ newRows (rowsOf n (now (m .entry))) (rec ∷ []) ⌝ }
+// 1 where the record at place i is an A whose key has no row, else 0. The type is read first, the key of an A alone.
+fn is_new(m: &[u8], n: usize, batch: &[u8], i: usize) -> usize
+    requires { ⌜ (n * 200 ≤ length (now m)) × (areSoundRows (rowsOf n (now m)) ≡ true) × (i * 245 + 245 ≤ length (now batch)) ⌝ }
+    ensures { λ r. ⌜ r ≡ newRows (rowsOf n (now (m .entry))) (take 245 (drop (i * 245) (now (batch .entry))) ∷ []) ⌝ }
 {
-    let t = rec[72];
+    let t = batch[i * 245 + 72];
     if t != 0xC1 {
         return 0;
     }
-    let key = record::record_key(&rec);
+    let key = records::key_at(batch, i);
     match search::place_of(m, n, &key) {
         Place::At(_) => 0,
         Place::Gap(_) => 1,
@@ -63,8 +62,7 @@ fn count_new(m: &[u8], n: usize, batch: &[u8], d: usize) -> usize
     let mut count: usize = 0;
     let mut i: usize = 0;
     while i < d {
-        let rec = records::record_at(batch, i);
-        count += is_new(m, n, rec);
+        count += is_new(m, n, batch, i);
         i += 1;
     }
     count

@@ -10,8 +10,8 @@ use layout::states;
 use onecase::record;
 ghost use mathlib.Core.Path.{_≡_};
 ghost use mathlib.Core.Bool.{true};
-ghost use Prim.Native.Nat.{_+_, _*_, _^_, _≤_};
-ghost use lib.ListN.{length, take, drop};
+ghost use Prim.Native.Nat.{_*_, _^_, _≤_};
+ghost use lib.ListN.{length};
 ghost use Rattle.layout.specs.Blocks.{blocks};
 ghost use Rattle.batch.specs.Totals.{isControl, amountIn};
 ghost use Rattle.batch.specs.TotalsParts.{countIn, hasAmount, HasRoom, IsAdded, AreTotals, countsAgree, amountsAgree};
@@ -45,14 +45,16 @@ fn is_control(rec: &[u8; 245]) -> bool
 }
 
 // 1 where a detail is of a case type, else 0.
-fn count_in(case_type: u8, rec: &[u8; 245]) -> u64
+fn count_in(case_type: u8, rec: &[u8]) -> u64
+    requires { ⌜ length (now rec) ≡ 245 ⌝ }
     ensures { λ r. ⌜ r ≡ countIn «case_type» (now (rec .entry)) ⌝ }
 {
     if rec[73] == case_type { 1 } else { 0 }
 }
 
 // Whether a detail is of a type whose amount counts: A or M.
-fn has_amount(rec: &[u8; 245]) -> bool
+fn has_amount(rec: &[u8]) -> bool
+    requires { ⌜ length (now rec) ≡ 245 ⌝ }
     ensures { λ r. ⌜ r ≡ hasAmount (now (rec .entry)) ⌝ }
 {
     let t = rec[72];
@@ -60,7 +62,8 @@ fn has_amount(rec: &[u8; 245]) -> bool
 }
 
 // The amount of a detail of a case type where it counts and is eight digits, else 0.
-fn amount_in(case_type: u8, rec: &[u8; 245]) -> u64
+fn amount_in(case_type: u8, rec: &[u8]) -> u64
+    requires { ⌜ length (now rec) ≡ 245 ⌝ }
     ensures { λ r. ⌜ r ≡ amountIn «case_type» (now (rec .entry)) ⌝ }
 {
     let amount = fields::field(rec, chart_a1::ARREARAGE);
@@ -72,8 +75,8 @@ fn amount_in(case_type: u8, rec: &[u8; 245]) -> u64
 }
 
 // The totals with a detail added.
-fn with_detail(t: Totals, rec: &[u8; 245]) -> Totals
-    requires { ⌜ HasRoom t ⌝ }
+fn with_detail(t: Totals, rec: &[u8]) -> Totals
+    requires { ⌜ (HasRoom t) × (length (now rec) ≡ 245) ⌝ }
     ensures { λ r. ⌜ IsAdded (now (rec .entry)) t r ⌝ }
 {
     Totals {
@@ -84,7 +87,7 @@ fn with_detail(t: Totals, rec: &[u8; 245]) -> Totals
     }
 }
 
-// The totals of the first n records.
+// The totals of the first n records, none of which is copied out.
 fn totals_of(batch: &[u8], n: usize) -> Totals
     requires { ⌜ (n * 245 ≤ length (now batch)) × (n ≤ 2 ^ 32) ⌝ }
     ensures { λ r. ⌜ AreTotals (blocks 245 n (now (batch .entry))) r ⌝ }
@@ -97,8 +100,9 @@ fn totals_of(batch: &[u8], n: usize) -> Totals
     };
     let mut i: usize = 0;
     while i < n {
-        let rec = records::record_at(batch, i);
-        t = with_detail(t, &rec);
+        let at = i * RECORD_WIDTH;
+        let end = at + RECORD_WIDTH;
+        t = with_detail(t, &batch[at..end]);
         i += 1;
     }
     t

@@ -1,10 +1,10 @@
 -- `apply::count_new` meets its contract. The invariant: what was counted and what is left make the whole. Assumes nothing.
-use mathlib.Core.List.{List, [], _∷_}
-use mathlib.Core.Path.{_≡_, ap}
-use Prim.Native.Nat.{ℕ, _+_, _-_, _*_, _≤_}
+use mathlib.Core.Path.{_≡_}
+use Prim.Native.Nat.{_+_, _-_, _*_, _≤_}
 use native.Mathlib.Omega.{arith}
 use lib.ListN.{take, drop}
 use borrow.Author.Needs.{needs}
+use denote.Ref.{now}
 use Rattle.batch.specs.Apply.{newRows}
 use Rattle.layout.specs.Blocks.{blocks}
 use Rattle.layout.specs.Master.{rowsOf}
@@ -21,14 +21,17 @@ abbrev μ-loop : tie.MeasureT-loop
 loop-holds : tie.Need-loop-holds Inv-loop μ-loop
 loop-holds c = (search needs, search needs, omega arith)
 
-record-at-requires : tie.Need-record-at-requires Inv-loop μ-loop
-record-at-requires c κs = omega (arith, c .before .before .before .before .pre .2, c .loop-test .taken)
-
 is-new-requires : tie.Need-is-new-requires Inv-loop μ-loop
-is-new-requires c κs = (c .before .before .before .before .before .pre .0, c .before .before .before .before .before .pre .1)
+is-new-requires c κs =
+    let s = c .before .before .before .before in
+    (s .pre .0, s .pre .1, omega (arith, s .pre .2, c .loop-test .taken))
 
 add-count : tie.Need-add-count Inv-loop μ-loop
-add-count c = omega (arith, c .is-new .ensures, new-most (rowsOf (c .before .before .before .before .before .before .args .n) (c .before .before .before .before .before .before .args .m .now)) (c .before .record-at .result), c .before .before .before .loop .inv .1, c .before .before .loop-test .taken, c .before .before .before .before .before .before .pre .2)
+add-count c =
+    let s = c .before .before .before .before .before in
+    let l = c .before .before .loop in
+    let b = new-most (rowsOf (s .args .n) (now (s .args .m))) (take 245 (drop (l .i * 245) (now (s .args .batch)))) in
+    omega (arith, c .is-new .ensures, b, l .inv .1, c .before .loop-test .taken, s .pre .2)
 
 add-i : tie.Need-add-i Inv-loop μ-loop
 add-i c = search needs
@@ -38,11 +41,12 @@ loop-less c = search needs
 
 loop-again : tie.Need-loop-again Inv-loop μ-loop
 loop-again c =
-    let r = c .is-new .ensures in
-    let e : newRows (rowsOf (c .before .before .before .before .before .before .args .n) (c .before .before .before .before .before .before .args .m .now)) (c .before .record-at .result ∷ []) ≡ newRows (rowsOf (c .before .before .before .before .before .before .args .n) (c .before .before .before .before .before .before .args .m .now)) (take 245 (drop (c .before .before .before .loop .i * 245) (c .before .before .before .before .before .before .args .batch .now)) ∷ []) = ap (λ (z : List ℕ). newRows (rowsOf (c .before .before .before .before .before .before .args .n) (c .before .before .before .before .before .before .args .m .now)) (z ∷ [])) (c .before .record-at .ensures) in
-    let s = new-next (rowsOf (c .before .before .before .before .before .before .args .n) (c .before .before .before .before .before .before .args .m .now)) (c .before .before .before .before .before .before .args .batch .now) (c .before .before .before .before .before .before .args .d) (c .before .before .before .loop .i) (c .before .before .loop-test .taken) in
-    let b = new-most (rowsOf (c .before .before .before .before .before .before .args .n) (c .before .before .before .before .before .before .args .m .now)) (c .before .record-at .result) in
-    (omega (arith, c .before .before .loop-test .taken), omega (arith, c .before .before .before .loop .inv .1), omega (arith, c .before .before .before .loop .inv .2))
+    let a = c .before .before .before .before .before .args in
+    let l = c .before .before .loop in
+    let e = c .is-new .ensures in
+    let s = new-next (rowsOf (a .n) (now (a .m))) (now (a .batch)) (a .d) (l .i) (c .before .loop-test .taken) in
+    let b = new-most (rowsOf (a .n) (now (a .m))) (take 245 (drop (l .i * 245) (now (a .batch)))) in
+    (omega (arith, c .before .loop-test .taken), omega (arith, l .inv .1), omega (arith, l .inv .2))
 
 returns : tie.Need-returns Inv-loop μ-loop
 returns c =
@@ -56,7 +60,6 @@ count-new-spec =
     Inv-loop
     μ-loop
     loop-holds
-    record-at-requires
     is-new-requires
     add-count
     add-i

@@ -13,8 +13,8 @@ use Rattle.batch.proofs.totals.amount_in.Tie as tie
 field-requires : tie.Need-field-requires
 field-requires c κs = search needs
 
-element-copy-out-if1 : tie.Need-element-copy-out-if1
-element-copy-out-if1 c = search needs
+shared-slice-read-if1 : tie.Need-shared-slice-read-if1
+shared-slice-read-if1 c = search needs
 
 has-amount-requires : tie.Need-has-amount-requires
 has-amount-requires c κs = search needs
@@ -54,7 +54,7 @@ amount-in-spec =
     tie.close
     (tie.spec
     field-requires
-    element-copy-out-if1
+    shared-slice-read-if1
     has-amount-requires
     are-digits-requires
     number-of-requires

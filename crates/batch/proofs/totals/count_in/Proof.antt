@@ -4,8 +4,8 @@ use borrow.Author.Tests.{eq-eqb, ne-eqb}
 use Rattle.batch.proofs.totals.count_in.Statement.{statement}
 use Rattle.batch.proofs.totals.count_in.Tie as tie
 
-element-copy-out-if1 : tie.Need-element-copy-out-if1
-element-copy-out-if1 c = search needs
+shared-slice-read-if1 : tie.Need-shared-slice-read-if1
+shared-slice-read-if1 c = search needs
 
 returns : tie.Need-returns
 returns c = rw (eq-eqb _ _ (c .if1 .taken))
@@ -14,4 +14,4 @@ returns-2 : tie.Need-returns-2
 returns-2 c = rw (ne-eqb _ _ (c .if1 .left))
 
 pub count-in-spec : {M : Type 1} → statement M
-count-in-spec = tie.close (tie.spec element-copy-out-if1 returns returns-2)
+count-in-spec = tie.close (tie.spec shared-slice-read-if1 returns returns-2)

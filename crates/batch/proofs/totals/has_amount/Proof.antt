@@ -4,11 +4,11 @@ use borrow.Author.Needs.{needs}
 use Rattle.batch.proofs.totals.has_amount.Statement.{statement}
 use Rattle.batch.proofs.totals.has_amount.Tie as tie
 
-element-copy-out-t : tie.Need-element-copy-out-t
-element-copy-out-t c = search needs
+shared-slice-read-t : tie.Need-shared-slice-read-t
+shared-slice-read-t c = search needs
 
 returns : tie.Need-returns
 returns c = refl
 
 pub has-amount-spec : {M : Type 1} → statement M
-has-amount-spec = tie.close (tie.spec element-copy-out-t returns)
+has-amount-spec = tie.close (tie.spec shared-slice-read-t returns)

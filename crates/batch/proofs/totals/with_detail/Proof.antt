@@ -11,32 +11,32 @@ count-in-requires c κs = search needs
 
 add-t4 : tie.Need-add-t4
 add-t4 c =
-    let s = c .before .before in
-    omega (arith, c .before .count-in .ensures, count-small A (s .args .rec .now), s .pre .tanfCount)
+    let s = c .before .before .before in
+    omega (arith, c .before .count-in .ensures, count-small A (s .args .rec .now), s .pre .0 .tanfCount)
 
 count-in-requires-2 : tie.Need-count-in-requires-2
 count-in-requires-2 c κs = search needs
 
 add-t6 : tie.Need-add-t6
 add-t6 c =
-    let s = c .before .before .before .before in
-    omega (arith, c .before .count-in2 .ensures, count-small N (s .args .rec .now), s .pre .nonTanfCount)
+    let s = c .before .before .before .before .before in
+    omega (arith, c .before .count-in2 .ensures, count-small N (s .args .rec .now), s .pre .0 .nonTanfCount)
 
 amount-in-requires : tie.Need-amount-in-requires
 amount-in-requires c κs = search needs
 
 add-t8 : tie.Need-add-t8
 add-t8 c =
-    let s = c .before .before .before .before .before .before in
-    omega (arith, c .before .amount-in .ensures, amount-small A (s .args .rec .now), s .pre .tanfAmount)
+    let s = c .before .before .before .before .before .before .before in
+    omega (arith, c .before .amount-in .ensures, amount-small A (s .args .rec .now), s .pre .0 .tanfAmount)
 
 amount-in-requires-2 : tie.Need-amount-in-requires-2
 amount-in-requires-2 c κs = search needs
 
 add-t10 : tie.Need-add-t10
 add-t10 c =
-    let s = c .before .before .before .before .before .before .before .before in
-    omega (arith, c .before .amount-in2 .ensures, amount-small N (s .args .rec .now), s .pre .nonTanfAmount)
+    let s = c .before .before .before .before .before .before .before .before .before in
+    omega (arith, c .before .amount-in2 .ensures, amount-small N (s .args .rec .now), s .pre .0 .nonTanfAmount)
 
 returns : tie.Need-returns
 returns c = search needs

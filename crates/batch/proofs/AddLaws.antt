@@ -1,0 +1,53 @@
+-- Batches without a record of type A add no row. Assumes nothing.
+use Prim.Native.Nat.{ℕ, _+_, _*_, _≤_, _<_}
+use mathlib.Core.Path.{_≡_, refl, ap, _∙_}
+use mathlib.Core.Bool.{true, false}
+use mathlib.Core.List.{List, [], _∷_}
+use native.Mathlib.Omega.{arith}
+use lib.ListN.{length, take, drop, drop-of-length-le}
+use Rattle.layout.specs.Characters.{A}
+use Rattle.layout.specs.Blocks.{blocks}
+use Rattle.layout.proofs.BlocksLaws.{length-blocks, blocks-next}
+use Rattle.onecase.specs.Record.{isType}
+use Rattle.onecase.proofs.BoolLaws.{or-left, or-right}
+use Rattle.batch.specs.Apply.{newRows}
+use Rattle.layout.specs.Locals.{isLocalList}
+use Rattle.layout.specs.Master.{rowsOf, areSoundRows}
+use Rattle.keyorder.specs.Order.{indexesIn}
+use Rattle.batch.specs.Walk.{keysAt, distinct, newKeys}
+use Rattle.batch.specs.Walking.{hasAdd, OrderReady}
+use Rattle.batch.proofs.WidthLaws.{blocks-wide}
+use Rattle.batch.proofs.WorkLaws.{new-few}
+
+pub no-add-new : (rows details : List (List ℕ)) → hasAdd details ≡ false → newRows rows details ≡ 0
+unfolding hasAdd newRows
+no-add-new rows [] e = refl
+no-add-new rows (detail ∷ details) e =
+    let a : isType A detail ≡ false = or-left (isType A detail) (hasAdd details) e in
+    let b : hasAdd details ≡ false = or-right (isType A detail) (hasAdd details) e in
+    rw (a, no-add-new rows details b)
+
+module _ (batch : List ℕ) (d : ℕ) where
+  abbrev details : List (List ℕ)
+  details = blocks 245 d batch
+
+  module _ (i : ℕ) (l : i < d) where
+    pub add-here : isType A (take 245 (drop (i * 245) batch)) ≡ true → hasAdd (drop i details) ≡ true
+    unfolding hasAdd
+    add-here e = ap hasAdd (blocks-next 245 d batch i l) ∙ rw e
+
+    pub add-later : isType A (take 245 (drop (i * 245) batch)) ≡ false → hasAdd (drop i details) ≡ hasAdd (drop (i + 1) details)
+    unfolding hasAdd
+    add-later e = ap hasAdd (blocks-next 245 d batch i l) ∙ rw e
+
+  pub add-end : (i : ℕ) → d ≤ i → hasAdd (drop i details) ≡ false
+  unfolding hasAdd
+  add-end i l = ap hasAdd (drop-of-length-le details {i = i} (rw (length-blocks 245 d batch) l))
+
+-- no row is added
+pub no-new : (state : List ℕ) (year : ℕ) (list batch : List ℕ) (d own n : ℕ) (m numbers : List ℕ) → OrderReady state batch d own numbers
+    → n * 200 ≤ length m → areSoundRows (rowsOf n m) ≡ true → isLocalList list ≡ true → hasAdd (blocks 245 d batch) ≡ false
+    → 0 ≡ newKeys state year list (blocks 245 d batch) (distinct (keysAt (blocks 245 d batch) (take own (indexesIn d numbers)))) (rowsOf n m)
+no-new state year list batch d own n m numbers o w s l e =
+    let few = new-few state year list batch d own (rowsOf n m) numbers o (record { wide = blocks-wide 200 n m w; sound = s }) l in
+    omega (arith, few, no-add-new (rowsOf n m) (blocks 245 d batch) e)

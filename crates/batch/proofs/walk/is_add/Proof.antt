@@ -1,0 +1,27 @@
+-- `walk::is_add` meets its contract. Assumes nothing.
+use borrow.Author.Needs.{needs}
+use mathlib.Core.Path.{_∙_, ap, sym}
+use Prim.Native.Nat.{ℕ, _*_}
+use native.Mathlib.Omega.{arith}
+use lib.Dec.{eqb}
+use lib.ListN.{drop}
+use lib.Seq.{getD-take, getD-drop}
+use Rattle.batch.proofs.walk.is_add.Statement.{statement}
+use Rattle.batch.proofs.walk.is_add.Tie as tie
+
+mul-result : tie.Need-mul-result
+mul-result c = search needs
+
+add-result : tie.Need-add-result
+add-result c = search needs
+
+shared-slice-read-result : tie.Need-shared-slice-read-result
+shared-slice-read-result c = search needs
+
+returns : tie.Need-returns
+returns c =
+    let a = c .before .args in
+    ap (λ (z : ℕ). eqb z 0xC1) (sym (getD-take 245 (drop (a .i * 245) (a .batch .now)) 72 0 (omega arith) ∙ getD-drop (a .i * 245) (a .batch .now) 72 0))
+
+pub is-add-spec : {M : Type 1} → statement M
+is-add-spec = tie.close (tie.spec mul-result add-result shared-slice-read-result returns)
