@@ -15,9 +15,11 @@ use layout::ssn;
 use layout::states;
 use layout::zip;
 ghost use mathlib.Core.Path.{_≡_};
+ghost use mathlib.Core.Bool.{_&&_};
+ghost use Rattle.layout.specs.Characters;
 ghost use Rattle.layout.specs.Fields.{columns};
 ghost use Rattle.layout.specs.Exclusions.{exclusionsOf};
-ghost use Rattle.onecase.specs.Record.{rowIf};
+ghost use Rattle.onecase.specs.Record.{isType, rowIf};
 ghost use Rattle.onecase.specs.Errors.{error01, error02, error03, error04, error05, error06, error07, error08, error09, isLocalCode, error10, error11, error12, error13, error14, wrongAddress, wrongPart, error15, isNone, error16, error17, error18};
 
 // Error 01: state not in the table, or not the control record's.
@@ -167,20 +169,40 @@ fn wrong_part(rec: &[u8; 245]) -> bool
         | (!fields::is_blank(zip) & !zip::is_zip(zip))
 }
 
+// Error 14 of a Z.
+fn has_14_in_z(rec: &[u8; 245]) -> bool
+    ensures { λ r. ⌜ r ≡ (isType Characters.Z (now (rec .entry)) && wrongAddress (now (rec .entry))) ⌝ }
+{
+    let t = rec[72];
+    if t == 0xE9 { wrong_address(rec) } else { false }
+}
+
+// Error 14 of an A.
+fn has_14_in_a(rec: &[u8; 245]) -> bool
+    ensures { λ r. ⌜ r ≡ (isType Characters.A (now (rec .entry)) && wrongPart (now (rec .entry))) ⌝ }
+{
+    let t = rec[72];
+    if t == 0xC1 { wrong_part(rec) } else { false }
+}
+
 // Error 14 (Z, A): the address.
 pub fn has_14(rec: &[u8; 245]) -> bool
     ensures { λ r. ⌜ r ≡ error14 (now (rec .entry)) ⌝ }
 {
-    let t = rec[72];
-    ((t == 0xE9) & wrong_address(rec)) | ((t == 0xC1) & wrong_part(rec))
+    has_14_in_z(rec) | has_14_in_a(rec)
 }
 
 // Error 15 (A): the date issued.
 pub fn has_15(rec: &[u8; 245]) -> bool
     ensures { λ r. ⌜ r ≡ error15 (now (rec .entry)) ⌝ }
 {
-    let date = fields::field(rec, chart_a1::DATE_ISSUED);
-    (rec[72] == 0xC1) & !(fields::is_blank(date) | calendar::is_date(date))
+    let t = rec[72];
+    if t == 0xC1 {
+        let date = fields::field(rec, chart_a1::DATE_ISSUED);
+        !(fields::is_blank(date) | calendar::is_date(date))
+    } else {
+        false
+    }
 }
 
 // Whether an exclusion field has a word that is none of the eight.
@@ -198,7 +220,11 @@ pub fn has_16(rec: &[u8; 245]) -> bool
     ensures { λ r. ⌜ r ≡ error16 (now (rec .entry)) ⌝ }
 {
     let t = rec[72];
-    ((t == 0xC1) | (t == 0xD9)) & has_wrong_word(rec)
+    if (t == 0xC1) | (t == 0xD9) {
+        has_wrong_word(rec)
+    } else {
+        false
+    }
 }
 
 // Error 17 (all but A, B): the name is not the stored one.

@@ -1,14 +1,15 @@
 -- `errors::has_15` meets its contract. Assumes nothing.
 use borrow.Author.Needs.{needs}
+use borrow.Author.Tests.{eq-eqb, ne-eqb}
 use Rattle.onecase.specs.Errors.{error15}
 use Rattle.onecase.proofs.errors.has_15.Statement.{statement}
 use Rattle.onecase.proofs.errors.has_15.Tie as tie
 
+element-copy-out-t : tie.Need-element-copy-out-t
+element-copy-out-t c = search needs
+
 field-requires : tie.Need-field-requires
 field-requires c κs = search needs
-
-element-copy-out-result : tie.Need-element-copy-out-result
-element-copy-out-result c = search needs
 
 is-blank-requires : tie.Need-is-blank-requires
 is-blank-requires c κs = search needs
@@ -18,9 +19,19 @@ is-date-requires c κs = search needs
 
 returns : tie.Need-returns
 unfolding error15
-returns c = rw (c .is-date .ensures, c .before .is-blank .ensures, c .before .before .before .field .ensures)
+returns c = rw (eq-eqb _ _ (c .before .before .before .before .if1 .taken), c .is-date .ensures, c .before .is-blank .ensures, c .before .before .field .ensures)
+
+returns-2 : tie.Need-returns-2
+unfolding error15
+returns-2 c = rw (ne-eqb _ _ (c .if1 .left))
 
 pub has-15-spec : {M : Type 1} → statement M
 has-15-spec =
     tie.close
-    (tie.spec field-requires element-copy-out-result is-blank-requires is-date-requires returns)
+    (tie.spec
+    element-copy-out-t
+    field-requires
+    is-blank-requires
+    is-date-requires
+    returns
+    returns-2)

@@ -12,7 +12,11 @@ has-wrong-word-requires c κs = search needs
 
 returns : tie.Need-returns
 unfolding error16
-returns c = rw (c .has-wrong-word .ensures)
+returns c = rw (c .before .if1 .taken, c .has-wrong-word .ensures)
+
+returns-2 : tie.Need-returns-2
+unfolding error16
+returns-2 c = rw (c .if1 .left)
 
 pub has-16-spec : {M : Type 1} → statement M
-has-16-spec = tie.close (tie.spec element-copy-out-t has-wrong-word-requires returns)
+has-16-spec = tie.close (tie.spec element-copy-out-t has-wrong-word-requires returns returns-2)
