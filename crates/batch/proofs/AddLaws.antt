@@ -1,21 +1,22 @@
--- Batches without a record of type A add no row. Assumes nothing.
+-- Records of type A: a batch adds at most one row for each, and none without. Assumes nothing.
 use Prim.Native.Nat.{ℕ, _+_, _*_, _≤_, _<_}
 use mathlib.Core.Path.{_≡_, refl, ap, _∙_}
-use mathlib.Core.Bool.{true, false}
+use mathlib.Core.Bool.{Bool, true, false, cond, _&&_}
 use mathlib.Core.List.{List, [], _∷_}
 use native.Mathlib.Omega.{arith}
 use lib.ListN.{length, take, drop, drop-of-length-le}
 use Rattle.layout.specs.Characters.{A}
 use Rattle.layout.specs.Blocks.{blocks}
 use Rattle.layout.proofs.BlocksLaws.{length-blocks, blocks-next}
-use Rattle.onecase.specs.Record.{isType}
+use Rattle.onecase.specs.Record.{isType, recordKey}
 use Rattle.onecase.proofs.BoolLaws.{or-left, or-right}
-use Rattle.batch.specs.Apply.{newRows}
+use Rattle.batch.specs.Apply.{isMissing, newRows}
 use Rattle.layout.specs.Locals.{isLocalList}
 use Rattle.layout.specs.Master.{rowsOf, areSoundRows}
+use Rattle.layout.specs.Rows.{rowWith}
 use Rattle.keyorder.specs.Order.{indexesIn}
 use Rattle.batch.specs.Walk.{keysAt, distinct, newKeys}
-use Rattle.batch.specs.Walking.{hasAdd, OrderReady}
+use Rattle.batch.specs.Walking.{hasAdd, addCount, OrderReady}
 use Rattle.batch.proofs.WidthLaws.{blocks-wide}
 use Rattle.batch.proofs.WorkLaws.{new-few}
 
@@ -26,6 +27,19 @@ no-add-new rows (detail ∷ details) e =
     let a : isType A detail ≡ false = or-left (isType A detail) (hasAdd details) e in
     let b : hasAdd details ≡ false = or-right (isType A detail) (hasAdd details) e in
     rw (a, no-add-new rows details b)
+
+both-most : (a b : Bool) → cond (a && b) 1 0 ≤ cond a 1 0
+both-most true true = omega arith
+both-most true false = omega arith
+both-most false b = omega arith
+
+-- the rows to come are at most as many as the records of type A
+pub new-most-adds : (rows details : List (List ℕ)) → newRows rows details ≤ addCount details
+unfolding addCount newRows
+new-most-adds rows [] = omega arith
+new-most-adds rows (detail ∷ details) =
+    let one = both-most (isType A detail) (isMissing (rowWith (recordKey detail) rows)) in
+    omega (arith, one, new-most-adds rows details)
 
 module _ (batch : List ℕ) (d : ℕ) where
   abbrev details : List (List ℕ)
@@ -43,6 +57,15 @@ module _ (batch : List ℕ) (d : ℕ) where
   pub add-end : (i : ℕ) → d ≤ i → hasAdd (drop i details) ≡ false
   unfolding hasAdd
   add-end i l = ap hasAdd (drop-of-length-le details {i = i} (rw (length-blocks 245 d batch) l))
+
+  pub adds-next : (i : ℕ) → i < d
+      → addCount (drop i details) ≡ cond (isType A (take 245 (drop (i * 245) batch))) 1 0 + addCount (drop (i + 1) details)
+  unfolding addCount
+  adds-next i l = ap addCount (blocks-next 245 d batch i l)
+
+  pub adds-end : (i : ℕ) → d ≤ i → addCount (drop i details) ≡ 0
+  unfolding addCount
+  adds-end i l = ap addCount (drop-of-length-le details {i = i} (rw (length-blocks 245 d batch) l))
 
 -- no row is added
 pub no-new : (state : List ℕ) (year : ℕ) (list batch : List ℕ) (d own n : ℕ) (m numbers : List ℕ) → OrderReady state batch d own numbers

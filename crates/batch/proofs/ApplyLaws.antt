@@ -1,16 +1,16 @@
 -- The first refusal from its parts, and the outcome of a run from what the work left. Assumes nothing.
 use Prim.Native.Nat.{ℕ, _+_, _*_, _/_, _≤_, _<_}
 use mathlib.Core.Path.{_≡_, refl, sym, ap, _∙_}
-use mathlib.Core.Bool.{Bool, true, false, cond}
+use mathlib.Core.Bool.{Bool, true, false, not, cond, _&&_, _||_}
 use mathlib.Core.List.{List, _++_}
 use native.Mathlib.Omega.{arith}
-use lib.Dec.{eqb, lit≤}
+use lib.Dec.{eqb, leb, ltb, lit≤}
 use lib.ListN.{length, take, drop, length-drop, take-append-drop}
 use lib.Seq.{length-take-le}
-use borrow.Author.Tests.{eq-eqb, ne-eqb, lt-ltb, le-ltb}
+use borrow.Author.Tests.{eq-eqb, ne-eqb, lt-ltb, le-ltb, leb-true, leb-false}
 use Rattle.layout.specs.Blocks.{joined, over, spliced}
 use Rattle.layout.specs.Master.{rowsOf}
-use Rattle.layout.proofs.FieldsLaws.{length-columns}
+use Rattle.layout.proofs.FieldsLaws.{length-columns, and-left, and-right}
 use Rattle.layout.proofs.BlocksLaws.{length-blocks, holds-over}
 use Rattle.batch.specs.Limits.{maxRows}
 use Rattle.batch.specs.Rejects.{numbers, rejectRecords}
@@ -30,29 +30,52 @@ use Rattle.batch.proofs.KnownLaws.{Known}
 
 -- ---- the space
 
-module _ (c : Call) (r : ℕ) (e : r ≡ newRows (rowsOf (c .rows) (c .master)) (detailsOf (c .batch))) where
-  pub space-9 : length (c .master) / 200 < c .rows + r → 9 ≡ spaceRefusal c
-  unfolding spaceRefusal refusal9
-  space-9 l = sym (rw (← e, lt-ltb _ _ l))
+past : (a b : ℕ) → ltb b a ≡ not (leb a b)
+past a b = go (leb a b) refl
+  where
+    go : (t : Bool) → leb a b ≡ t → ltb b a ≡ not t
+    go true e = le-ltb b a (leb-true a b e)
+    go false e = lt-ltb b a (leb-false a b e)
 
-  module _ (a : c .rows + r ≤ length (c .master) / 200) where
-    pub space-limit : maxRows < c .rows + r → 9 ≡ spaceRefusal c
-    unfolding spaceRefusal refusal9
-    space-limit l = sym (rw (← e, le-ltb _ _ a, lt-ltb _ _ l))
+not-both : (a b : Bool) → not (a && b) ≡ (not a || not b)
+not-both true b = refl
+not-both false b = refl
 
-    module _ (b : c .rows + r ≤ maxRows) where
-      pub space-10 : length (c .verdicts) < detailCount (c .batch) → 10 ≡ spaceRefusal c
-      unfolding spaceRefusal refusal9 refusal10
-      space-10 l = sym (rw (← e, le-ltb _ _ a, le-ltb _ _ b, lt-ltb _ _ l))
+module _ (m : List ℕ) (n : ℕ) (batch : List ℕ) where
+  abbrev rows : ℕ
+  rows = n + newRows (rowsOf n m) (detailsOf batch)
 
-      module _ (v : detailCount (c .batch) ≤ length (c .verdicts)) where
-        pub space-11 : length (c .rejects) < 245 * (detailCount (c .batch) + 1) → 11 ≡ spaceRefusal c
-        unfolding spaceRefusal refusal9 refusal10 refusal11
-        space-11 l = sym (rw (← e, le-ltb _ _ a, le-ltb _ _ b, le-ltb _ _ v, lt-ltb _ _ l))
+  -- refusal 9 does not hold where so many rows, or more, have a place
+  pub has-room : (r : ℕ) → rows ≤ r → (leb r (length m / 200) && leb r maxRows) ≡ true → false ≡ refusal9 m n batch
+  unfolding refusal9
+  has-room r l e =
+      let x : rows ≤ length m / 200 = omega (arith, l, leb-true r (length m / 200) (and-left (leb r (length m / 200)) (leb r maxRows) e)) in
+      let y : rows ≤ maxRows = omega (arith, l, leb-true r maxRows (and-right (leb r (length m / 200)) (leb r maxRows) e)) in
+      sym (rw (le-ltb (length m / 200) rows x, le-ltb maxRows rows y))
 
-        pub space-0 : 245 * (detailCount (c .batch) + 1) ≤ length (c .rejects) → 0 ≡ spaceRefusal c
-        unfolding spaceRefusal refusal9 refusal10 refusal11
-        space-0 l = sym (rw (← e, le-ltb _ _ a, le-ltb _ _ b, le-ltb _ _ v, le-ltb _ _ l))
+  -- it holds where they have none
+  pub room-told : not (leb rows (length m / 200) && leb rows maxRows) ≡ refusal9 m n batch
+  unfolding refusal9
+  room-told = not-both (leb rows (length m / 200)) (leb rows maxRows) ∙ sym (rw (past rows (length m / 200), past rows maxRows))
+
+module _ (c : Call) where
+  pub space-9 : refusal9 (c .master) (c .rows) (c .batch) ≡ true → 9 ≡ spaceRefusal c
+  unfolding spaceRefusal
+  space-9 e = sym (rw e)
+
+  module _ (r : refusal9 (c .master) (c .rows) (c .batch) ≡ false) where
+    pub space-10 : length (c .verdicts) < detailCount (c .batch) → 10 ≡ spaceRefusal c
+    unfolding spaceRefusal refusal10
+    space-10 l = sym (rw (r, lt-ltb _ _ l))
+
+    module _ (v : detailCount (c .batch) ≤ length (c .verdicts)) where
+      pub space-11 : length (c .rejects) < 245 * (detailCount (c .batch) + 1) → 11 ≡ spaceRefusal c
+      unfolding spaceRefusal refusal10 refusal11
+      space-11 l = sym (rw (r, le-ltb _ _ v, lt-ltb _ _ l))
+
+      pub space-0 : 245 * (detailCount (c .batch) + 1) ≤ length (c .rejects) → 0 ≡ spaceRefusal c
+      unfolding spaceRefusal refusal10 refusal11
+      space-0 l = sym (rw (r, le-ltb _ _ v, le-ltb _ _ l))
 
 -- ---- in order
 

@@ -10,10 +10,11 @@ use native.Mathlib.Omega.{arith}
 use lib.ListN.{length, take, getD}
 use Rattle.layout.specs.Fields.{sameBytes}
 use Rattle.layout.proofs.SameLaws.{eq-same, same-eq}
+use Rattle.onecase.specs.Record.{isHeld}
 use Rattle.onecase.specs.Machine.{next}
 use Rattle.onecase.proofs.MachineLaws.{row-stays}
 use Rattle.keyorder.specs.Order.{detailAt, rankAt, rankOf, noRank, InKeyOrder}
-use Rattle.keyorder.specs.KeyWork.{recordIn, isHeld, makesRow}
+use Rattle.keyorder.specs.KeyWork.{recordIn, makesRow}
 use Rattle.batch.specs.Apply.{isMissing}
 use Rattle.batch.specs.TwoBatches.{detailsUnder, runRow}
 use Rattle.batch.proofs.KeyOrderLaws.{keyAt, under-first, under-next, under-last}
@@ -112,7 +113,7 @@ module _ (state : List ℕ) (year : ℕ) (list : List ℕ) where
   held-more (some row) x = let s = row-stays state year list row x in rw (s .1)
 
   module _ (batch numbers : List ℕ) (details : List (List ℕ)) (order : List ℕ) where
-    held-is : (row : Option (List ℕ)) → isHeld state year list batch row ≡ not (isMissing row)
+    held-is : (row : Option (List ℕ)) → isHeld row ≡ not (isMissing row)
     held-is none = refl
     held-is (some row) = refl
 

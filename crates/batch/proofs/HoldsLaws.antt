@@ -1,7 +1,7 @@
--- Laws of a buffer that blocks are appended to, over any width, and of blocks joined. Assumes nothing.
-use Prim.Native.Nat.{ℕ, _+_, _-_, _*_, _≤_}
+-- Laws of a buffer that blocks are appended to, over any width. Assumes nothing.
+use Prim.Native.Nat.{ℕ, _+_, _*_, _≤_}
 use mathlib.Core.Path.{_≡_, refl, sym, ap, _∙_}
-use mathlib.Core.List.{List, [], _∷_, _++_, append-assoc, append-nil}
+use mathlib.Core.List.{List, [], _∷_, _++_, append-nil}
 use native.Mathlib.Nat.{one-mul, add-mul, mul-le-mul-right}
 use native.Mathlib.Omega.{arith}
 use lib.ListN.{length, length-append}
@@ -9,12 +9,7 @@ use Rattle.layout.specs.Blocks.{blocks, joined, over, spliced, Holds}
 use Rattle.layout.proofs.SplicedLaws.{length-spliced}
 use Rattle.layout.proofs.MovedLaws.{kept-further}
 use Rattle.layout.proofs.BlocksLaws.{length-blocks, holds-append, holds-over}
-
--- blocks joined in two parts
-pub joined-append : (a b : List (List ℕ)) → joined (a ++ b) ≡ joined a ++ joined b
-unfolding joined
-joined-append [] b = refl
-joined-append (x ∷ a) b = rw (joined-append a b, append-assoc x (joined a) (joined b))
+use Rattle.batch.proofs.WidthLaws.{joined-append}
 
 joined-one : (r : List ℕ) → joined (r ∷ []) ≡ r
 unfolding joined

@@ -1,10 +1,11 @@
 -- Laws of the reject records: a verdict's codes and four columns, and the record that is written. Assumes nothing.
-use Prim.Native.Nat.{ℕ, _^_, _<_}
+use Prim.Native.Nat.{ℕ, _+_, _^_, _<_}
 use mathlib.Core.Path.{_≡_, refl, ap, _∙_}
-use mathlib.Core.List.{List, [], _∷_}
+use mathlib.Core.List.{List, [], _∷_, _++_, append-nil}
 use native.Mathlib.Omega.{arith}
 use lib.Dec.{lit≤}
-use lib.ListN.{length}
+use lib.ListN.{length, drop-of-length-le}
+use Rattle.layout.specs.Blocks.{spliced}
 use Rattle.layout.specs.Fields.{spaces, placed}
 use Rattle.layout.specs.Codes.{numberOfCodes, codesFrom, codesOfNumber, sixLowest}
 use Rattle.layout.proofs.CodesLaws.{length-text, lowest-codes, number-codes}
@@ -40,6 +41,11 @@ pub some-any : (n : ℕ) (reject : List ℕ) → n < 2 ^ 64 → 0 < n → ifAny 
 some-any n reject h l = ap (λ (cs : List ℕ). ifAny cs reject) (lowest-codes n h l)
 
 -- ---- the record
+
+-- bytes written over as many others
+pub spliced-all : (bytes s : List ℕ) → length s ≡ length bytes → spliced bytes 0 s ≡ s
+unfolding spliced
+spliced-all bytes s e = ap (λ (z : List ℕ). s ++ z) (drop-of-length-le bytes {i = 0 + length s} (omega (arith, e))) ∙ append-nil s
 
 module _ (detail : List ℕ) (verdict : Judgement) (wide : length detail ≡ 245) (four : length (fourColumns (verdict .name)) ≡ 4) where
   -- its fields placed one after the other in the detail

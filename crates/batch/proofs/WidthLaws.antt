@@ -41,6 +41,7 @@ module _ (w : ℕ) where
       let behind : List ℕ = joined bs ++ rest in
       rw (append-assoc b (joined bs) rest, take-at b behind w (h .0), drop-at b behind w (h .0), blocks-joined bs rest (h .1))
 
+-- blocks joined in two parts
 pub joined-append : (bs cs : List (List ℕ)) → joined (bs ++ cs) ≡ joined bs ++ joined cs
 unfolding joined
 joined-append [] cs = refl

@@ -28,6 +28,11 @@ unfoldable pub hasAdd : List (List ℕ) → Bool
 hasAdd [] = false
 hasAdd (detail ∷ details) = isType A detail || hasAdd details
 
+-- how many of some details are of type A
+unfoldable pub addCount : List (List ℕ) → ℕ
+addCount [] = 0
+addCount (detail ∷ details) = cond (isType A detail) 1 0 + addCount details
+
 -- the row at a place
 abbrev pub rowIn : List ℕ → ℕ → List ℕ
 rowIn m p = take 200 (drop (p * 200) m)

@@ -1,4 +1,5 @@
 // Applying a batch: the refusals in order, then its details, key by key.
+use crate::adds;
 use crate::counts;
 use crate::refusals;
 use crate::totals;
@@ -11,20 +12,19 @@ use keyorder::records;
 use layout::chart_a2;
 use layout::fields;
 use layout::master;
-use layout::search;
-use layout::search::Place;
 ghost use mathlib.Core.Path.{_≡_};
-ghost use mathlib.Core.Bool.{true};
-ghost use mathlib.Core.List.{_∷_, []};
-ghost use Prim.Native.Nat.{_+_, _*_, _≤_, _<_};
-ghost use lib.ListN.{length, take, drop};
-ghost use Rattle.layout.specs.Blocks.{blocks, spliced};
+ghost use mathlib.Core.Bool.{true, _&&_};
+ghost use Prim.Native.Nat.{_+_, _*_, _/_, _≤_, _<_};
+ghost use lib.Dec.{leb};
+ghost use lib.ListN.{length};
+ghost use Rattle.layout.specs.Blocks.{spliced};
 ghost use Rattle.layout.specs.Master.{rowsOf, areSoundRows};
+ghost use Rattle.batch.specs.Limits.{maxRows};
 ghost use Rattle.batch.specs.Totals.{detailCount, submittingState};
 ghost use Rattle.batch.specs.Counts.{controlRecord};
 ghost use Rattle.batch.specs.Tally.{countsIn, AtMost};
 ghost use Rattle.batch.specs.Progress.{Worked};
-ghost use Rattle.batch.specs.Apply.{newRows, spaceRefusal, applyRefusal, carriedOut, resultOf, resultIn, callOf, outcomeOf, IsOutcome};
+ghost use Rattle.batch.specs.Apply.{refusal9, spaceRefusal, applyRefusal, carriedOut, resultOf, resultIn, callOf, outcomeOf, IsOutcome};
 
 // The answer of the call: the counts of a run that is carried out, or the number of the refusal.
 pub enum Applied {
@@ -38,34 +38,22 @@ pub enum Applied {
     Refused(u64),
 }
 
-// 1 where the record at place i is an A whose key has no row, else 0. The type is read first, the key of an A alone.
-fn is_new(m: &[u8], n: usize, batch: &[u8], i: usize) -> usize
-    requires { ⌜ (n * 200 ≤ length (now m)) × (areSoundRows (rowsOf n (now m)) ≡ true) × (i * 245 + 245 ≤ length (now batch)) ⌝ }
-    ensures { λ r. ⌜ r ≡ newRows (rowsOf n (now (m .entry))) (take 245 (drop (i * 245) (now (batch .entry))) ∷ []) ⌝ }
+// Whether so many rows have a place in the master.
+fn has_place(m: &[u8], rows: usize) -> bool
+    ensures { λ r. ⌜ r ≡ (leb rows (length (now (m .entry)) / 200) && leb rows maxRows) ⌝ }
 {
-    let t = batch[i * 245 + 72];
-    if t != 0xC1 {
-        return 0;
-    }
-    let key = records::key_at(batch, i);
-    match search::place_of(m, n, &key) {
-        Place::At(_) => 0,
-        Place::Gap(_) => 1,
-    }
+    (rows <= m.len() / 200) & (rows <= refusals::MAX_ROWS)
 }
 
-// How many of the first d records of a batch are A records whose key has no row.
-fn count_new(m: &[u8], n: usize, batch: &[u8], d: usize) -> usize
-    requires { ⌜ (n * 200 ≤ length (now m)) × (areSoundRows (rowsOf n (now m)) ≡ true) × (d * 245 ≤ length (now batch)) ⌝ }
-    ensures { λ r. ⌜ (r ≡ newRows (rowsOf n (now (m .entry))) (blocks 245 d (now (batch .entry)))) × (r ≤ d) ⌝ }
+// Refusal 9. The A records are counted first: where all of them have a place, no key is looked up.
+fn lacks_room(m: &[u8], n: usize, batch: &[u8], d: usize) -> bool
+    requires { ⌜ (n * 200 ≤ length (now m)) × (areSoundRows (rowsOf n (now m)) ≡ true) × (d ≡ detailCount (now batch)) × (d * 245 ≤ length (now batch)) ⌝ }
+    ensures { λ r. ⌜ r ≡ refusal9 (now (m .entry)) n (now (batch .entry)) ⌝ }
 {
-    let mut count: usize = 0;
-    let mut i: usize = 0;
-    while i < d {
-        count += is_new(m, n, batch, i);
-        i += 1;
+    if has_place(m, n + adds::count_adds(batch, d)) {
+        return false;
     }
-    count
+    !has_place(m, n + adds::count_new(m, n, batch, d))
 }
 
 // The number of the first of refusals 9, 10 and 11 that holds, or 0.
@@ -82,11 +70,7 @@ fn space_refusal(
     ensures { λ r. ⌜ r ≡ spaceRefusal (callOf (now (m .entry)) n (now (batch .entry)) (now (locals .entry)) year (now (verdicts .entry)) (now (rejects .entry))) ⌝ }
 {
     let d = batch.len() / 245 - 1;
-    let rows = n + count_new(m, n, batch, d);
-    if m.len() / 200 < rows {
-        return 9;
-    }
-    if refusals::MAX_ROWS < rows {
+    if lacks_room(m, n, batch, d) {
         return 9;
     }
     if verdicts.len() < d {

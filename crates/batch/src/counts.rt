@@ -27,8 +27,8 @@ fn one_if(holds: bool) -> u64
 }
 
 // The counts with one detail more; no count passes n so far.
-pub fn counted(t: Tally, n: u64, rec: &[u8; 245], accepted: bool, warned: bool) -> Tally
-    requires { ⌜ (AtMost n t) × (n < 18446744073709551615) ⌝ }
+pub fn counted(t: Tally, n: u64, rec: &[u8], accepted: bool, warned: bool) -> Tally
+    requires { ⌜ (length (now rec) ≡ 245) × (AtMost n t) × (n < 18446744073709551615) ⌝ }
     ensures { λ r. ⌜ (countsIn r ≡ plus (countsIn t) (oneDetail (now (rec .entry)) (not accepted) warned)) × (AtMost (n + 1) r) ⌝ }
 {
     let tanf = rec[73] == 0xC1;

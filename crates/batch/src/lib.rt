@@ -1,4 +1,5 @@
 // The public calls: applying a batch, finding a case, reconciliation.
+pub mod adds;
 pub mod apply;
 pub mod counts;
 pub mod find;

@@ -46,10 +46,12 @@ fn name_columns(v: Verdict) -> [u8; 4]
 }
 
 // A detail's reject record.
-pub fn reject_record(rec: [u8; 245], v: Verdict) -> [u8; 245]
-    ensures { λ r. ⌜ r ≡ rejectRecord rec (meaning v) ⌝ }
+pub fn reject_record(rec: &[u8], v: Verdict) -> [u8; 245]
+    requires { ⌜ length (now rec) ≡ 245 ⌝ }
+    ensures { λ r. ⌜ r ≡ rejectRecord (now (rec .entry)) (meaning v) ⌝ }
 {
-    let mut out = rec;
+    let mut out = [0u8; 245];
+    fields::copy_in(&mut out, 0, rec);
     let text = codes::codes_text(set_of(v));
     fields::put(&mut out, chart_01::ERROR_CODES, &text);
     let name = name_columns(v);
@@ -59,9 +61,9 @@ pub fn reject_record(rec: [u8; 245], v: Verdict) -> [u8; 245]
 }
 
 // Writes a detail's reject record behind k others, if it has a code, and answers how many there are then.
-pub fn put_reject(rejects: &mut [u8], k: usize, rec: [u8; 245], v: Verdict) -> usize
-    requires { ⌜ k * 245 + 245 ≤ length (now rejects) ⌝ }
-    ensures { λ r. ⌜ (Holds 245 (now (rejects .entry)) (now (rejects .exit)) r (blocks 245 k (now (rejects .entry)) ++ ifAny (meaning v .codes) (rejectRecord rec (meaning v)))) × (k ≤ r) × (r ≤ k + 1) ⌝ }
+pub fn put_reject(rejects: &mut [u8], k: usize, rec: &[u8], v: Verdict) -> usize
+    requires { ⌜ (length (now rec) ≡ 245) × (k * 245 + 245 ≤ length (now rejects)) ⌝ }
+    ensures { λ r. ⌜ (Holds 245 (now (rejects .entry)) (now (rejects .exit)) r (blocks 245 k (now (rejects .entry)) ++ ifAny (meaning v .codes) (rejectRecord (now (rec .entry)) (meaning v)))) × (k ≤ r) × (r ≤ k + 1) ⌝ }
 {
     if set_of(v) == 0 {
         return k;

@@ -3,7 +3,7 @@ use crate::counts;
 use crate::counts::Tally;
 use crate::rejects;
 use keyorder::packed;
-use keyorder::records;
+use keyorder::records::RECORD_WIDTH;
 use onecase::verdict::Verdict;
 ghost use mathlib.Core.Path.{_≡_};
 ghost use mathlib.Core.List.{List};
@@ -26,19 +26,19 @@ pub struct Progress {
 pub fn record_verdict(
     s: Progress,
     i: usize,
-    rec: [u8; 245],
+    rec: &[u8],
     verdict: Verdict,
     verdicts: &mut [u64],
     rejects: &mut [u8],
 ) -> Progress
-    requires { ⌜ (i < length (now verdicts)) × (s .rejects * 245 + 245 ≤ length (now rejects)) × (AtMost i (s .tally)) ⌝ }
-    ensures { λ r. ⌜ Recorded rec verdict s i (now (verdicts .entry)) (now (rejects .entry)) r (now (verdicts .exit)) (now (rejects .exit)) ⌝ }
+    requires { ⌜ (length (now rec) ≡ 245) × (i < length (now verdicts)) × (s .rejects * 245 + 245 ≤ length (now rejects)) × (AtMost i (s .tally)) ⌝ }
+    ensures { λ r. ⌜ Recorded (now (rec .entry)) verdict s i (now (verdicts .entry)) (now (rejects .entry)) r (now (verdicts .exit)) (now (rejects .exit)) ⌝ }
 {
     let set = rejects::set_of(verdict);
     let accepted = rejects::is_accepted(verdict);
     let k = s.rejects;
     let t = s.tally;
-    let tally = counts::counted(t, i as u64, &rec, accepted, accepted & (set != 0));
+    let tally = counts::counted(t, i as u64, rec, accepted, accepted & (set != 0));
     verdicts[i] = set;
     let count = rejects::put_reject(rejects, k, rec, verdict);
     Progress {
@@ -82,9 +82,10 @@ pub fn write_verdicts(
     };
     let mut i: usize = 0;
     while i < d {
-        let rec = records::record_at(batch, i);
+        let at = i * RECORD_WIDTH;
+        let end = at + RECORD_WIDTH;
         let v = packed::verdict_in(numbers[i]);
-        s = record_verdict(s, i, rec, v, numbers, rejects);
+        s = record_verdict(s, i, &batch[at..end], v, numbers, rejects);
         i += 1;
     }
     s

@@ -1,28 +1,25 @@
 // The batch worked key by key, in rising order of key, beside the master's rows: each key once, with all its details in batch order.
+use crate::adds;
 use keyorder::key_work;
 use keyorder::records::RECORD_WIDTH;
 use layout::fields;
 use layout::master;
 use layout::search;
 use onecase::case::Case;
-use onecase::record;
 ghost use mathlib.Core.Path.{_≡_};
 ghost use mathlib.Core.Bool.{true, not, cond, _&&_};
-ghost use mathlib.Core.List.{_++_};
-ghost use Prim.Native.Nat.{_+_, _*_, _-_, _≤_, _<_};
-ghost use Prim.Native.Nat.{_/_};
-ghost use lib.ListN.{length, take, drop};
+ghost use Prim.Native.Nat.{_+_, _*_, _/_, _-_, _≤_, _<_};
+ghost use lib.ListN.{length, take};
 ghost use Rattle.layout.specs.Blocks.{blocks};
-ghost use Rattle.layout.specs.Characters;
 ghost use Rattle.layout.specs.Locals.{isLocalList};
 ghost use Rattle.layout.specs.Master.{rowsOf, areSoundRows};
-ghost use Rattle.onecase.specs.Record.{isType, rowIf};
+ghost use Rattle.onecase.specs.Record.{rowIf};
 ghost use Rattle.onecase.specs.Machine.{rowOf};
 ghost use Rattle.keyorder.specs.Order.{indexesIn};
 ghost use Rattle.keyorder.specs.KeyWork.{Usable, makesRow};
 ghost use Rattle.batch.specs.Totals.{detailCount};
 ghost use Rattle.batch.specs.Walk.{keysAt, distinct, newKeys};
-ghost use Rattle.batch.specs.Walking.{hasAdd, rowIn, isRowOf, oneOrNone, CasePut, OrderReady, KeyCounted, KeyWalked, HasRoom, WalkReady, Walked};
+ghost use Rattle.batch.specs.Walking.{rowIn, isRowOf, oneOrNone, CasePut, OrderReady, KeyCounted, KeyWalked, HasRoom, WalkReady, Walked};
 
 // How far the count of new rows has come: the position in the key order, the first row not yet passed, and the new rows so far.
 pub struct Count {
@@ -133,29 +130,6 @@ fn count_key(
     }
 }
 
-// Whether the record at place i is of type A.
-fn is_add(batch: &[u8], i: usize) -> bool
-    requires { ⌜ i * 245 + 245 ≤ length (now batch) ⌝ }
-    ensures { λ r. ⌜ r ≡ isType Characters.A (take 245 (drop (i * 245) (now (batch .entry)))) ⌝ }
-{
-    batch[i * RECORD_WIDTH + 72] == record::ADD
-}
-
-// Whether one of the first d records is of type A.
-fn has_add(batch: &[u8], d: usize) -> bool
-    requires { ⌜ d * 245 ≤ length (now batch) ⌝ }
-    ensures { λ r. ⌜ r ≡ hasAdd (blocks 245 d (now (batch .entry))) ⌝ }
-{
-    let mut i: usize = 0;
-    while i < d {
-        if is_add(batch, i) {
-            return true;
-        }
-        i += 1;
-    }
-    false
-}
-
 // How many rows the keys add, counted one by one.
 fn count_keys(
     m: &[u8],
@@ -196,7 +170,7 @@ pub fn new_rows(
     ensures { λ r. ⌜ r ≡ newKeys (now (state .entry)) year (now (list .entry)) (blocks 245 (detailCount (now (batch .entry))) (now (batch .entry))) (distinct (keysAt (blocks 245 (detailCount (now (batch .entry))) (now (batch .entry))) (take own (indexesIn (detailCount (now (batch .entry))) (now (numbers .entry)))))) (rowsOf n (now (m .entry))) ⌝ }
 {
     let d = batch.len() / RECORD_WIDTH - 1;
-    if !has_add(batch, d) {
+    if !adds::has_add(batch, d) {
         return 0;
     }
     count_keys(m, n, batch, numbers, own, state, year, list)
@@ -231,16 +205,9 @@ fn walk_key(
     let behind = put_case(m, to + count, next);
     Cursor {
         position: e,
-        from: at + one_if(held),
+        from: at + adds::one_if(held),
         to: behind,
     }
-}
-
-// 1 where it holds, else 0.
-fn one_if(holds: bool) -> usize
-    ensures { λ r. ⌜ (r ≡ cond holds 1 0) × (r ≤ 1) ⌝ }
-{
-    if holds { 1 } else { 0 }
 }
 
 // Walks all own keys: the rows from place `from` up to `end` and the details in key order become the rows after all details, from the

@@ -8,12 +8,12 @@ use mathlib.Core.Option.{Option, none}
 use native.Mathlib.Omega.{arith}
 use borrow.Author.Count.{below-more}
 use lib.ListN.{length, getD, set, length-set}
-use Rattle.onecase.specs.Record.{recordKey, rowIf}
+use Rattle.onecase.specs.Record.{recordKey, isHeld}
 use Rattle.onecase.specs.Verdict.{Judgement, judgement}
 use Rattle.onecase.specs.Machine.{next}
 use Rattle.keyorder.specs.Order.{indexIn}
 use Rattle.keyorder.specs.Packed.{Packed}
-use Rattle.keyorder.specs.KeyWork.{recordAt, recordIn, Usable, Marked, KeyRun, JudgedRun, isHeld, makesRow}
+use Rattle.keyorder.specs.KeyWork.{recordAt, recordIn, Usable, Marked, KeyRun, JudgedRun, makesRow}
 use Rattle.keyorder.proofs.PackedLaws.{index-alone}
 
 -- ---- numbers with the same indexes
@@ -177,21 +177,10 @@ module _ (state : List ℕ) (year : ℕ) (list batch : List ℕ) where
 
   -- ---- a row made from none
 
-  held-is : (held : Bool) (row : List ℕ) → isHeld state year list batch (rowIf held row) ≡ held
-  held-is true row = refl
-  held-is false row = refl
-
-  -- what a step from no row leaves says whether it made one
-  pub made : (held : Bool) (row : List ℕ) (from : Option (List ℕ)) (rec here : List ℕ)
-      → rowIf held row ≡ next state year list from rec
-      → from ≡ none
-      → rec ≡ here
-      → isHeld state year list batch (next state year list none here) ≡ held
-  made held row from rec here n f r =
-      ap (λ (z : Option (List ℕ)). isHeld state year list batch (next state year list z here)) (sym f)
-      ∙ ap (λ (z : List ℕ). isHeld state year list batch (next state year list from z)) (sym r)
-      ∙ ap (isHeld state year list batch) (sym n)
-      ∙ held-is held row
+  -- what is said of a copy of a record holds of the record
+  pub made : (held : Bool) (rec here : List ℕ) → held ≡ isHeld (next state year list none rec) → rec ≡ here
+      → isHeld (next state year list none here) ≡ held
+  made held rec here h r = rw (sym r) (sym h)
 
   module _ (numbers : List ℕ) (p : ℕ) where
     pub makes-none : makesRow state year list batch numbers p (p - p) ≡ false
@@ -201,7 +190,7 @@ module _ (state : List ℕ) (year : ℕ) (list batch : List ℕ) where
     -- the detail at position q is judged too
     makes-one : (q : ℕ) → p ≤ q
         → makesRow state year list batch numbers p (q + 1 - p)
-        ≡ (makesRow state year list batch numbers p (q - p) || isHeld state year list batch (next state year list none (recordIn batch numbers q)))
+        ≡ (makesRow state year list batch numbers p (q - p) || isHeld (next state year list none (recordIn batch numbers q)))
     unfolding makesRow
     makes-one q l =
         let a : q + 1 - p ≡ suc (q - p) = omega arith in
@@ -209,7 +198,7 @@ module _ (state : List ℕ) (year : ℕ) (list batch : List ℕ) where
         rw (a, b)
 
     pub makes-next : (q : ℕ) → p ≤ q → makesRow state year list batch numbers p (q - p) ≡ false
-        → isHeld state year list batch (next state year list none (recordIn batch numbers q)) ≡ false
+        → isHeld (next state year list none (recordIn batch numbers q)) ≡ false
         → makesRow state year list batch numbers p (q + 1 - p) ≡ false
     makes-next q l a b = makes-one q l ∙ rw (a, b)
 
@@ -219,7 +208,7 @@ module _ (state : List ℕ) (year : ℕ) (list batch : List ℕ) where
     more-makes n (suc k) t = let a : suc k + n ≡ suc (k + n) = omega arith in rw (a, more-makes n k t)
 
     pub makes-found : (q e : ℕ) → p ≤ q → q < e
-        → isHeld state year list batch (next state year list none (recordIn batch numbers q)) ≡ true
+        → isHeld (next state year list none (recordIn batch numbers q)) ≡ true
         → makesRow state year list batch numbers p (e - p) ≡ true
     makes-found q e l h b =
         let d : e - p ≡ (e - (q + 1)) + (q + 1 - p) = omega arith in

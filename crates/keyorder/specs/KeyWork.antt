@@ -5,11 +5,11 @@ use Prim.Native.Nat.{ℕ, zero, suc, _+_, _*_, _≤_, _<_}
 use mathlib.Core.Path.{_≡_}
 use mathlib.Core.List.{List}
 use mathlib.Core.Logic.{_⊎_}
-use mathlib.Core.Bool.{Bool, true, false, _||_}
-use mathlib.Core.Option.{Option, none, some}
+use mathlib.Core.Bool.{Bool, false, _||_}
+use mathlib.Core.Option.{Option, none}
 use lib.ListN.{length, take, drop, getD, set}
 use Rattle.layout.specs.Fields.{sameBytes}
-use Rattle.onecase.specs.Record.{recordKey}
+use Rattle.onecase.specs.Record.{recordKey, isHeld}
 use Rattle.onecase.specs.Verdict.{judgement}
 use Rattle.onecase.specs.Machine.{next}
 use Rattle.keyorder.specs.Order.{indexIn}
@@ -55,11 +55,6 @@ module _ (state : List ℕ) (year : ℕ) (list batch : List ℕ) where
   abbrev pub JudgedRun : ℕ → ℕ → List ℕ → List ℕ → Type 0
   JudgedRun p zero numbers numbers′ = numbers′ ≡ numbers
   JudgedRun p (suc n) numbers numbers′ = (s : List ℕ) × (JudgedRun p n numbers s) × (Marked (p + n) none s numbers′)
-
-  -- a row is there
-  abbrev pub isHeld : Option (List ℕ) → Bool
-  isHeld none = false
-  isHeld (some row) = true
 
   -- one of n details from position p on makes a row from none
   unfoldable pub makesRow : List ℕ → ℕ → ℕ → Bool

@@ -1,12 +1,13 @@
 // The details at some positions of the key order, worked through the machine.
 use crate::packed;
 use crate::records;
-use layout::fields;
+use onecase::case;
 use onecase::case::Case;
 ghost use mathlib.Core.Path.{_≡_};
 ghost use mathlib.Core.Option.{none};
 ghost use Prim.Native.Nat.{_-_, _*_, _+_, _≤_, _<_};
 ghost use lib.ListN.{length, getD};
+ghost use Rattle.layout.specs.Fields.{sameBytes};
 ghost use Rattle.onecase.specs.Record.{recordKey};
 ghost use Rattle.onecase.specs.Machine.{next, rowOf};
 ghost use Rattle.keyorder.specs.Order.{indexIn};
@@ -39,16 +40,24 @@ pub fn key_in(batch: &[u8], numbers: &[u64], p: usize) -> [u8; 12]
     records::key_at(batch, packed::index_in(numbers[p]))
 }
 
+// Whether the details at two positions of the key order have one key.
+fn same_key_in(batch: &[u8], numbers: &[u64], p: usize, q: usize) -> bool
+    requires { ⌜ (p < length (now numbers)) × (indexIn (getD (now numbers) p 0) * 245 + 245 ≤ length (now batch)) × (q < length (now numbers)) × (indexIn (getD (now numbers) q 0) * 245 + 245 ≤ length (now batch)) ⌝ }
+    ensures { λ r. ⌜ r ≡ sameBytes (recordKey (recordIn (now (batch .entry)) (now (numbers .entry)) p)) (recordKey (recordIn (now (batch .entry)) (now (numbers .entry)) q)) ⌝ }
+{
+    let first = packed::index_in(numbers[p]);
+    let other = packed::index_in(numbers[q]);
+    records::same_key_at(batch, first, other)
+}
+
 // The first position behind p whose detail has another key than that at p, or own where there is none.
 pub fn key_end(batch: &[u8], numbers: &[u64], p: usize, own: usize) -> usize
     requires { ⌜ (p < own) × Usable (now batch) (now numbers) own ⌝ }
     ensures { λ r. ⌜ IsKeyEnd (now (batch .entry)) (now (numbers .entry)) p own r ⌝ }
 {
-    let key = key_in(batch, numbers, p);
     let mut e = p + 1;
     while e < own {
-        let other = key_in(batch, numbers, e);
-        if !fields::same(&key, &other) {
+        if !same_key_in(batch, numbers, p, e) {
             return e;
         }
         e += 1;
@@ -72,7 +81,7 @@ fn work_detail(
 {
     let i = packed::index_in(numbers[p]);
     let rec = records::record_at(batch, i);
-    let step = case.step(rec, state, year, list);
+    let step = case.step(&rec, state, year, list);
     let verdict = step.verdict;
     let left = step.case;
     let index = packed::index_in(numbers[i]) as u64;
@@ -139,9 +148,7 @@ pub fn makes_row(
     let mut q = p;
     while q < e {
         let rec = record_in(batch, numbers, q);
-        let step = no_case().step(rec, state, year, list);
-        let case = step.case;
-        if case.held {
+        if case::makes_row(&rec, state, year, list) {
             return true;
         }
         q += 1;

@@ -1,6 +1,7 @@
 // The indexes of a batch's details in the order of their keys.
 use crate::rank;
 use crate::records;
+use layout::states;
 use sorting::sorting::sort;
 ghost use mathlib.Core.Path.{_≡_};
 ghost use mathlib.Core.Bool.{cond};
@@ -8,6 +9,7 @@ ghost use Prim.Native.Nat.{_+_, _*_, _/_, _^_, _≤_, _<_};
 ghost use lib.Dec.{ltb};
 ghost use lib.ListN.{length, take, drop};
 ghost use Rattle.layout.specs.Blocks.{blocks};
+ghost use Rattle.layout.specs.States.{isState};
 ghost use Rattle.onecase.specs.Record.{recordKey};
 ghost use Rattle.keyorder.specs.Order.{rankOf, noRank, Ordered};
 ghost use Rattle.keyorder.specs.Numbers.{numberWith, Numbered, NotFalling, Stripped};
@@ -19,23 +21,24 @@ const INDEXES: u64 = 16777216;
 const INDEX_PLACE: u64 = 524288;
 
 // The rank of detail i and its index in one number.
-fn number_at(batch: &[u8], i: usize, state: &[u8]) -> u64
-    requires { ⌜ (i * 245 + 245 ≤ length (now batch)) × (i < 2 ^ 24) ⌝ }
+fn number_at(batch: &[u8], i: usize, state: &[u8], listed: bool) -> u64
+    requires { ⌜ (i * 245 + 245 ≤ length (now batch)) × (i < 2 ^ 24) × (listed ≡ isState (now state)) ⌝ }
     ensures { λ r. ⌜ r ≡ numberWith (rankOf (now (state .entry)) (recordKey (take 245 (drop (i * 245) (now (batch .entry)))))) i ⌝ }
 {
     let key = records::key_at(batch, i);
-    let rank = rank::rank_of(state, &key);
+    let rank = rank::rank_of(state, listed, &key);
     rank * INDEXES + i as u64
 }
 
-// Writes the numbers of the first d details.
+// Writes the numbers of the first d details. The state is looked up once for all of them.
 fn number_details(batch: &[u8], d: usize, state: &[u8], numbers: &mut [u64])
     requires { ⌜ (d * 245 ≤ length (now batch)) × (d ≤ length (now numbers)) × (d ≤ 2 ^ 24) ⌝ }
     ensures { λ _. ⌜ Numbered (now (state .entry)) (blocks 245 d (now (batch .entry))) d (now (numbers .entry)) (now (numbers .exit)) ⌝ }
 {
+    let listed = states::is_state(state);
     let mut i: usize = 0;
     while i < d {
-        numbers[i] = number_at(batch, i, state);
+        numbers[i] = number_at(batch, i, state, listed);
         i += 1;
     }
 }

@@ -7,6 +7,7 @@ ghost use mathlib.Core.Bool.{cond};
 ghost use Prim.Native.Nat.{_≤_, _^_};
 ghost use lib.Dec.{eqb};
 ghost use Rattle.layout.specs.Characters.{N};
+ghost use Rattle.layout.specs.States.{isState};
 ghost use Rattle.keyorder.specs.Order.{isOwnKey, rankOf};
 
 const STATE: Columns = Columns { first: 1, last: 2 };
@@ -16,14 +17,18 @@ const SSN: Columns = Columns { first: 3, last: 11 };
 // Behind the ranks of all sound keys of one state.
 pub const NO_RANK: u64 = 2147483648;
 
-// Whether a key is a sound one of a state.
-pub fn is_own_key(state: &[u8], key: &[u8]) -> bool
+// Whether a key is a sound one of a state, of which it is known whether it is in the table.
+fn is_own_key(state: &[u8], listed: bool, key: &[u8]) -> bool
+    requires { ⌜ listed ≡ isState (now state) ⌝ }
     ensures { λ r. ⌜ r ≡ isOwnKey (now (state .entry)) (now (key .entry)) ⌝ }
 {
-    if !key::is_sound_key(key) {
+    if key.len() != 12 {
         return false;
     }
-    fields::same(fields::field(key, STATE), state)
+    if !fields::same(fields::field(key, STATE), state) {
+        return false;
+    }
+    listed & key::is_sound_behind(key)
 }
 
 // One for Non-TANF, else none: within an SSN the case type A comes first.
@@ -34,10 +39,11 @@ fn type_rank(b: u8) -> u64
 }
 
 // A key's rank: by SSN and case type, or behind all such.
-pub fn rank_of(state: &[u8], key: &[u8]) -> u64
+pub fn rank_of(state: &[u8], listed: bool, key: &[u8]) -> u64
+    requires { ⌜ listed ≡ isState (now state) ⌝ }
     ensures { λ r. ⌜ (r ≡ rankOf (now (state .entry)) (now (key .entry))) × (r ≤ 2 ^ 31) ⌝ }
 {
-    if !is_own_key(state, key) {
+    if !is_own_key(state, listed, key) {
         return NO_RANK;
     }
     let ssn = fields::number_at(key, SSN);

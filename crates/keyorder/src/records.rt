@@ -1,10 +1,10 @@
 // The records of a batch.
-use layout::chart_a1;
 use layout::fields;
-use layout::row;
+use onecase::record;
 ghost use mathlib.Core.Path.{_≡_};
 ghost use Prim.Native.Nat.{_+_, _*_, _≤_};
 ghost use lib.ListN.{length, take, drop};
+ghost use Rattle.layout.specs.Fields.{sameBytes};
 ghost use Rattle.onecase.specs.Record.{recordKey};
 
 pub const RECORD_WIDTH: usize = 245;
@@ -21,18 +21,6 @@ pub fn record_at(batch: &[u8], i: usize) -> [u8; 245]
     r
 }
 
-// The key of a record that stands in a batch.
-fn key_of(rec: &[u8]) -> [u8; 12]
-    requires { ⌜ length (now rec) ≡ 245 ⌝ }
-    ensures { λ r. ⌜ r ≡ recordKey (now (rec .entry)) ⌝ }
-{
-    let mut key = [0u8; 12];
-    fields::copy(&mut key, row::STATE, rec, chart_a1::SUBMITTING_STATE);
-    fields::copy(&mut key, row::SSN, rec, chart_a1::SSN);
-    fields::copy(&mut key, row::CASE_TYPE, rec, chart_a1::CASE_TYPE);
-    key
-}
-
 // The key of the record at place i, without a copy of the record.
 pub fn key_at(batch: &[u8], i: usize) -> [u8; 12]
     requires { ⌜ i * 245 + 245 ≤ length (now batch) ⌝ }
@@ -40,5 +28,17 @@ pub fn key_at(batch: &[u8], i: usize) -> [u8; 12]
 {
     let at = i * RECORD_WIDTH;
     let end = at + RECORD_WIDTH;
-    key_of(&batch[at..end])
+    record::record_key(&batch[at..end])
+}
+
+// Whether the records at places i and j have one key.
+pub fn same_key_at(batch: &[u8], i: usize, j: usize) -> bool
+    requires { ⌜ (i * 245 + 245 ≤ length (now batch)) × (j * 245 + 245 ≤ length (now batch)) ⌝ }
+    ensures { λ r. ⌜ r ≡ sameBytes (recordKey (take 245 (drop (i * 245) (now (batch .entry))))) (recordKey (take 245 (drop (j * 245) (now (batch .entry))))) ⌝ }
+{
+    let first = i * RECORD_WIDTH;
+    let first_end = first + RECORD_WIDTH;
+    let other = j * RECORD_WIDTH;
+    let other_end = other + RECORD_WIDTH;
+    record::have_one_key(&batch[first..first_end], &batch[other..other_end])
 }

@@ -27,12 +27,6 @@ and-right false b t = cc
 -- ---- each byte, some byte
 
 module _ (f : ℕ → Bool) (s : List ℕ) (i : ℕ) where
-  pub every-pass : i < length s → f (getD s i 0) ≡ true → every f (drop i s) ≡ every f (drop (i + 1) s)
-  every-pass h t = rw (drop-cons s i 0 h, t, add-one i)
-
-  pub every-fail : i < length s → f (getD s i 0) ≡ false → every f (drop i s) ≡ false
-  every-fail h t = rw (drop-cons s i 0 h, t)
-
   pub every-step : i < length s → every f (drop i s) ≡ (f (getD s i 0) && every f (drop (i + 1) s))
   every-step h = rw (drop-cons s i 0 h, add-one i)
 

@@ -1,20 +1,21 @@
--- Laws of the byte order of keys and of keys that rise. Assumes nothing.
+-- Laws of the byte order of keys, of keys that rise and of sound keys. Assumes nothing.
 use mathlib.Core.Path.{_≡_, refl, sym, ap, _∙_}
 use mathlib.Core.Logic.{_⊎_, inl, inr}
-use mathlib.Core.Bool.{Bool, true, false, _&&_, false≢true}
+use mathlib.Core.Bool.{Bool, true, false, false≢true}
 use mathlib.Core.List.{List, [], _∷_, map}
 use Prim.Native.Nat.{ℕ, zero, suc, _+_, _-_, _*_, _≤_, _<_}
 use native.Mathlib.Nat.{not-suc-le-zero, le-of-suc-le-suc}
 use native.Mathlib.Numerals.{add-one}
 use native.Mathlib.Omega.{arith}
-use lib.Dec.{ltb}
+use lib.Dec.{ltb, eqb}
 use lib.ListN.{length, take, drop, getD, length-map, List·getD-map, drop-of-length-le}
 use lib.Seq.{drop-cons, take-take, take-nil}
-use borrow.Author.Tests.{lt-ltb, le-ltb, ltb-true, ltb-false, eq-eqb, ne-eqb}
+use borrow.Author.Tests.{lt-ltb, le-ltb, ltb-true, ltb-false, eq-eqb, ne-eqb, eqb-true}
 use Rattle.layout.specs.declared.key.Order.the-variants.{Less, Equal, Greater}
 use Rattle.layout.specs.Blocks.{blocks}
-use Rattle.layout.specs.Fields.{sameBytes}
-use Rattle.layout.specs.Key.{orderOf, isLess, isEqual, belowFirst, rising}
+use Rattle.layout.specs.Fields.{columns, sameBytes}
+use Rattle.layout.specs.States.{isState}
+use Rattle.layout.specs.Key.{isSoundKey, orderOf, isLess, isEqual, belowFirst, rising}
 use Rattle.layout.proofs.BlocksLaws.{blocks-get, length-blocks}
 use Rattle.layout.proofs.FieldsLaws.{and-left, and-right}
 
@@ -57,12 +58,12 @@ order-refl [] = refl
 order-refl (x ∷ xs) = order-eq x x xs xs refl ∙ order-refl xs
 
 -- by the two heads: below, above or the same
-data Heads (x y : ℕ) : Type 0 where
+pub data Heads (x y : ℕ) : Type 0 where
   lower : x < y → Heads x y
   upper : y < x → Heads x y
   same : x ≡ y → Heads x y
 
-heads : (x y : ℕ) → Heads x y
+pub heads : (x y : ℕ) → Heads x y
 heads x y = go (ltb x y) (ltb y x) refl refl
   where
     go : (a b : Bool) → ltb x y ≡ a → ltb y x ≡ b → Heads x y
@@ -286,3 +287,14 @@ module _ (k w n : ℕ) (m : List ℕ) (kw : k ≤ w) where
   pass-stop b (suc j) h l e t =
       let s : suc j - 1 ≡ j = omega arith in
       rw s (rising-stop (map (take k) (blocks w n m)) j (rw (length-keys k w n m) l) (neighbours b j l e ∙ t))
+
+-- ---- sound keys
+
+module _ (key : List ℕ) (t : isSoundKey key ≡ true) where
+  pub sound-length : length key ≡ 12
+  unfolding isSoundKey
+  sound-length = eqb-true (length key) 12 (and-left (eqb (length key) 12) _ t)
+
+  pub sound-state : isState (columns 1 2 key) ≡ true
+  unfolding isSoundKey
+  sound-state = and-left (isState (columns 1 2 key)) _ (and-right (eqb (length key) 12) _ t)

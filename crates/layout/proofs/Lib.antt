@@ -7,6 +7,7 @@ pub mod StatesLaws
 pub mod ExclusionsLaws
 pub mod BlocksLaws
 pub mod KeyLaws
+pub mod KeyNumberLaws
 pub mod CodesLaws
 pub mod LocalsLaws
 pub mod SearchLaws

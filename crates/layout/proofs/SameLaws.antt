@@ -1,10 +1,11 @@
 -- Laws of the test for the same bytes: it goes from one index to the next, and it passes exactly where the bytes are equal.
 -- Assumes nothing.
-use mathlib.Core.Path.{_≡_, refl, ap}
-use mathlib.Core.Bool.{Bool, true, false, _&&_, and-false}
-use mathlib.Core.List.{List, [], _∷_}
+use mathlib.Core.Path.{_≡_, refl, sym, ap}
+use mathlib.Core.Bool.{Bool, true, false, _&&_, and-assoc, and-false}
+use mathlib.Core.List.{List, [], _∷_, _++_}
 use Prim.Native.Nat.{ℕ, suc, _+_, _≤_, _<_}
 use native.Mathlib.Numerals.{add-one}
+use native.Mathlib.Omega.{arith}
 use borrow.Author.Tests.{eq-eqb, ne-eqb, eqb-true}
 use lib.Dec.{eqb}
 use lib.ListN.{length, getD, drop, drop-of-length-le}
@@ -52,3 +53,13 @@ same-eq (x ∷ a) (y ∷ b) t = go (eqb x y) refl t (same-eq a b)
         → _≡_ {A = List ℕ} (x ∷ a) (y ∷ b)
     go true e t r = cc (eqb-true x y e, r t)
     go false e t r = cc
+
+-- two runs of bytes behind two others of one length
+pub same-append : (a b c d : List ℕ) → length a ≡ length b → sameBytes (a ++ c) (b ++ d) ≡ (sameBytes a b && sameBytes c d)
+unfolding sameBytes
+same-append [] [] c d h = refl
+same-append [] (y ∷ b) c d h = absurd (let x : 0 ≡ suc (length b) = h in omega arith)
+same-append (x ∷ a) [] c d h = absurd (let y : suc (length a) ≡ 0 = h in omega arith)
+same-append (x ∷ a) (y ∷ b) c d h =
+    let l : length a ≡ length b = omega (arith, h) in
+    rw (same-append a b c d l) (sym (and-assoc (eqb x y) (sameBytes a b) (sameBytes c d)))

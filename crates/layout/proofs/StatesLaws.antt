@@ -1,8 +1,8 @@
 -- Laws of rising numbers, membership and binary search, over any list; of two-byte codes looked up as numbers, over any list of codes;
 -- and of the state table: its length, its rising order and that each entry is two bytes are computed.
 -- Assumes nothing.
-use mathlib.Core.Path.{_≡_, refl, sym, ap, _∙_}
-use mathlib.Core.Bool.{Bool, true, false, _&&_, or-true, and-false}
+use mathlib.Core.Path.{_≡_, refl, sym, _∙_}
+use mathlib.Core.Bool.{Bool, true, false, _&&_, or-true}
 use mathlib.Core.List.{List, [], _∷_, map}
 use mathlib.Core.Logic.{_⊎_, inl, inr, ⊎-elim}
 use Prim.Native.Nat.{ℕ, zero, suc, _+_, _*_, _≤_, _<_, zero-le, suc-le-suc}
@@ -168,10 +168,10 @@ states-pairs : arePairs stateTable ≡ true
 unfolding stateTable
 states-pairs = refl
 
--- the code of an entry
-pub state-code-at : (i : ℕ) → getD stateCodes i 0 ≡ codeOf (getD stateTable i [])
+-- the code of an entry, read from the table
+pub state-code : {table : List (List ℕ)} → table ≡ stateTable → (i : ℕ) → codeOf (getD table i []) ≡ getD stateCodes i 0
 unfolding stateCodes
-state-code-at i = List·getD-map codeOf stateTable i []
+state-code e i = rw e (sym (List·getD-map codeOf stateTable i []))
 
 -- two bytes are a state where their number is a state's
 pub state-of-code : (s : List ℕ) → length s ≡ 2 → getD s 1 0 < 256 → isState s ≡ isStateCode (codeOf s)

@@ -11,6 +11,7 @@ pub mod Exclusions
 pub mod Blocks
 pub mod Locals
 pub mod Key
+pub mod KeyNumbers
 pub mod Row
 pub mod Master
 pub mod Rows

@@ -52,18 +52,17 @@ pub fn copy(dst: &mut [u8], to: Columns, src: &[u8], from: Columns)
     put(dst, to, field(src, from));
 }
 
-// Whether every byte is b.
+// Whether every byte is b. No way out in the middle: the loop runs over several bytes at a time.
 pub fn all_are(s: &[u8], b: u8) -> bool
     ensures { λ r. ⌜ r ≡ every (isByte b) (now (s .entry)) ⌝ }
 {
+    let mut ok = true;
     let mut i = 0;
     while i < s.len() {
-        if s[i] != b {
-            return false;
-        }
+        ok = ok & (s[i] == b);
         i += 1;
     }
-    true
+    ok
 }
 
 // Whether every byte is a space.
@@ -80,7 +79,7 @@ pub fn is_zero(s: &[u8]) -> bool
     all_are(s, 0xF0)
 }
 
-// Whether every byte is a digit. No way out in the middle: the loop runs over several bytes at a time.
+// Whether every byte is a digit. No way out in the middle either.
 pub fn all_digits(s: &[u8]) -> bool
     ensures { λ r. ⌜ r ≡ allDigits (now (s .entry)) ⌝ }
 {

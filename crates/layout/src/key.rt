@@ -4,11 +4,15 @@ use crate::fields::Columns;
 use crate::ssn;
 use crate::states;
 ghost use mathlib.Core.Path.{_≡_};
+ghost use mathlib.Core.Bool.{true, not, _&&_};
 ghost use mathlib.Core.List.{map};
 ghost use Prim.Native.Nat.{_+_, _*_, _≤_, _<_};
-ghost use lib.ListN.{length, take};
+ghost use lib.ListN.{length, getD, take, drop};
 ghost use Rattle.layout.specs.Blocks.{blocks};
+ghost use Rattle.layout.specs.Fields.{columns};
+ghost use Rattle.layout.specs.Ssn.{wrongSsn};
 ghost use Rattle.layout.specs.Key.{isCaseType, isSoundKey, orderOf, isLess, rising};
+ghost use Rattle.layout.specs.KeyNumbers.{bytesNumber};
 
 // How two keys stand in byte order.
 pub enum Order {
@@ -28,6 +32,15 @@ pub fn is_case_type(b: u8) -> bool
     b == 0xC1 || b == 0xD5
 }
 
+// Whether a key of twelve bytes is sound behind its state: no error 02, a case type.
+pub fn is_sound_behind(key: &[u8]) -> bool
+    requires { ⌜ length (now key) ≡ 12 ⌝ }
+    ensures { λ r. ⌜ r ≡ (not (wrongSsn (columns 3 11 (now (key .entry)))) && isCaseType (getD (now (key .entry)) 11 0)) ⌝ }
+{
+    let wrong = ssn::wrong_ssn(fields::field(key, SSN));
+    !wrong & is_case_type(key[11])
+}
+
 // Whether a key is sound: twelve bytes, a state of the table, no error 02, a case type.
 pub fn is_sound_key(key: &[u8]) -> bool
     ensures { λ r. ⌜ r ≡ isSoundKey (now (key .entry)) ⌝ }
@@ -35,9 +48,19 @@ pub fn is_sound_key(key: &[u8]) -> bool
     if key.len() != 12 {
         return false;
     }
-    let state = states::is_state(fields::field(key, STATE));
-    let wrong = ssn::wrong_ssn(fields::field(key, SSN));
-    state & (!wrong & is_case_type(key[11]))
+    states::is_state(fields::field(key, STATE)) & is_sound_behind(key)
+}
+
+// Whether a key is sound, where the one before it is: a state that they share is not looked up again.
+pub fn is_sound_key_after(before: &[u8], key: &[u8]) -> bool
+    requires { ⌜ isSoundKey (now before) ≡ true ⌝ }
+    ensures { λ r. ⌜ r ≡ isSoundKey (now (key .entry)) ⌝ }
+{
+    if key.len() != 12 {
+        return false;
+    }
+    let known = fields::field(before, STATE);
+    states::is_state_after(known, fields::field(key, STATE)) & is_sound_behind(key)
 }
 
 // The byte order of two keys of one length.
@@ -60,11 +83,40 @@ pub fn order_of(a: &[u8], b: &[u8]) -> Order
     Order::Equal
 }
 
+// The four bytes from index i on as a number, the first the highest.
+fn four_number(a: &[u8], i: usize) -> u64
+    requires { ⌜ i + 4 ≤ length (now a) ⌝ }
+    ensures { λ r. ⌜ r ≡ bytesNumber (take 4 (drop i (now (a .entry)))) ⌝ }
+{
+    (((a[i] as u64) * 256 + (a[i + 1] as u64)) * 256 + (a[i + 2] as u64)) * 256 + (a[i + 3] as u64)
+}
+
+// The first eight bytes of a key as a number.
+fn front_number(a: &[u8]) -> u64
+    requires { ⌜ length (now a) ≡ 12 ⌝ }
+    ensures { λ r. ⌜ r ≡ bytesNumber (take 8 (now (a .entry))) ⌝ }
+{
+    four_number(a, 0) * 4294967296 + four_number(a, 4)
+}
+
+// Whether a key of twelve bytes is below another, by the numbers of their bytes.
+fn is_key_below(a: &[u8], b: &[u8]) -> bool
+    requires { ⌜ (length (now a) ≡ 12) × (length (now b) ≡ 12) ⌝ }
+    ensures { λ r. ⌜ r ≡ isLess (orderOf (now (a .entry)) (now (b .entry))) ⌝ }
+{
+    let x = front_number(a);
+    let y = front_number(b);
+    (x < y) | ((x == y) & (four_number(a, 8) < four_number(b, 8)))
+}
+
 // Whether a key is below another of its length.
 pub fn is_below(a: &[u8], b: &[u8]) -> bool
     requires { ⌜ length (now a) ≡ length (now b) ⌝ }
     ensures { λ r. ⌜ r ≡ isLess (orderOf (now (a .entry)) (now (b .entry))) ⌝ }
 {
+    if a.len() == 12 {
+        return is_key_below(a, b);
+    }
     match order_of(a, b) {
         Order::Less => true,
         Order::Equal => false,

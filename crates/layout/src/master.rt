@@ -76,11 +76,18 @@ fn all_sound(m: &[u8], n: usize) -> bool
     requires { ⌜ n * 200 ≤ length (now m) ⌝ }
     ensures { λ r. ⌜ r ≡ everyBlock isSoundRow (rowsOf n (now (m .entry))) ⌝ }
 {
-    let mut i: usize = 0;
+    if n < 1 {
+        return true;
+    }
+    if !row::is_sound_row(&m[0..ROW_WIDTH]) {
+        return false;
+    }
+    let mut i: usize = 1;
     while i < n {
+        let before = (i - 1) * ROW_WIDTH;
         let at = i * ROW_WIDTH;
         let end = at + ROW_WIDTH;
-        if !row::is_sound_row(&m[at..end]) {
+        if !row::is_sound_row_after(&m[before..at], &m[at..end]) {
             return false;
         }
         i += 1;

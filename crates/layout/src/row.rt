@@ -4,6 +4,7 @@ use crate::fields::Columns;
 use crate::key;
 use crate::name;
 ghost use mathlib.Core.Path.{_≡_};
+ghost use mathlib.Core.Bool.{true};
 ghost use lib.ListN.{length};
 ghost use Rattle.layout.specs.Row.{isLive, isStatusSound, areFieldsSound, isSoundRow};
 
@@ -169,4 +170,13 @@ pub fn is_sound_row(row: &[u8]) -> bool
     ensures { λ r. ⌜ r ≡ isSoundRow (now (row .entry)) ⌝ }
 {
     key::is_sound_key(fields::field(row, KEY)) & are_fields_sound(row)
+}
+
+// Whether a row is sound, where the one before it is.
+pub fn is_sound_row_after(before: &[u8], row: &[u8]) -> bool
+    requires { ⌜ (length (now before) ≡ 200) × (isSoundRow (now before) ≡ true) × (length (now row) ≡ 200) ⌝ }
+    ensures { λ r. ⌜ r ≡ isSoundRow (now (row .entry)) ⌝ }
+{
+    let known = fields::field(before, KEY);
+    key::is_sound_key_after(known, fields::field(row, KEY)) & are_fields_sound(row)
 }

@@ -1,10 +1,9 @@
 // The state table and membership in it.
+use crate::fields;
 ghost use mathlib.Core.Path.{_≡_};
-ghost use mathlib.Core.List.{[]};
-ghost use Prim.Native.Nat.{_<_};
-ghost use lib.ListN.{getD};
+ghost use mathlib.Core.Bool.{true};
 ghost use Rattle.layout.specs.States.{stateTable, isState};
-ghost use Rattle.layout.specs.StateCodes.{stateCodes, isStateCode};
+ghost use Rattle.layout.specs.StateCodes.{codeOf, isStateCode};
 
 // The codes of the state table in EBCDIC, rising.
 const STATES: [[u8; 2]; 54] = [
@@ -64,32 +63,30 @@ const STATES: [[u8; 2]; 54] = [
     [0xE6, 0xE8],
 ];
 
-// The code at place i.
-fn state_at(i: usize) -> [u8; 2]
-    requires { ⌜ i < 54 ⌝ }
-    ensures { λ r. ⌜ r ≡ getD stateTable i [] ⌝ }
+// The state table.
+fn states() -> [[u8; 2]; 54]
+    ensures { λ r. ⌜ r ≡ stateTable ⌝ }
 {
-    STATES[i]
+    STATES
 }
 
-// The code at place i as a number, the first byte the higher.
-fn code_at(i: usize) -> u16
-    requires { ⌜ i < 54 ⌝ }
-    ensures { λ r. ⌜ r ≡ getD stateCodes i 0 ⌝ }
+// A code as a number, the first byte the higher.
+fn code_of(code: [u8; 2]) -> u16
+    ensures { λ r. ⌜ r ≡ codeOf code ⌝ }
 {
-    let p = state_at(i);
-    (p[0] as u16) * 256 + (p[1] as u16)
+    (code[0] as u16) * 256 + (code[1] as u16)
 }
 
 // Whether the number is a state's: a binary search.
 fn is_code(x: u16) -> bool
     ensures { λ r. ⌜ r ≡ isStateCode x ⌝ }
 {
+    let table = states();
     let mut lo: usize = 0;
     let mut hi: usize = 54;
     while lo < hi {
         let mid = lo + (hi - lo) / 2;
-        let y = code_at(mid);
+        let y = code_of(table[mid]);
         if y == x {
             return true;
         }
@@ -110,4 +107,15 @@ pub fn is_state(s: &[u8]) -> bool
         return false;
     }
     is_code((s[0] as u16) * 256 + (s[1] as u16))
+}
+
+// Whether s is a code of the state table, where another is: the same is not looked up again.
+pub fn is_state_after(before: &[u8], s: &[u8]) -> bool
+    requires { ⌜ isState (now before) ≡ true ⌝ }
+    ensures { λ r. ⌜ r ≡ isState (now (s .entry)) ⌝ }
+{
+    if fields::same(before, s) {
+        return true;
+    }
+    is_state(s)
 }

@@ -3,9 +3,9 @@ use Prim.Native.Nat.{ℕ}
 use mathlib.Core.Path.{_≡_, refl}
 use mathlib.Core.Bool.{Bool, true, false, not, _&&_, false≢true}
 use mathlib.Core.List.{List}
+use mathlib.Core.Option.{some}
 use Rattle.layout.specs.Fields.{columns, sameBytes}
-use Rattle.layout.specs.ChartA1.{lastName, firstName}
-use Rattle.layout.specs.Row.{isLive, rowLastName, rowFirstName}
+use Rattle.layout.specs.Row.{isLive}
 use Rattle.onecase.specs.Record.{rowIf}
 use Rattle.onecase.specs.Errors.{isLiveRow, isOtherName}
 use Rattle.onecase.specs.Warnings.{isRenamed}
@@ -23,7 +23,7 @@ other-held true row rec = refl
 other-held false row rec = refl
 
 pub renamed-held : (held : Bool) (row rec : List ℕ)
-    → isRenamed (rowIf held row) rec ≡ (held && (isLive row && not (sameBytes (lastName rec) (rowLastName row) && sameBytes (firstName rec) (rowFirstName row))))
+    → isRenamed (rowIf held row) rec ≡ (held && isRenamed (some row) rec)
 unfolding isRenamed
 renamed-held true row rec = refl
 renamed-held false row rec = refl

@@ -5,11 +5,13 @@ use mathlib.Core.Bool.{Bool, true, false, not, cond, _&&_, _||_, and-assoc, true
 use mathlib.Core.List.{List, [], _∷_, _++_}
 use mathlib.Core.Option.{Option, none, some}
 use native.Mathlib.Omega.{arith}
-use lib.Dec.{lit≤, lit<}
+use borrow.Author.Tests.{ne-eqb}
+use lib.Dec.{lit≤, lit<, eqb}
+use Rattle.layout.specs.Characters.{A}
 use Rattle.layout.specs.Fields.{columns}
 use Rattle.layout.specs.Codes.{numberOfCodes, codesOfNumber}
 use Rattle.layout.proofs.CodesLaws.{codes-number}
-use Rattle.onecase.specs.Record.{rowIf}
+use Rattle.onecase.specs.Record.{isType, rowIf, isHeld}
 use Rattle.onecase.specs.Errors.{error01, error02, error03, error04, error05, error06, error07, error08, error09, error10, error11, error12, error13, error14, error15, error16, error17, error18, ifKnown, isWrongKey, judged09, judged17, code, errors}
 use Rattle.onecase.specs.Warnings.{warning51, warning52, warnings}
 use Rattle.onecase.specs.Parts.{IsFront, IsBehind}
@@ -156,3 +158,28 @@ module _ (state : List ℕ) (year : ℕ) (list : List ℕ) (row : Option (List �
           let n = name-17 state year list row rec t in
           held-row (c .held) (n .0) (er ∙ n .1) ∙ ap storedName er
       named-row false t = refl
+
+-- ---- from no row
+
+module _ (state : List ℕ) (year : ℕ) (list rec : List ℕ) where
+  -- an A makes a row exactly where its set of errors is empty
+  pub add-makes : (set : ℕ) → set ≡ numberOfCodes (errors state year list none rec) → isType A rec ≡ true
+      → eqb set 0 ≡ isHeld (next state year list none rec)
+  unfolding next applied
+  add-makes set es t = go (isAccepted state year list none rec) refl
+    where
+      go : (b : Bool) → isAccepted state year list none rec ≡ b → eqb set 0 ≡ isHeld (next state year list none rec)
+      go true a = rw (a, t, es, accepted-errors state year list none rec a)
+      go false a =
+          rw a
+          (ne-eqb set 0
+          (λ z. true≢false (sym (errors-accepted state year list none rec (number-none (errors state year list none rec) (sym es ∙ z))) ∙ a)))
+
+  -- a record of another type makes none
+  pub others-make-none : isType A rec ≡ false → false ≡ isHeld (next state year list none rec)
+  unfolding next applied
+  others-make-none t = go (isAccepted state year list none rec) refl
+    where
+      go : (b : Bool) → isAccepted state year list none rec ≡ b → false ≡ isHeld (next state year list none rec)
+      go true a = rw (a, t)
+      go false a = rw a

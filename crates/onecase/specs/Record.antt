@@ -1,7 +1,7 @@
 -- Document 01, "A record's errors": a detail record has 245 bytes (Chart A-1); its key and its type. Assumes nothing.
 use Prim.Native.Nat.{ℕ}
 use mathlib.Core.List.{List, _++_}
-use mathlib.Core.Bool.{Bool, cond, _||_}
+use mathlib.Core.Bool.{Bool, true, false, cond, _||_}
 use mathlib.Core.Option.{Option, none, some}
 use lib.ListN.{getD}
 use lib.Dec.{eqb}
@@ -35,3 +35,7 @@ firstInitial rec = getD rec 49 0
 -- the machine's state is one row or none, as a flag and a row
 abbrev pub rowIf : Bool → List ℕ → Option (List ℕ)
 rowIf held row = cond held (some row) none
+
+abbrev pub isHeld : Option (List ℕ) → Bool
+isHeld none = false
+isHeld (some row) = true

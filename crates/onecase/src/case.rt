@@ -6,9 +6,10 @@ use crate::verdict::Verdict;
 use crate::warnings;
 use layout::row;
 ghost use mathlib.Core.Path.{_≡_};
-ghost use Rattle.onecase.specs.Machine.{applied, rowOf, IsStep};
+ghost use mathlib.Core.Option.{none};
+ghost use Rattle.onecase.specs.Machine.{applied, next, rowOf, IsStep};
 ghost use Rattle.onecase.specs.Verdict.{IsRejection};
-ghost use Rattle.onecase.specs.Record.{rowIf};
+ghost use Rattle.onecase.specs.Record.{rowIf, isHeld};
 
 // One row or none: where no row is held, the bytes stand for nothing.
 pub struct Case {
@@ -60,18 +61,18 @@ fn rejection(set: u64, named: bool, row: [u8; 200]) -> Verdict
 fn step_row(
     held: bool,
     row: [u8; 200],
-    rec: [u8; 245],
+    rec: &[u8; 245],
     state: &[u8],
     year: u64,
     list: &[u8],
 ) -> Step
-    ensures { λ r. ⌜ IsStep (now (state .entry)) year (now (list .entry)) (rowIf held row) rec r ⌝ }
+    ensures { λ r. ⌜ IsStep (now (state .entry)) year (now (list .entry)) (rowIf held row) (now (rec .entry)) r ⌝ }
 {
-    let judged = judge::judge(&rec, held, &row, state, year, list);
+    let judged = judge::judge(rec, held, &row, state, year, list);
     let set = judged.set;
     if set == 0 {
-        let warned = warnings::warned(&rec, held, &row, list);
-        let case = applied_row(held, row, &rec, list);
+        let warned = warnings::warned(rec, held, &row, list);
+        let case = applied_row(held, row, rec, list);
         return Step {
             case,
             verdict: Verdict::Accepted(warned),
@@ -83,10 +84,24 @@ fn step_row(
     Step { case, verdict }
 }
 
+// Whether a record makes a row where there is none: an A without an error. Nothing is written for it.
+pub fn makes_row(rec: &[u8; 245], state: &[u8], year: u64, list: &[u8]) -> bool
+    ensures { λ r. ⌜ r ≡ isHeld (next (now (state .entry)) year (now (list .entry)) none (now (rec .entry))) ⌝ }
+{
+    let t = rec[72];
+    if t == 0xC1 {
+        let row = [0x40u8; 200];
+        let judged = judge::judge(rec, false, &row, state, year, list);
+        judged.set == 0
+    } else {
+        false
+    }
+}
+
 impl Case {
     // One record: an error changes nothing.
-    pub fn step(self, rec: [u8; 245], state: &[u8], year: u64, list: &[u8]) -> Step
-        ensures { λ r. ⌜ IsStep (now (state .entry)) year (now (list .entry)) (rowOf self) rec r ⌝ }
+    pub fn step(self, rec: &[u8; 245], state: &[u8], year: u64, list: &[u8]) -> Step
+        ensures { λ r. ⌜ IsStep (now (state .entry)) year (now (list .entry)) (rowOf self) (now (rec .entry)) r ⌝ }
     {
         let row = self.row;
         let held = self.held;

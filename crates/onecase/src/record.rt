@@ -3,6 +3,8 @@ use layout::chart_a1;
 use layout::fields;
 use layout::row;
 ghost use mathlib.Core.Path.{_≡_};
+ghost use lib.ListN.{length};
+ghost use Rattle.layout.specs.Fields.{sameBytes};
 ghost use Rattle.onecase.specs.Record.{recordKey, typeOf, isKnownType};
 
 // The transaction types.
@@ -27,7 +29,8 @@ pub const TRANSFER: u8 = 0xE3;
 pub const ADDRESS: u8 = 0xE9;
 
 // A record's key: columns 1–2, 6–14 and 74.
-pub fn record_key(rec: &[u8; 245]) -> [u8; 12]
+pub fn record_key(rec: &[u8]) -> [u8; 12]
+    requires { ⌜ length (now rec) ≡ 245 ⌝ }
     ensures { λ r. ⌜ r ≡ recordKey (now (rec .entry)) ⌝ }
 {
     let mut key = [0u8; 12];
@@ -35,6 +38,26 @@ pub fn record_key(rec: &[u8; 245]) -> [u8; 12]
     fields::copy(&mut key, row::SSN, rec, chart_a1::SSN);
     fields::copy(&mut key, row::CASE_TYPE, rec, chart_a1::CASE_TYPE);
     key
+}
+
+// Whether two records have one key.
+pub fn have_one_key(a: &[u8], b: &[u8]) -> bool
+    requires { ⌜ (length (now a) ≡ 245) × (length (now b) ≡ 245) ⌝ }
+    ensures { λ r. ⌜ r ≡ sameBytes (recordKey (now (a .entry))) (recordKey (now (b .entry))) ⌝ }
+{
+    let state = fields::same(
+        fields::field(a, chart_a1::SUBMITTING_STATE),
+        fields::field(b, chart_a1::SUBMITTING_STATE),
+    );
+    let ssn = fields::same(
+        fields::field(a, chart_a1::SSN),
+        fields::field(b, chart_a1::SSN),
+    );
+    let case_type = fields::same(
+        fields::field(a, chart_a1::CASE_TYPE),
+        fields::field(b, chart_a1::CASE_TYPE),
+    );
+    state & ssn & case_type
 }
 
 // Whether a record is of one of the ten types.

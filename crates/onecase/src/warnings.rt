@@ -5,10 +5,11 @@ use layout::chart_a1;
 use layout::fields;
 use layout::row;
 ghost use mathlib.Core.Path.{_≡_};
+ghost use mathlib.Core.Option.{some};
 ghost use Prim.Native.Nat.{_≤_};
 ghost use Rattle.layout.specs.Codes.{numberOfCodes};
 ghost use Rattle.onecase.specs.Record.{rowIf};
-ghost use Rattle.onecase.specs.Warnings.{warning51, warning52, warnings};
+ghost use Rattle.onecase.specs.Warnings.{warning51, isRenamed, warning52, warnings};
 
 // Warning 51 (A): the local code is neither blank, 000 nor listed.
 fn has_51(rec: &[u8; 245], list: &[u8]) -> bool
@@ -22,9 +23,9 @@ fn has_51(rec: &[u8; 245], list: &[u8]) -> bool
     }
 }
 
-// Warning 52 (A): the first or the last name differs from a live row's.
-fn has_52(rec: &[u8; 245], held: bool, row: &[u8; 200]) -> bool
-    ensures { λ r. ⌜ r ≡ warning52 (rowIf held (now (row .entry))) (now (rec .entry)) ⌝ }
+// Whether the first or the last name differs from a row's, which is live.
+fn is_renamed(rec: &[u8; 245], row: &[u8; 200]) -> bool
+    ensures { λ r. ⌜ r ≡ isRenamed (some (now (row .entry))) (now (rec .entry)) ⌝ }
 {
     let last = fields::same(
         fields::field(rec, chart_a1::LAST_NAME),
@@ -34,7 +35,19 @@ fn has_52(rec: &[u8; 245], held: bool, row: &[u8; 200]) -> bool
         fields::field(rec, chart_a1::FIRST_NAME),
         fields::field(row, row::FIRST_NAME),
     );
-    (rec[72] == 0xC1) & (held & (row::is_live(row) & !(last & first)))
+    row::is_live(row) & !(last & first)
+}
+
+// Warning 52 (A): the first or the last name differs from a live row's.
+fn has_52(rec: &[u8; 245], held: bool, row: &[u8; 200]) -> bool
+    ensures { λ r. ⌜ r ≡ warning52 (rowIf held (now (row .entry))) (now (rec .entry)) ⌝ }
+{
+    let t = rec[72];
+    if t == 0xC1 {
+        held & is_renamed(rec, row)
+    } else {
+        false
+    }
 }
 
 // The set of a record's warnings.

@@ -31,9 +31,9 @@ fn step(case: Case, rec: [u8; 245], control: Control) -> Step {
     let state = control.state;
     let year = control.year;
     if control.listed {
-        case.step(rec, &state, year, b"\xF0\xF0\xF1\xF0\xF0\xF5")
+        case.step(&rec, &state, year, b"\xF0\xF0\xF1\xF0\xF0\xF5")
     } else {
-        case.step(rec, &state, year, b"")
+        case.step(&rec, &state, year, b"")
     }
 }
 

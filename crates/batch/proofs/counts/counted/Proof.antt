@@ -6,59 +6,59 @@ use Rattle.batch.proofs.CountsLaws.{one-fits, one-most}
 use Rattle.batch.proofs.counts.counted.Statement.{statement}
 use Rattle.batch.proofs.counts.counted.Tie as tie
 
-element-copy-out-tanf : tie.Need-element-copy-out-tanf
-element-copy-out-tanf c = search needs
+shared-slice-read-tanf : tie.Need-shared-slice-read-tanf
+shared-slice-read-tanf c = search needs
 
-element-copy-out-non-tanf : tie.Need-element-copy-out-non-tanf
-element-copy-out-non-tanf c = search needs
+shared-slice-read-non-tanf : tie.Need-shared-slice-read-non-tanf
+shared-slice-read-non-tanf c = search needs
 
 one-if-requires : tie.Need-one-if-requires
 one-if-requires c κs = search needs
 
-add-t15 : tie.Need-add-t15
-add-t15 c = let p = c .before .before .before .before .pre in record { fits = one-fits _ _ _ (p .0 .a) (p .1) (c .before .one-if .ensures .1) }
+add-t13 : tie.Need-add-t13
+add-t13 c = let p = c .before .before .before .before .before .pre in record { fits = one-fits _ _ _ (p .1 .a) (p .2) (c .before .one-if .ensures .1) }
 
 one-if-requires-2 : tie.Need-one-if-requires-2
 one-if-requires-2 c κs = search needs
 
-add-t19 : tie.Need-add-t19
-add-t19 c = let p = c .before .before .before .before .before .before .pre in record { fits = one-fits _ _ _ (p .0 .b) (p .1) (c .before .one-if2 .ensures .1) }
+add-t17 : tie.Need-add-t17
+add-t17 c = let p = c .before .before .before .before .before .before .before .pre in record { fits = one-fits _ _ _ (p .1 .b) (p .2) (c .before .one-if2 .ensures .1) }
 
 one-if-requires-3 : tie.Need-one-if-requires-3
 one-if-requires-3 c κs = search needs
 
-add-t22 : tie.Need-add-t22
-add-t22 c = let p = c .before .before .before .before .before .before .before .before .pre in record { fits = one-fits _ _ _ (p .0 .c) (p .1) (c .before .one-if3 .ensures .1) }
+add-t20 : tie.Need-add-t20
+add-t20 c = let p = c .before .before .before .before .before .before .before .before .before .pre in record { fits = one-fits _ _ _ (p .1 .c) (p .2) (c .before .one-if3 .ensures .1) }
 
 one-if-requires-4 : tie.Need-one-if-requires-4
 one-if-requires-4 c κs = search needs
 
-add-t26 : tie.Need-add-t26
-add-t26 c = let p = c .before .before .before .before .before .before .before .before .before .before .pre in record { fits = one-fits _ _ _ (p .0 .d) (p .1) (c .before .one-if4 .ensures .1) }
+add-t24 : tie.Need-add-t24
+add-t24 c = let p = c .before .before .before .before .before .before .before .before .before .before .before .pre in record { fits = one-fits _ _ _ (p .1 .d) (p .2) (c .before .one-if4 .ensures .1) }
 
 one-if-requires-5 : tie.Need-one-if-requires-5
 one-if-requires-5 c κs = search needs
 
-add-t29 : tie.Need-add-t29
-add-t29 c = let p = c .before .before .before .before .before .before .before .before .before .before .before .before .pre in record { fits = one-fits _ _ _ (p .0 .e) (p .1) (c .before .one-if5 .ensures .1) }
+add-t27 : tie.Need-add-t27
+add-t27 c = let p = c .before .before .before .before .before .before .before .before .before .before .before .before .before .pre in record { fits = one-fits _ _ _ (p .1 .e) (p .2) (c .before .one-if5 .ensures .1) }
 
 one-if-requires-6 : tie.Need-one-if-requires-6
 one-if-requires-6 c κs = search needs
 
-add-t32 : tie.Need-add-t32
-add-t32 c = let p = c .before .before .before .before .before .before .before .before .before .before .before .before .before .before .pre in record { fits = one-fits _ _ _ (p .0 .f) (p .1) (c .before .one-if6 .ensures .1) }
+add-t30 : tie.Need-add-t30
+add-t30 c = let p = c .before .before .before .before .before .before .before .before .before .before .before .before .before .before .before .pre in record { fits = one-fits _ _ _ (p .1 .f) (p .2) (c .before .one-if6 .ensures .1) }
 
 one-if-requires-7 : tie.Need-one-if-requires-7
 one-if-requires-7 c κs = search needs
 
-add-t36 : tie.Need-add-t36
-add-t36 c = let p = c .before .before .before .before .before .before .before .before .before .before .before .before .before .before .before .before .pre in record { fits = one-fits _ _ _ (p .0 .g) (p .1) (c .before .one-if7 .ensures .1) }
+add-t34 : tie.Need-add-t34
+add-t34 c = let p = c .before .before .before .before .before .before .before .before .before .before .before .before .before .before .before .before .before .pre in record { fits = one-fits _ _ _ (p .1 .g) (p .2) (c .before .one-if7 .ensures .1) }
 
 returns : tie.Need-returns
 unfolding oneDetail
 returns c =
-    let a = c .before .before .before .before .before .before .before .before .before .before .before .before .before .before .before .before .args in
-    let p = c .before .before .before .before .before .before .before .before .before .before .before .before .before .before .before .before .pre .0 in
+    let a = c .before .before .before .before .before .before .before .before .before .before .before .before .before .before .before .before .before .args in
+    let p = c .before .before .before .before .before .before .before .before .before .before .before .before .before .before .before .before .before .pre .1 in
     let e1 = c .before .before .before .before .before .before .before .before .before .before .before .before .before .one-if .ensures in
     let e2 = c .before .before .before .before .before .before .before .before .before .before .before .one-if2 .ensures in
     let e3 = c .before .before .before .before .before .before .before .before .before .one-if3 .ensures in
@@ -82,20 +82,20 @@ pub counted-spec : {M : Type 1} → statement M
 counted-spec =
     tie.close
     (tie.spec
-    element-copy-out-tanf
-    element-copy-out-non-tanf
+    shared-slice-read-tanf
+    shared-slice-read-non-tanf
     one-if-requires
-    add-t15
+    add-t13
     one-if-requires-2
-    add-t19
+    add-t17
     one-if-requires-3
-    add-t22
+    add-t20
     one-if-requires-4
-    add-t26
+    add-t24
     one-if-requires-5
-    add-t29
+    add-t27
     one-if-requires-6
-    add-t32
+    add-t30
     one-if-requires-7
-    add-t36
+    add-t34
     returns)

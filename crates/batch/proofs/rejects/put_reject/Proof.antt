@@ -4,7 +4,6 @@ use mathlib.Core.Path.{_≡_, refl}
 use Prim.Native.Nat.{_^_, ℕ, _+_, _<_}
 use native.Mathlib.Nat.{le-refl}
 use native.Mathlib.Omega.{arith}
-use lib.ListN.{length}
 use borrow.Author.Needs.{needs}
 use Rattle.batch.specs.Rejects.{ifAny, rejectRecord}
 use Rattle.layout.specs.Blocks.{blocks}
@@ -19,8 +18,8 @@ set-of-requires c κs = search needs
 
 returns : tie.Need-returns
 returns c =
-    let a = c .before .before .before .args in
-    let r : List ℕ = rejectRecord (a .rec) (meaning (a .v)) in
+    let a = c .before .before .before .before .args in
+    let r : List ℕ = rejectRecord (a .rec .now) (meaning (a .v)) in
     let s = c .before .set-of in
     let e : ifAny (meaning (a .v) .codes) r ≡ [] = rw (codes-in (a .v), ← s .ensures) (none-any (s .result) r (c .if1 .taken)) in
     (record { blocks-are = rw (e, append-nil (blocks 245 (a .k) (a .rejects .now))); rest-kept = refl }, le-refl (a .k), omega arith)
@@ -45,15 +44,15 @@ same-length c = search needs
 
 returns-2 : tie.Need-returns-2
 returns-2 c =
-    let a = c .before .before .before .before .before .before .before .before .before .args in
-    let n : length (a .rec) ≡ 245 = search needs in
-    let r : List ℕ = rejectRecord (a .rec) (meaning (a .v)) in
+    let a = c .before .before .before .before .before .before .before .before .before .before .args in
+    let p = c .before .before .before .before .before .before .before .before .before .before .pre in
+    let r : List ℕ = rejectRecord (a .rec .now) (meaning (a .v)) in
     let s = c .before .before .before .before .before .before .before .set-of in
     let f : s .result < 2 ^ 64 = omega (arith, s .ok) in
-    let p : 0 < s .result = omega (arith, c .before .before .before .before .before .before .if1 .left) in
-    let e : ifAny (meaning (a .v) .codes) r ≡ r ∷ [] = rw (codes-in (a .v), ← s .ensures) (some-any (s .result) r f p) in (
+    let o : 0 < s .result = omega (arith, c .before .before .before .before .before .before .if1 .left) in
+    let e : ifAny (meaning (a .v) .codes) r ≡ r ∷ [] = rw (codes-in (a .v), ← s .ensures) (some-any (s .result) r f o) in (
       rw (e, c .before .before .copy-in .ensures, c .before .before .before .before .before .reject-record .ensures)
-          (holds-append 245 (a .k) (a .rejects .now) r (length-reject (a .rec) (meaning (a .v)) n (four-in (a .v))) (c .before .before .before .before .before .before .before .before .before .pre)),
+          (holds-append 245 (a .k) (a .rejects .now) r (length-reject (a .rec .now) (meaning (a .v)) (p .0) (four-in (a .v))) (p .1)),
       omega arith,
       le-refl (a .k + 1),
     )

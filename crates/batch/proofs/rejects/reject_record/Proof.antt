@@ -1,13 +1,20 @@
 -- `rejects::reject_record` meets its contract. Assumes nothing.
-use mathlib.Core.Path.{_≡_, sym, _∙_}
-use lib.ListN.{length}
+use mathlib.Core.Path.{_≡_, sym, ap, _∙_}
 use borrow.Author.Needs.{needs}
+use denote.Ref.{now}
 use Rattle.layout.specs.Codes.{sixLowest}
+use Rattle.layout.specs.Fields.{placed}
 use Rattle.onecase.specs.Verdict.{meaning}
-use Rattle.batch.proofs.RejectsLaws.{codes-in, four-in, reject-written}
+use Rattle.batch.proofs.RejectsLaws.{codes-in, four-in, spliced-all, reject-written}
 use Rattle.batch.proofs.ColumnsWritten.{written-all}
 use Rattle.batch.proofs.rejects.reject_record.Statement.{statement}
 use Rattle.batch.proofs.rejects.reject_record.Tie as tie
+
+slice-aggregate-copy-in : tie.Need-slice-aggregate-copy-in
+slice-aggregate-copy-in c = search needs
+
+copy-in-requires : tie.Need-copy-in-requires
+copy-in-requires c κs = search needs
 
 set-of-requires : tie.Need-set-of-requires
 set-of-requires c κs = search needs
@@ -47,22 +54,25 @@ put-requires-3 c κs = search needs
 
 returns : tie.Need-returns
 returns c =
-    let a = c .before .before .before .before .before .before .before .before .before .before .before .before .before .before .before .args in
+    let s = c .before .before .before .before .before .before .before .before .before .before .before .before .before .before .before .before .before .before .before in
+    let a = s .args in
     let t = c .before .before .before .before .before .before .before .before .before .before .before .before .before .codes-text in
-    let n : length (a .rec) ≡ 245 = search needs in
+    let w = c .before .before .before .before .before .before .before .before .before .before .before .before .before .before .before .before .copy-in .ensures ∙ spliced-all _ (now (a .rec)) (search needs) in
     let e : t .result ≡ sixLowest (meaning (a .v) .codes) = t .ensures ∙ rw (c .before .before .before .before .before .before .before .before .before .before .before .before .before .before .set-of .ensures, codes-in (a .v)) in
     written-all
-    (reject-written (a .rec) (meaning (a .v)) n (four-in (a .v)) _ _ _ _ _ e
+    (reject-written (now (a .rec)) (meaning (a .v)) (s .pre) (four-in (a .v)) _ _ _ _ _ e
     (c .before .before .before .before .before .before .before .before .name-columns .ensures)
-    (c .before .before .before .before .before .before .before .before .before .before .put .ensures)
+    (c .before .before .before .before .before .before .before .before .before .before .put .ensures ∙ ap (placed 228 239 (t .result)) w)
     (c .before .before .before .before .before .put2 .ensures)
     (c .before .put3 .ensures))
-    (sym n)
+    (sym (s .pre))
 
 pub reject-record-spec : {M : Type 1} → statement M
 reject-record-spec =
     tie.close
     (tie.spec
+    slice-aggregate-copy-in
+    copy-in-requires
     set-of-requires
     codes-text-requires
     slice-aggregate-put

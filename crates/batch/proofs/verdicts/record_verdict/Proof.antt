@@ -34,15 +34,15 @@ same-length-2 c = search needs
 
 returns : tie.Need-returns
 returns c =
-    let h : Fits w64 (c .before .before .before .before .before .before .before .before .set-of .result) = search needs in
+    let h : Fits w64 (c .before .before .before .before .before .before .before .set-of .result) = search needs in
     record {
-      fits = subst (λ (z : ℕ). z < 2 ^ 64) (c .before .before .before .before .before .before .before .before .set-of .ensures) (h .fits);
+      fits = subst (λ (z : ℕ). z < 2 ^ 64) (c .before .before .before .before .before .before .before .set-of .ensures) (h .fits);
       rows-is = refl;
-      number-is = ap (set (c .before .before .before .before .before .before .before .before .before .before .before .args .verdicts .now) (c .before .before .before .before .before .before .before .before .before .before .before .args .i)) (c .before .before .before .before .before .before .before .before .set-of .ensures);
+      number-is = ap (set (c .before .before .before .before .before .before .before .before .before .before .before .args .verdicts .now) (c .before .before .before .before .before .before .before .before .before .before .before .args .i)) (c .before .before .before .before .before .before .before .set-of .ensures);
       rejects-are = c .before .before .put-reject .ensures .0;
       rejects-low = c .before .before .put-reject .ensures .1;
       rejects-high = c .before .before .put-reject .ensures .2;
-      counts-are = c .before .before .before .before .counted .ensures .0 ∙ rw (c .before .before .before .before .before .before .before .is-accepted .ensures, c .before .before .before .before .before .before .before .before .set-of .ensures);
+      counts-are = c .before .before .before .before .counted .ensures .0 ∙ rw (c .before .before .before .before .before .before .is-accepted .ensures, c .before .before .before .before .before .before .before .set-of .ensures);
       counted = c .before .before .before .before .counted .ensures .1;
     }
 

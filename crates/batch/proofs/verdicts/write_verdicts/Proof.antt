@@ -1,12 +1,9 @@
 -- `verdicts::write_verdicts` meets its contract. The invariant is `Writing`: what stands in the buffers and what is left to write make the whole.
 -- Assumes nothing.
-use mathlib.Core.List.{List}
-use mathlib.Core.Path.{subst}
-use Prim.Native.Nat.{ℕ, _-_, _*_}
+use Prim.Native.Nat.{_-_, _*_}
 use native.Mathlib.Omega.{arith}
-use lib.ListN.{take, drop}
 use borrow.Author.Needs.{needs}
-use Rattle.batch.specs.Progress.{Recorded}
+use Rattle.layout.proofs.BlocksLaws.{part-width}
 use Rattle.batch.proofs.WritingLaws.{Writing, writing-start, writing-next, writing-few, writing-counted, writing-done}
 use Rattle.batch.proofs.verdicts.write_verdicts.Statement.{statement}
 use Rattle.batch.proofs.verdicts.write_verdicts.Tie as tie
@@ -25,23 +22,36 @@ loop-holds c =
     let a = c .before .before .before .before .args in
     writing-start (a .rows) (a .batch .now) (a .d) (a .numbers .now) (a .rejects .now) (c .no-tally .result) (c .no-tally .ensures)
 
-record-at-requires : tie.Need-record-at-requires Inv-loop μ-loop
-record-at-requires c κs = omega (arith, c .before .before .before .before .before .before .pre .0, c .loop-test .taken)
+mul-at : tie.Need-mul-at Inv-loop μ-loop
+mul-at c = search needs
+
+add-end : tie.Need-add-end Inv-loop μ-loop
+add-end c = search needs
 
 mul-verdict-in : tie.Need-mul-verdict-in Inv-loop μ-loop
 mul-verdict-in c = search needs
 
 slice-read-verdict-in : tie.Need-slice-read-verdict-in Inv-loop μ-loop
-slice-read-verdict-in c = omega (arith, c .before .before .before .before .before .before .before .before .pre .1, c .before .before .before .loop .inv .len-v, c .before .before .loop-test .taken)
+slice-read-verdict-in c = omega (arith, c .before .before .before .before .before .before .before .pre .1, c .before .before .loop .inv .len-v, c .before .loop-test .taken)
 
 verdict-in-requires : tie.Need-verdict-in-requires Inv-loop μ-loop
 verdict-in-requires c κs = search needs
+
+sub-record-verdict : tie.Need-sub-record-verdict Inv-loop μ-loop
+sub-record-verdict c = search needs
+
+part-record-verdict-start : tie.Need-part-record-verdict-start Inv-loop μ-loop
+part-record-verdict-start c = search needs
+
+part-record-verdict-end : tie.Need-part-record-verdict-end Inv-loop μ-loop
+part-record-verdict-end c = search needs
 
 record-verdict-requires : tie.Need-record-verdict-requires Inv-loop μ-loop
 record-verdict-requires c κs =
     let p = c .before .before .before .before .before .before .before .before .before .before .before .pre in
     let g = c .before .before .before .before .before .before .loop .inv in
     let l = c .before .before .before .before .before .loop-test .taken in (
+      search needs,
       omega (arith, p .1, g .len-v),
       omega (arith, p .2, g .len-r, g .used),
       g .counted,
@@ -57,10 +67,9 @@ loop-again : tie.Need-loop-again Inv-loop μ-loop
 loop-again c =
     let a = c .before .before .before .before .before .before .before .before .before .before .before .before .before .before .before .before .args in
     let l = c .before .before .before .before .before .before .before .before .before .before .before .loop in
-    let w = c .before .before .before .before .before .before .before .verdict-in in
+    let w = c .before .before .before .before .before .before .before .before .verdict-in in
     let o = c .before .before .before .before .record-verdict in
-    let u : Recorded (take 245 (drop (l .i * 245) (a .batch .now))) (w .result) (l .s) (l .i) (l .numbers) (l .rejects) (o .result) (o .last .1 .1 .1 .1 .0) (o .last .1 .1 .1 .1 .1 .0) =
-    subst (λ (z : List ℕ). Recorded z (w .result) (l .s) (l .i) (l .numbers) (l .rejects) (o .result) (o .last .1 .1 .1 .1 .0) (o .last .1 .1 .1 .1 .1 .0)) (c .before .before .before .before .before .before .before .before .before .record-at .ensures) (o .ensures) in
+    let u = rw (part-width 245 (a .batch .now) (l .i * 245)) at (o .ensures) in
     writing-next (a .rows) (a .batch .now) (a .d) (a .numbers .now) (a .rejects .now) (l .numbers) (l .rejects) (l .s) (l .i) (l .inv) (c .before .before .before .before .before .before .before .before .before .before .loop-test .taken) (c .before .before .before .before .before .before .before .before .before .before .before .before .before .before .before .before .pre .1)
     (w .result) (w .ensures) (o .last .1 .1 .1 .1 .0) (o .last .1 .1 .1 .1 .1 .0) (o .result) u (o .kept .1 .1 .1 .1 .0) (o .kept .1 .1 .1 .1 .1 .0)
 
@@ -88,10 +97,14 @@ write-verdicts-spec =
     μ-loop
     no-tally-requires
     loop-holds
-    record-at-requires
+    mul-at
+    add-end
     mul-verdict-in
     slice-read-verdict-in
     verdict-in-requires
+    sub-record-verdict
+    part-record-verdict-start
+    part-record-verdict-end
     record-verdict-requires
     add-i
     loop-less

@@ -26,19 +26,15 @@ record-in-requires c κs =
     let u = usable-at (a .batch .now) (a .numbers .now) (a .e) (c .before .before .before .before .before .before .pre .1) (c .before .loop .q) (c .loop-test .taken) in
     (u .0, u .2)
 
-no-case-requires : tie.Need-no-case-requires Inv-loop μ-loop
-no-case-requires c κs = search needs
-
-step-requires : tie.Need-step-requires Inv-loop μ-loop
-step-requires c κs = search needs
+makes-row-requires : tie.Need-makes-row-requires Inv-loop μ-loop
+makes-row-requires c κs = search needs
 
 returns : tie.Need-returns Inv-loop μ-loop
 returns c =
-    let a = c .before .before .before .before .before .before .before .before .before .before .before .args in
-    let l = c .before .before .before .before .before .before .loop in
-    let m = made (a .state .now) (a .year) (a .list .now) (a .batch .now) _ _ _ _ (recordIn (a .batch .now) (a .numbers .now) (l .q))
-    (c .before .before .step .ensures .row-is) (c .before .before .before .no-case .ensures) (c .before .before .before .before .record-in .ensures) in
-    sym (makes-found (a .state .now) (a .year) (a .list .now) (a .batch .now) (a .numbers .now) (a .p) (l .q) (a .e) (l .inv .0) (c .before .before .before .before .before .loop-test .taken)
+    let a = c .before .before .before .before .before .before .before .before .before .before .args in
+    let l = c .before .before .before .before .before .loop in
+    let m = made (a .state .now) (a .year) (a .list .now) (a .batch .now) _ _ (recordIn (a .batch .now) (a .numbers .now) (l .q)) (c .before .makes-row .ensures) (c .before .before .before .record-in .ensures) in
+    sym (makes-found (a .state .now) (a .year) (a .list .now) (a .batch .now) (a .numbers .now) (a .p) (l .q) (a .e) (l .inv .0) (c .before .before .before .before .loop-test .taken)
     (m ∙ c .if1 .taken))
 
 add-q : tie.Need-add-q Inv-loop μ-loop
@@ -49,12 +45,11 @@ loop-less c = search needs
 
 loop-again : tie.Need-loop-again Inv-loop μ-loop
 loop-again c =
-    let a = c .before .before .before .before .before .before .before .before .before .before .before .args in
-    let l = c .before .before .before .before .before .before .loop in
+    let a = c .before .before .before .before .before .before .before .before .before .before .args in
+    let l = c .before .before .before .before .before .loop in
     let u : a .p ≤ l .q + 1 = omega (arith, l .inv .0) in
-    let v : l .q + 1 ≤ a .e = omega (arith, c .before .before .before .before .before .loop-test .taken) in
-    let m = made (a .state .now) (a .year) (a .list .now) (a .batch .now) _ _ _ _ (recordIn (a .batch .now) (a .numbers .now) (l .q))
-    (c .before .before .step .ensures .row-is) (c .before .before .before .no-case .ensures) (c .before .before .before .before .record-in .ensures) in (
+    let v : l .q + 1 ≤ a .e = omega (arith, c .before .before .before .before .loop-test .taken) in
+    let m = made (a .state .now) (a .year) (a .list .now) (a .batch .now) _ _ (recordIn (a .batch .now) (a .numbers .now) (l .q)) (c .before .makes-row .ensures) (c .before .before .before .record-in .ensures) in (
       u,
       v,
       makes-next (a .state .now) (a .year) (a .list .now) (a .batch .now) (a .numbers .now) (a .p) (l .q) (l .inv .0) (l .inv .2) (m ∙ c .if1 .left),
@@ -75,8 +70,7 @@ makes-row-spec =
     μ-loop
     loop-holds
     record-in-requires
-    no-case-requires
-    step-requires
+    makes-row-requires
     returns
     add-q
     loop-less

@@ -48,9 +48,9 @@ same-length c = search needs
 
 returns : tie.Need-returns
 returns c =
-    let a = c .before .before .before .before .before .before .before .before .before .before .before .before .args in
-    let i = c .before .before .before .before .before .before .index-in .ensures in
-    let r = c .before .before .before .before .before .record-at .ensures ∙ ap (recordAt (a .batch .now)) (i .0) in
+    let a = c .before .before .before .before .before .before .before .before .before .before .before .before .before .args in
+    let i = c .before .before .before .before .before .before .before .index-in .ensures in
+    let r = c .before .before .before .before .before .before .record-at .ensures ∙ ap (recordAt (a .batch .now)) (i .0) in
     let s = c .before .before .before .before .step .ensures in
     let x = c .before .index-in2 .ensures in (
       next-here (a .state .now) (a .year) (a .list .now) (a .batch .now) (rowOf (a .case)) _ _ _ (s .row-is) r,

@@ -17,22 +17,26 @@ use Rattle.keyorder.proofs.order.number_details.Statement.{statement}
 use Rattle.keyorder.proofs.order.number_details.Tie as tie
 
 abbrev Inv-loop : tie.InvT-loop
-Inv-loop batch d state numbers₀ i₀ numbers i = (i ≤ d) × (length numbers ≡ length numbers₀) × Numbered state (blocks 245 d batch) i numbers₀ numbers
+Inv-loop batch d state numbers₀ listed i₀ numbers i = (i ≤ d) × (length numbers ≡ length numbers₀) × Numbered state (blocks 245 d batch) i numbers₀ numbers
 
 abbrev μ-loop : tie.MeasureT-loop
-μ-loop batch d state numbers₀ i₀ numbers i = d - i
+μ-loop batch d state numbers₀ listed i₀ numbers i = d - i
+
+is-state-requires : tie.Need-is-state-requires Inv-loop μ-loop
+is-state-requires c κs = search needs
 
 loop-holds : tie.Need-loop-holds Inv-loop μ-loop
 loop-holds c = (search needs, refl, numbered-none _ _ _)
 
 number-at-requires : tie.Need-number-at-requires Inv-loop μ-loop
-number-at-requires c κs = (omega (arith, c .loop-test .taken, c .before .before .before .before .before .pre .0), omega (arith, c .loop-test .taken, c .before .before .before .before .before .pre .2))
+number-at-requires c κs =
+    (omega (arith, c .loop-test .taken, c .before .before .before .before .before .before .pre .0), omega (arith, c .loop-test .taken, c .before .before .before .before .before .before .pre .2), c .before .before .is-state .ensures)
 
 mul-numbers : tie.Need-mul-numbers Inv-loop μ-loop
 mul-numbers c = search needs
 
 slice-write-numbers : tie.Need-slice-write-numbers Inv-loop μ-loop
-slice-write-numbers c = omega (arith, c .before .loop-test .taken, c .before .before .loop .inv .1, c .before .before .before .before .before .before .pre .1)
+slice-write-numbers c = omega (arith, c .before .loop-test .taken, c .before .before .loop .inv .1, c .before .before .before .before .before .before .before .pre .1)
 
 add-i : tie.Need-add-i Inv-loop μ-loop
 add-i c = search needs
@@ -42,12 +46,12 @@ loop-less c = search needs
 
 loop-again : tie.Need-loop-again Inv-loop μ-loop
 loop-again c =
-    let a = c .before .before .before .before .before .before .args in
+    let a = c .before .before .before .before .before .before .before .args in
     let l = c .before .before .loop in
     let t = c .before .loop-test .taken in
     let e = sym (blocks-get 245 (a .d) (now (a .batch)) (l .i) t) in
     let r = ap (λ (z : List ℕ). numberWith (rankOf (now (a .state)) (recordKey z)) (l .i)) e in
-    (omega (arith, t), length-set (l .numbers) (l .i) (c .number-at .result) ∙ l .inv .1, numbered-next _ _ _ (l .i) (l .numbers) _ (l .inv .2) (omega (arith, t, l .inv .1, c .before .before .before .before .before .before .pre .1)) (c .number-at .ensures ∙ r))
+    (omega (arith, t), length-set (l .numbers) (l .i) (c .number-at .result) ∙ l .inv .1, numbered-next _ _ _ (l .i) (l .numbers) _ (l .inv .2) (omega (arith, t, l .inv .1, c .before .before .before .before .before .before .before .pre .1)) (c .number-at .ensures ∙ r))
 
 same-length : tie.Need-same-length Inv-loop μ-loop
 same-length c = c .before .loop .inv .1
@@ -61,6 +65,7 @@ number-details-spec =
     (tie.spec
     Inv-loop
     μ-loop
+    is-state-requires
     loop-holds
     number-at-requires
     mul-numbers

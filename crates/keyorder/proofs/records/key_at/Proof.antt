@@ -14,25 +14,25 @@ mul-at c = search needs
 add-end : tie.Need-add-end
 add-end c = search needs
 
-sub-key-of : tie.Need-sub-key-of
-sub-key-of c = search needs
+sub-record-key : tie.Need-sub-record-key
+sub-record-key c = search needs
 
-part-key-of-start : tie.Need-part-key-of-start
-part-key-of-start c = search needs
+part-record-key-start : tie.Need-part-record-key-start
+part-record-key-start c = search needs
 
-part-key-of-end : tie.Need-part-key-of-end
-part-key-of-end c = search needs
+part-record-key-end : tie.Need-part-record-key-end
+part-record-key-end c = search needs
 
-key-of-requires : tie.Need-key-of-requires
-key-of-requires c κs = search needs
+record-key-requires : tie.Need-record-key-requires
+record-key-requires c κs = search needs
 
 returns : tie.Need-returns
 returns c =
     let a = c .before .before .before .args in
     let w : a .i * 245 + 245 - a .i * 245 ≡ 245 = omega arith in
-    c .key-of .ensures ∙ ap (λ (z : ℕ). recordKey (take z (drop (a .i * 245) (a .batch .now)))) w
+    c .record-key .ensures ∙ ap (λ (z : ℕ). recordKey (take z (drop (a .i * 245) (a .batch .now)))) w
 
 pub key-at-spec : {M : Type 1} → statement M
 key-at-spec =
     tie.close
-    (tie.spec mul-at add-end sub-key-of part-key-of-start part-key-of-end key-of-requires returns)
+    (tie.spec mul-at add-end sub-record-key part-record-key-start part-record-key-end record-key-requires returns)

@@ -15,31 +15,20 @@ field-requires c κs = search needs
 is-state-requires : tie.Need-is-state-requires
 is-state-requires c κs = search needs
 
-field-requires-2 : tie.Need-field-requires-2
-field-requires-2 c κs = search needs
-
-wrong-ssn-requires : tie.Need-wrong-ssn-requires
-wrong-ssn-requires c κs = search needs
-
-shared-slice-read-is-case-type : tie.Need-shared-slice-read-is-case-type
-shared-slice-read-is-case-type c = search needs
-
-is-case-type-requires : tie.Need-is-case-type-requires
-is-case-type-requires c κs = search needs
+is-sound-behind-requires : tie.Need-is-sound-behind-requires
+is-sound-behind-requires c κs = search needs
 
 returns-2 : tie.Need-returns-2
 unfolding isSoundKey
-returns-2 c = rw (eq-eqb _ _ (c .before .before .before .before .before .before .if1 .left), c .is-case-type .ensures, c .before .before .wrong-ssn .ensures, c .before .before .before .field2 .ensures, c .before .before .before .before .is-state .ensures, c .before .before .before .before .before .field .ensures)
+returns-2 c =
+    rw (
+      eq-eqb _ _ (c .before .before .before .if1 .left),
+      c .is-sound-behind .ensures,
+      c .before .is-state .ensures,
+      c .before .before .field .ensures,
+    )
 
 pub is-sound-key-spec : {M : Type 1} → statement M
 is-sound-key-spec =
     tie.close
-    (tie.spec
-    returns
-    field-requires
-    is-state-requires
-    field-requires-2
-    wrong-ssn-requires
-    shared-slice-read-is-case-type
-    is-case-type-requires
-    returns-2)
+    (tie.spec returns field-requires is-state-requires is-sound-behind-requires returns-2)

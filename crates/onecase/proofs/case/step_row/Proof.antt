@@ -17,14 +17,16 @@ applied-row-requires c κs = search needs
 
 returns : tie.Need-returns
 returns c =
-    step-accepted (c .before .before .before .before .before .before .before .before .before .before .before .args .state .now) (c .before .before .before .before .before .before .before .before .before .before .before .args .year) (c .before .before .before .before .before .before .before .before .before .before .before .args .list .now) (rowIf (c .before .before .before .before .before .before .before .before .before .before .before .args .held) (c .before .before .before .before .before .before .before .before .before .before .before .args .t2)) (c .before .before .before .before .before .before .before .before .before .before .before .args .t3) _ _ _ (c .before .before .before .before .before .before .judge .ensures .0) (c .before .before .before .before .before .if1 .taken) (c .before .before .warned .ensures) (c .applied-row .ensures)
+    let a = c .before .before .before .before .before .before .before .before .args in
+    step-accepted (a .state .now) (a .year) (a .list .now) (rowIf (a .held) (a .t2)) (a .rec .now) _ _ _ (c .before .before .before .before .judge .ensures .0) (c .before .before .before .if1 .taken) (c .before .warned .ensures) (c .applied-row .ensures)
 
 rejection-requires : tie.Need-rejection-requires
 rejection-requires c κs = search needs
 
 returns-2 : tie.Need-returns-2
 returns-2 c =
-    step-rejected (c .before .before .before .before .before .before .before .args .state .now) (c .before .before .before .before .before .before .before .args .year) (c .before .before .before .before .before .before .before .args .list .now) (rowIf (c .before .before .before .before .before .before .before .args .held) (c .before .before .before .before .before .before .before .args .t2)) (c .before .before .before .before .before .before .before .args .t3) _ _ _ _ (c .before .before .judge .ensures .0) (c .before .if1 .left) (c .before .before .judge .ensures .1) refl (c .rejection .ensures)
+    let a = c .before .before .before .before .before .before .args in
+    step-rejected (a .state .now) (a .year) (a .list .now) (rowIf (a .held) (a .t2)) (a .rec .now) _ _ _ _ (c .before .before .judge .ensures .0) (c .before .if1 .left) (c .before .before .judge .ensures .1) refl (c .rejection .ensures)
 
 pub step-row-spec : {M : Type 1} → statement M
 step-row-spec =

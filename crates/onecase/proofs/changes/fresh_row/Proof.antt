@@ -57,18 +57,18 @@ written-requires-4 c κs = search needs
 
 returns : tie.Need-returns
 returns c =
-    fresh-steps (c .before .before .before .before .before .before .before .before .before .before .before .before .before .before .before .before .before .before .args .list .now) (c .before .before .before .before .before .before .before .before .before .before .before .before .before .before .before .before .before .before .args .rec .now) _ _ _ _ _ _ _ _ _ _ _ _ _
-    (c .before .before .before .before .before .before .before .before .before .before .before .before .before .before .before .before .exclusion-byte .ensures)
-    (c .before .before .before .before .before .before .before .before .before .before .before .before .before .before .written .ensures)
-    (c .before .before .before .before .before .before .before .before .before .before .before .before .before .copied .ensures)
-    (c .before .before .before .before .before .before .before .before .before .before .before .before .copied2 .ensures)
-    (c .before .before .before .before .before .before .before .before .before .before .written2 .ensures)
-    (c .before .before .before .before .before .before .before .before .before .copied3 .ensures)
-    (c .before .before .before .before .before .before .before .before .copied4 .ensures)
-    (c .before .before .before .before .before .before .before .copied5 .ensures)
-    (c .before .before .before .before .before .before .copied6 .ensures)
-    (c .before .before .before .before .before .added-local-code .ensures)
-    (c .before .before .before .written3 .ensures)
+    fresh-steps (c .before .before .before .before .before .before .before .before .before .before .before .before .before .before .before .before .before .before .before .args .list .now) (c .before .before .before .before .before .before .before .before .before .before .before .before .before .before .before .before .before .before .before .args .rec .now) _ _ _ _ _ _ _ _ _ _ _ _ _
+    (c .before .before .before .before .before .before .before .before .before .before .before .before .before .before .before .before .before .exclusion-byte .ensures)
+    (c .before .before .before .before .before .before .before .before .before .before .before .before .before .before .before .written .ensures)
+    (c .before .before .before .before .before .before .before .before .before .before .before .before .before .before .copied .ensures)
+    (c .before .before .before .before .before .before .before .before .before .before .before .before .before .copied2 .ensures)
+    (c .before .before .before .before .before .before .before .before .before .before .before .written2 .ensures)
+    (c .before .before .before .before .before .before .before .before .before .before .copied3 .ensures)
+    (c .before .before .before .before .before .before .before .before .before .copied4 .ensures)
+    (c .before .before .before .before .before .before .before .before .copied5 .ensures)
+    (c .before .before .before .before .before .before .before .copied6 .ensures)
+    (c .before .before .before .before .before .before .added-local-code .ensures)
+    (c .before .before .before .before .written3 .ensures)
     (c .before .before .record-key .ensures)
     (c .written4 .ensures)
 

@@ -30,9 +30,12 @@ copy-requires-3 c κs = search needs
 
 returns : tie.Need-returns
 returns c =
-    let rec = c .before .before .before .before .before .before .before .before .before .before .before .before .args .rec .now in
-    let n : length rec ≡ 245 = search needs in
-    key-steps (replicate 12 0) (columns 1 2 rec) (columns 6 14 rec) (columns 74 74 rec) (c .before .before .before .before .before .before .before .before .before .copy .last .0) (c .before .before .before .before .before .copy2 .last .0) _ refl (length-columns 1 2 rec (record { low = lit≤ tt; ordered = lit≤ tt; high = omega arith })) (length-columns 6 14 rec (record { low = lit≤ tt; ordered = lit≤ tt; high = omega arith })) (c .before .before .before .before .before .before .before .before .before .copy .ensures) (c .before .before .before .before .before .copy2 .ensures) (c .before .copy3 .ensures)
+    let rec = c .before .before .before .before .before .before .before .before .before .before .args .rec .now in
+    let n : length rec ≡ 245 = c .before .before .before .before .before .before .before .before .before .before .pre in
+    let wa = length-columns 1 2 rec (record { low = lit≤ tt; ordered = lit≤ tt; high = omega arith }) in
+    let wb = length-columns 6 14 rec (record { low = lit≤ tt; ordered = lit≤ tt; high = omega arith }) in
+    key-steps (replicate 12 0) (columns 1 2 rec) (columns 6 14 rec) (columns 74 74 rec) (c .before .before .before .before .before .before .before .copy .last .0) (c .before .before .before .before .copy2 .last .0) _
+    refl wa wb (c .before .before .before .before .before .before .before .copy .ensures) (c .before .before .before .before .copy2 .ensures) (c .before .copy3 .ensures)
 
 pub record-key-spec : {M : Type 1} → statement M
 record-key-spec =

@@ -1,4 +1,4 @@
--- `apply::count_new` meets its contract. The invariant: what was counted and what is left make the whole. Assumes nothing.
+-- `adds::count_new` meets its contract. The invariant: what was counted and what is left make the whole. Assumes nothing.
 use mathlib.Core.Path.{_≡_}
 use Prim.Native.Nat.{_+_, _-_, _*_, _≤_}
 use native.Mathlib.Omega.{arith}
@@ -9,8 +9,8 @@ use Rattle.batch.specs.Apply.{newRows}
 use Rattle.layout.specs.Blocks.{blocks}
 use Rattle.layout.specs.Master.{rowsOf}
 use Rattle.batch.proofs.NewLaws.{new-next, new-end, new-most}
-use Rattle.batch.proofs.apply.count_new.Statement.{statement}
-use Rattle.batch.proofs.apply.count_new.Tie as tie
+use Rattle.batch.proofs.adds.count_new.Statement.{statement}
+use Rattle.batch.proofs.adds.count_new.Tie as tie
 
 abbrev Inv-loop : tie.InvT-loop
 Inv-loop m n batch d count₀ i₀ count i = (i ≤ d) × (count ≤ i) × (count + newRows (rowsOf n m) (drop i (blocks 245 d batch)) ≡ newRows (rowsOf n m) (blocks 245 d batch))

@@ -1,36 +1,27 @@
--- `apply::is_new` meets its contract. Assumes nothing.
+-- `adds::is_new` meets its contract. Assumes nothing.
 use mathlib.Core.List.{List}
-use mathlib.Core.Path.{sym, ap, subst, _∙_}
+use mathlib.Core.Path.{sym, subst, _∙_}
 use Prim.Native.Nat.{ℕ, _*_}
-use lib.Dec.{eqb}
 use lib.ListN.{take, drop}
 use borrow.Author.Needs.{needs}
-use borrow.Author.Tests.{eq-eqb, ne-eqb}
+use borrow.Author.Tests.{not-true, not-false}
 use denote.Ref.{now}
-use Rattle.layout.specs.Characters.{A}
 use Rattle.layout.specs.Master.{rowsOf}
 use Rattle.layout.specs.Search.{IsPlace}
 use Rattle.layout.specs.declared.search.Place.{Place}
 use Rattle.onecase.specs.Record.{recordKey}
-use Rattle.batch.proofs.NewLaws.{type-in, new-other, new-found, new-missing}
+use Rattle.batch.proofs.NewLaws.{new-other, new-found, new-missing}
 use Rattle.batch.proofs.TurnsLaws.{rows-rise}
-use Rattle.batch.proofs.apply.is_new.Statement.{statement}
-use Rattle.batch.proofs.apply.is_new.Tie as tie
+use Rattle.batch.proofs.adds.is_new.Statement.{statement}
+use Rattle.batch.proofs.adds.is_new.Tie as tie
 
-mul-t : tie.Need-mul-t
-mul-t c = search needs
-
-add-t : tie.Need-add-t
-add-t c = search needs
-
-shared-slice-read-t : tie.Need-shared-slice-read-t
-shared-slice-read-t c = search needs
+is-add-requires : tie.Need-is-add-requires
+is-add-requires c κs = c .before .before .pre .2
 
 returns : tie.Need-returns
 returns c =
     let a = c .before .before .before .before .args in
-    sym (new-other (rowsOf (a .n) (now (a .m))) (take 245 (drop (a .i * 245) (now (a .batch))))
-    (ap (λ (z : ℕ). eqb z A) (type-in (now (a .batch)) (a .i)) ∙ ne-eqb _ _ (c .if1 .taken)))
+    sym (new-other (rowsOf (a .n) (now (a .m))) (take 245 (drop (a .i * 245) (now (a .batch)))) (sym (c .before .is-add .ensures) ∙ not-true _ (c .if1 .taken)))
 
 key-at-requires : tie.Need-key-at-requires
 key-at-requires c κs = c .before .before .before .before .pre .2
@@ -64,15 +55,13 @@ returns-3 c =
     let rec = take 245 (drop (a .i * 245) (now (a .batch))) in
     let p = subst (λ (k : List ℕ). IsPlace (c .before .before .place-of .result) k rows) (c .before .before .before .before .key-at .ensures) (c .before .before .place-of .ensures) in
     let g = subst (λ (z : Place). IsPlace z (recordKey rec) rows) (c .enum-told2 .given .1) p in
-    sym (new-missing rows rec (ap (λ (z : ℕ). eqb z A) (type-in (now (a .batch)) (a .i)) ∙ eq-eqb _ _ (c .before .before .before .before .before .if1 .left)) (g .missing))
+    sym (new-missing rows rec (sym (c .before .before .before .before .before .before .is-add .ensures) ∙ not-false _ (c .before .before .before .before .before .if1 .left)) (g .missing))
 
 pub is-new-spec : {M : Type 1} → statement M
 is-new-spec =
     tie.close
     (tie.spec
-    mul-t
-    add-t
-    shared-slice-read-t
+    is-add-requires
     returns
     key-at-requires
     slice-aggregate-place-of

@@ -1,4 +1,4 @@
--- `walk::has_add` meets its contract. Assumes nothing.
+-- `adds::has_add` meets its contract. Assumes nothing.
 use mathlib.Core.Path.{_≡_, refl, sym, _∙_}
 use Prim.Native.Nat.{_-_, _≤_}
 use native.Mathlib.Omega.{arith}
@@ -6,8 +6,8 @@ use lib.ListN.{drop}
 use Rattle.layout.specs.Blocks.{blocks}
 use Rattle.batch.specs.Walking.{hasAdd}
 use Rattle.batch.proofs.AddLaws.{add-here, add-later, add-end}
-use Rattle.batch.proofs.walk.has_add.Statement.{statement}
-use Rattle.batch.proofs.walk.has_add.Tie as tie
+use Rattle.batch.proofs.adds.has_add.Statement.{statement}
+use Rattle.batch.proofs.adds.has_add.Tie as tie
 
 abbrev Inv-loop : tie.InvT-loop
 Inv-loop batch d i₀ i = (i ≤ d) × (hasAdd (blocks 245 d batch) ≡ hasAdd (drop i (blocks 245 d batch)))
