@@ -1,23 +1,16 @@
 -- The answer of a search, by the refusals that come before it. Assumes nothing.
 use Prim.Native.Nat.{ℕ}
-use mathlib.Core.Path.{_≡_, refl, sym, ap, _∙_}
-use mathlib.Core.Bool.{Bool, true, false, not, _&&_, _||_}
+use mathlib.Core.Path.{_≡_, refl, sym, _∙_}
+use mathlib.Core.Bool.{Bool, true, false, not}
 use mathlib.Core.List.{List}
-use mathlib.Core.Option.{Option, none, some}
-use lib.Dec.{eqb}
-use lib.ListN.{length}
-use borrow.Author.Tests.{eq-eqb, ne-eqb, eqb-true, not-false}
+use mathlib.Core.Option.{none, some}
+use borrow.Author.Tests.{ne-eqb}
 use Rattle.layout.specs.Key.{isSoundKey}
 use Rattle.layout.specs.Master.{rowsOf, areSoundRows}
 use Rattle.layout.specs.Rows.{placeWith}
-use Rattle.layout.proofs.FieldsLaws.{and-left}
 use Rattle.batch.specs.Apply.{refusal3, refusal4, masterRefusal}
-use Rattle.batch.specs.Find.{FindResult, place, refused, refusal14, findResult}
+use Rattle.batch.specs.Find.{place, refused, refusal14, findResult}
 use Rattle.batch.proofs.RefusalsLaws.{master-passed, master-refused}
-
-pub key-twelve : (key : List ℕ) → isSoundKey key ≡ true → length key ≡ 12
-unfolding isSoundKey
-key-twelve key t = eqb-true (length key) 12 (and-left (eqb (length key) 12) _ t)
 
 pub rows-sound : (master : List ℕ) (rows : ℕ) → masterRefusal master rows 0 ≡ 0 → areSoundRows (rowsOf rows master) ≡ true
 unfolding masterRefusal refusal4

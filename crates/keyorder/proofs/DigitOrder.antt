@@ -66,8 +66,3 @@ onto-stand n (x ∷ s) (y ∷ t) e f g =
 pub stand : (s t : List ℕ) → length s ≡ length t → allDigits s ≡ true → allDigits t ≡ true → Stand 0 s t
 unfolding allDigits
 stand s t e f g = onto-stand 0 s t e f g
-
--- what stands in front of both leaves their order
-pub order-front : (p s t : List ℕ) → orderOf (p ++ s) (p ++ t) ≡ orderOf s t
-order-front [] s t = refl
-order-front (x ∷ p) s t = order-eq x x (p ++ s) (p ++ t) refl ∙ order-front p s t

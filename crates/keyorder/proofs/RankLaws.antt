@@ -17,20 +17,16 @@ use Rattle.layout.specs.declared.key.Order.the-variants.{Less}
 use Rattle.layout.proofs.FieldsLaws.{and-left, and-right, digits-width, digits-all}
 use Rattle.layout.proofs.NumberLaws.{number-below}
 use Rattle.layout.proofs.SameLaws.{same-eq}
-use Rattle.layout.proofs.KeyLaws.{order-lt}
+use Rattle.layout.proofs.KeyLaws.{order-lt, order-front, sound-length}
 use Rattle.onecase.proofs.BoolLaws.{or-left}
 use Rattle.keyorder.specs.Order.{isOwnKey, rankOf}
-use Rattle.keyorder.proofs.DigitOrder.{Stand, below, level, above, stand, order-front}
+use Rattle.keyorder.proofs.DigitOrder.{Stand, below, level, above, stand}
 
 -- ---- what a sound key of a state is
 
 ssn-digits : (s : List ℕ) → wrongSsn s ≡ false → areDigits 9 s ≡ true
 unfolding wrongSsn
 ssn-digits s h = not-false (areDigits 9 s) (or-left (not (areDigits 9 s)) (isZero s) (or-left (not (areDigits 9 s) || isZero s) _ h))
-
-pub sound-width : (key : List ℕ) → isSoundKey key ≡ true → length key ≡ 12
-unfolding isSoundKey
-sound-width key h = eqb-true (length key) 12 (and-left (eqb (length key) 12) _ h)
 
 pub record Own (state key : List ℕ) : Type 0 where
   pub width : length key ≡ 12
@@ -63,7 +59,7 @@ module _ (state key : List ℕ) where
       let s = and-left (isSoundKey key) (sameBytes (columns 1 2 key) state) h in
       let r = and-right st (w && t) (and-right (eqb (length key) 12) (st && (w && t)) s) in
       record {
-        width = eqb-true (length key) 12 (and-left (eqb (length key) 12) (st && (w && t)) s);
+        width = sound-length key s;
         digits = ssn-digits (columns 3 11 key) (not-true (wrongSsn (columns 3 11 key)) (and-left w t r));
         type = and-right w t r;
         same = same-eq (columns 1 2 key) state (and-right (isSoundKey key) (sameBytes (columns 1 2 key) state) h);

@@ -1,6 +1,6 @@
 -- Laws of exclusion words, of the set that they name, and of the columns that show a set. Assumes nothing.
-use mathlib.Core.Path.{_≡_, refl}
-use mathlib.Core.Bool.{Bool, true, false, cond}
+use mathlib.Core.Path.{_≡_, refl, sym, _∙_}
+use mathlib.Core.Bool.{Bool, true, false, cond, or-true}
 use mathlib.Core.List.{List, [], _∷_, _++_}
 use mathlib.Core.Option.{none, some}
 use Prim.Native.Nat.{ℕ, suc, _+_, _-_, _*_, _/_, _%_, _^_, _≤_, _<_}
@@ -13,8 +13,10 @@ use lib.Dec.{eqb, ltb}
 use lib.ListN.{length, getD, take, drop, length-append, length-drop, drop-of-length-le}
 use lib.Pow.{pow-lt}
 use lib.Seq.{drop-cons, take-suc, getD-drop}
-use Rattle.layout.specs.Fields.{sameBytes, spaces}
+use Rattle.layout.specs.Characters.{space, isByte}
+use Rattle.layout.specs.Fields.{every, isBlank, sameBytes, spaces}
 use Rattle.layout.specs.Exclusions.{exclusionNames, isSeparator, unlessEmpty, wordsFrom, placeAmong, readOnto, exclusionsOf, namesShown, exclusionColumns}
+use Rattle.layout.proofs.FieldsLaws.{and-left, and-right}
 
 -- ---- words
 
@@ -58,6 +60,17 @@ word-skip s i h t = rw (drop-cons s i 0 h, t, add-one i)
 pub words-none : (s : List ℕ) (i : ℕ) → length s ≤ i → wordsFrom [] (drop i s) ≡ []
 unfolding wordsFrom
 words-none s i h = rw (drop-of-length-le s h)
+
+-- spaces alone are no words
+blank-words : (s : List ℕ) → isBlank s ≡ true → wordsFrom [] s ≡ []
+unfolding wordsFrom isBlank isSeparator
+blank-words [] t = refl
+blank-words (b ∷ s) t =
+    let h : eqb b space ≡ true = and-left (eqb b space) (every (isByte space) s) t in
+    rw (h, or-true) (blank-words s (and-right (eqb b space) (every (isByte space) s) t))
+
+pub blank-end : (s : List ℕ) (i : ℕ) → isBlank (drop i s) ≡ true → wordsFrom [] (drop i s) ≡ wordsFrom [] (drop (length s) s)
+blank-end s i t = blank-words (drop i s) t ∙ sym (words-none s (length s) (omega arith))
 
 -- ---- the place of a word among the eight names
 

@@ -1,14 +1,14 @@
 -- Laws of tests over a run of bytes, from any index on, whatever the test; and of columns and what is placed in them, whatever
 -- their place and width. Assumes nothing.
 use mathlib.Core.Path.{_≡_, refl, sym, ap, _∙_}
-use mathlib.Core.Bool.{Bool, true, false, _&&_, _||_}
+use mathlib.Core.Bool.{Bool, true, false, _&&_}
 use mathlib.Core.List.{List, [], _∷_, _++_, append-assoc}
 use Prim.Native.Nat.{ℕ, zero, suc, _+_, _-_, _≤_, _<_}
 use native.Mathlib.Numerals.{add-one}
 use native.Mathlib.Omega.{arith}
 use lib.Dec.{eqb, lit<}
 use lib.ListN.{length, getD, take, drop, length-append, length-take, length-drop, drop-of-length-le}
-use lib.Seq.{drop-cons, drop-drop, length-take-le, take-append-le, drop-append-le, take-at, drop-at, take-take, getD-take, getD-drop}
+use lib.Seq.{drop-cons, drop-drop, length-take-le, take-at, drop-at, take-take, getD-take, getD-drop}
 use borrow.Author.Tests.{eqb-true}
 use Rattle.layout.specs.Characters.{isDigit}
 use Rattle.layout.specs.Fields.{every, some, columns, placed, Inside, allDigits, areDigits}

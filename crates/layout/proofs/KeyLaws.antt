@@ -2,7 +2,7 @@
 use mathlib.Core.Path.{_≡_, refl, sym, ap, _∙_}
 use mathlib.Core.Logic.{_⊎_, inl, inr}
 use mathlib.Core.Bool.{Bool, true, false, false≢true}
-use mathlib.Core.List.{List, [], _∷_, map}
+use mathlib.Core.List.{List, [], _∷_, _++_, map}
 use Prim.Native.Nat.{ℕ, zero, suc, _+_, _-_, _*_, _≤_, _<_}
 use native.Mathlib.Nat.{not-suc-le-zero, le-of-suc-le-suc}
 use native.Mathlib.Numerals.{add-one}
@@ -33,6 +33,11 @@ module _ (x y : ℕ) (xs ys : List ℕ) where
   pub order-eq : x ≡ y → orderOf (x ∷ xs) (y ∷ ys) ≡ orderOf xs ys
   unfolding orderOf
   order-eq e = rw (le-ltb x y (omega arith), le-ltb y x (omega arith))
+
+-- what stands in front of both leaves their order
+pub order-front : (p s t : List ℕ) → orderOf (p ++ s) (p ++ t) ≡ orderOf s t
+order-front [] s t = refl
+order-front (x ∷ p) s t = order-eq x x (p ++ s) (p ++ t) refl ∙ order-front p s t
 
 -- two keys of one length, from byte i on
 module _ (a b : List ℕ) (e : length a ≡ length b) (i : ℕ) where

@@ -12,7 +12,7 @@ use borrow.Author.Tests.{lt-ltb, le-ltb, eq-eqb, ne-eqb}
 use Rattle.layout.specs.declared.key.Order.the-variants.{Less, Greater}
 use Rattle.layout.specs.Key.{orderOf, isLess}
 use Rattle.layout.specs.KeyNumbers.{bytesOnto, bytesNumber}
-use Rattle.layout.proofs.KeyLaws.{Heads, lower, upper, same, heads, order-lt, order-gt, order-eq, order-refl}
+use Rattle.layout.proofs.KeyLaws.{Heads, lower, upper, same, heads, order-lt, order-gt, order-eq, order-front, order-refl}
 
 -- ---- bytes
 
@@ -120,11 +120,6 @@ stand n (x ∷ s) (y ∷ t) e p q = go (heads x y) (stand (n * 256 + x) s t (ome
     go (same h) (below k o) l = below (rw (← h) k) (λ u v. order-eq x y (s ++ u) (t ++ v) h ∙ o u v)
     go (same h) (level k) l = level (cc)
     go (same h) (above k o) l = above (rw (← h) k) (λ u v. order-eq x y (s ++ u) (t ++ v) h ∙ o u v)
-
--- what stands in front of both leaves their order
-order-front : (p s t : List ℕ) → orderOf (p ++ s) (p ++ t) ≡ orderOf s t
-order-front [] s t = refl
-order-front (x ∷ p) s t = order-eq x x (p ++ s) (p ++ t) refl ∙ order-front p s t
 
 -- bytes of one length are below others where their number is
 number-order : (s t : List ℕ) → length s ≡ length t → AreBytes s → AreBytes t → isLess (orderOf s t) ≡ ltb (bytesNumber s) (bytesNumber t)

@@ -1,11 +1,11 @@
 // Error 16: exclusion words, and the set that they name.
 use crate::fields;
 ghost use mathlib.Core.Path.{_≡_};
-ghost use mathlib.Core.Bool.{false, cond};
+ghost use mathlib.Core.Bool.{true, false, cond};
 ghost use mathlib.Core.List.{[], _∷_};
 ghost use Prim.Native.Nat.{_<_, _≤_, _-_, _^_};
 ghost use lib.ListN.{length, getD, take, drop};
-ghost use Rattle.layout.specs.Fields.{spaces};
+ghost use Rattle.layout.specs.Fields.{isBlank, spaces};
 ghost use Rattle.layout.specs.Exclusions.{exclusionNames, isSeparator, wordsFrom, exclusionsOf, setRead, exclusionColumns};
 
 // What an exclusion field names: a set, bit 0 for ADM, or failure at a word that is none of the eight.
@@ -67,6 +67,32 @@ fn word_end(s: &[u8], at: usize) -> usize
     i
 }
 
+// Whether the byte behind `at` is a space, and all from `at` on are: what mostly stands behind the last word.
+fn ends_blank(s: &[u8], at: usize) -> bool
+    requires { ⌜ at < length (now s) ⌝ }
+    ensures { λ r. ⌜ (r ≡ true → isBlank (drop at (now (s .entry))) ≡ true) ⌝ }
+{
+    let next = at + 1;
+    if s.len() <= next {
+        return false;
+    }
+    if s[next] != 0x40 {
+        return false;
+    }
+    fields::is_blank(&s[at..])
+}
+
+// The place behind the separator at `at`, or the end where only spaces are left.
+fn past_separator(s: &[u8], at: usize) -> usize
+    requires { ⌜ (at < length (now s)) × (isSeparator (getD (now s) at 0) ≡ true) ⌝ }
+    ensures { λ r. ⌜ (at < r) × (r ≤ length (now (s .entry))) × (wordsFrom [] (drop at (now (s .entry))) ≡ wordsFrom [] (drop r (now (s .entry)))) ⌝ }
+{
+    if ends_blank(s, at) {
+        return s.len();
+    }
+    at + 1
+}
+
 // Reads the exclusion words of a field: their set, or failure at the first word that is none of the eight.
 pub fn read_exclusions(s: &[u8]) -> Exclusions
     ensures { λ r. ⌜ setRead r ≡ exclusionsOf (now (s .entry)) ⌝ }
@@ -79,7 +105,7 @@ pub fn read_exclusions(s: &[u8]) -> Exclusions
         }
         let b = s[at];
         if is_separator(b) {
-            at += 1;
+            at = past_separator(s, at);
             continue 'words;
         }
         let end = word_end(s, at);

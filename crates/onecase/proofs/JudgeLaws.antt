@@ -1,15 +1,15 @@
 -- The set of a record's errors from the parts in which it is judged, and the step from the set. Assumes nothing.
-use Prim.Native.Nat.{ℕ, zero, suc, _+_, _^_, _≤_, _<_}
+use Prim.Native.Nat.{ℕ, _+_, _≤_, _<_}
 use mathlib.Core.Path.{_≡_, refl, sym, ap, _∙_}
-use mathlib.Core.Bool.{Bool, true, false, not, cond, _&&_, _||_, and-assoc, true≢false, false≢true}
-use mathlib.Core.List.{List, [], _∷_, _++_}
+use mathlib.Core.Bool.{Bool, true, false, not, cond, _&&_, _||_, and-assoc, true≢false}
+use mathlib.Core.List.{List, _++_}
 use mathlib.Core.Option.{Option, none, some}
 use native.Mathlib.Omega.{arith}
 use borrow.Author.Tests.{ne-eqb}
 use lib.Dec.{lit≤, lit<, eqb}
 use Rattle.layout.specs.Characters.{A}
 use Rattle.layout.specs.Fields.{columns}
-use Rattle.layout.specs.Codes.{numberOfCodes, codesOfNumber}
+use Rattle.layout.specs.Codes.{numberOfCodes}
 use Rattle.layout.proofs.CodesLaws.{codes-number}
 use Rattle.onecase.specs.Record.{isType, rowIf, isHeld}
 use Rattle.onecase.specs.Errors.{error01, error02, error03, error04, error05, error06, error07, error08, error09, error10, error11, error12, error13, error14, error15, error16, error17, error18, ifKnown, isWrongKey, judged09, judged17, code, errors}
@@ -23,7 +23,7 @@ use Rattle.onecase.specs.declared.case.Case.{Case}
 use Rattle.onecase.specs.declared.verdict.Verdict.{Verdict}
 use Rattle.onecase.specs.declared.verdict.Verdict.the-variants.{Accepted}
 use Rattle.onecase.proofs.CodeSums.{Rises, parts, rising-code, rising-last, number-none}
-use Rattle.onecase.proofs.JudgementLaws.{NoError, accepted-none, errors-accepted, accepted-errors, error-changes-nothing, name-17}
+use Rattle.onecase.proofs.JudgementLaws.{accepted-none, errors-accepted, accepted-errors, error-changes-nothing, name-17}
 
 module _ (state : List ℕ) (year : ℕ) (list : List ℕ) (row : Option (List ℕ)) (rec : List ℕ) where
   -- ---- the parts

@@ -6,7 +6,8 @@ use borrow.Author.Tests.{not-true, not-false}
 use Rattle.layout.specs.Master.{rowsOf}
 use Rattle.layout.specs.Search.{IsPlace}
 use Rattle.layout.specs.declared.search.Place.{Place}
-use Rattle.batch.proofs.FindLaws.{find-refused, find-unsound, find-at, find-missing, key-twelve, rows-sound}
+use Rattle.layout.proofs.KeyLaws.{sound-length}
+use Rattle.batch.proofs.FindLaws.{find-refused, find-unsound, find-at, find-missing, rows-sound}
 use Rattle.batch.proofs.RefusalsLaws.{master-rows}
 use Rattle.batch.proofs.TurnsLaws.{rows-rise}
 use Rattle.batch.proofs.find.find.Statement.{statement}
@@ -27,7 +28,7 @@ returns-2 c = find-unsound (c .before .before .before .before .before .before .a
 place-of-requires : tie.Need-place-of-requires
 place-of-requires c κs =
     let z = sym (c .before .before .before .master-refusal .ensures) ∙ c .before .before .if1 .left in
-    (omega (arith, master-rows (c .before .before .before .before .before .before .args .master .now) (c .before .before .before .before .before .before .args .rows) z), key-twelve (c .before .before .before .before .before .before .args .key .now) (sym (c .before .is-sound-key .ensures) ∙ not-false _ (c .if2 .left)), rows-rise (rowsOf (c .before .before .before .before .before .before .args .rows) (c .before .before .before .before .before .before .args .master .now)) (rows-sound (c .before .before .before .before .before .before .args .master .now) (c .before .before .before .before .before .before .args .rows) z))
+    (omega (arith, master-rows (c .before .before .before .before .before .before .args .master .now) (c .before .before .before .before .before .before .args .rows) z), sound-length (c .before .before .before .before .before .before .args .key .now) (sym (c .before .is-sound-key .ensures) ∙ not-false _ (c .if2 .left)), rows-rise (rowsOf (c .before .before .before .before .before .before .args .rows) (c .before .before .before .before .before .before .args .master .now)) (rows-sound (c .before .before .before .before .before .before .args .master .now) (c .before .before .before .before .before .before .args .rows) z))
 
 enum-known-p : tie.Need-enum-known-p
 enum-known-p c = search needs

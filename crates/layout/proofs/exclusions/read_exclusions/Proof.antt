@@ -10,8 +10,8 @@ use borrow.Author.Needs.{needs}
 use lib.Bits.{bitOr}
 use lib.ListN.{length, getD, take, drop}
 use Rattle.layout.specs.Fields.{sameBytes}
-use Rattle.layout.specs.Exclusions.{exclusionNames, isSeparator, wordsFrom, placeAmong, readOnto, exclusionsOf}
-use Rattle.layout.proofs.ExclusionsLaws.{word-skip, words-none, place-here, place-next, place-end, read-word, read-fails}
+use Rattle.layout.specs.Exclusions.{exclusionNames, wordsFrom, placeAmong, readOnto, exclusionsOf}
+use Rattle.layout.proofs.ExclusionsLaws.{words-none, place-here, place-next, place-end, read-word, read-fails}
 use Rattle.layout.proofs.exclusions.read_exclusions.Statement.{statement}
 use Rattle.layout.proofs.exclusions.read_exclusions.Tie as tie
 
@@ -66,18 +66,17 @@ shared-slice-read-b c = search needs
 is-separator-requires : tie.Need-is-separator-requires Inv-names μ-names Inv-words μ-words
 is-separator-requires c κs = search needs
 
-add-at : tie.Need-add-at Inv-names μ-names Inv-words μ-words
-add-at c = search needs
+past-separator-requires : tie.Need-past-separator-requires Inv-names μ-names Inv-words μ-words
+past-separator-requires c κs = (search needs, sym (c .before .is-separator .ensures) ∙ c .if2 .taken)
 
 words-less : tie.Need-words-less Inv-names μ-names Inv-words μ-words
-words-less c = search needs
+words-less c = let p = c .past-separator .ensures in omega (arith, p .0, p .1)
 
 words-again : tie.Need-words-again Inv-names μ-names Inv-words μ-words
 words-again c =
-    let a = c .before .before .before .before .before .before .args in
-    let l = c .before .before .before .before .words in
-    let t : isSeparator (getD (a .s .now) (l .at) 0) ≡ true = sym (c .before .is-separator .ensures) ∙ c .if2 .taken in
-    (search needs, l .inv .1 ∙ ap (readOnto (l .set)) (word-skip (a .s .now) (l .at) (search needs) t))
+    let l = c .before .before .before .before .before .words in
+    let p = c .past-separator .ensures in
+    (p .1, l .inv .1 ∙ ap (readOnto (l .set)) (p .2))
 
 word-end-requires : tie.Need-word-end-requires Inv-names μ-names Inv-words μ-words
 word-end-requires c κs = (search needs, sym (c .before .is-separator .ensures) ∙ c .if2 .left)
@@ -163,7 +162,7 @@ read-exclusions-spec =
     words-holds
     shared-slice-read-b
     is-separator-requires
-    add-at
+    past-separator-requires
     words-less
     words-again
     word-end-requires
