@@ -1,7 +1,7 @@
 // Files that are left over, and files that can't be written.
-use crate::tried;
 use apply_samples::files;
 use apply_samples::files::save;
+use apply_trials::tried;
 
 fn left_over() {
     tried::save_right();

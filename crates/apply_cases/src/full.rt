@@ -1,10 +1,10 @@
 // Runs at the full space: 100 details, 200 rows, 1,000 codes.
 ghost use Prim.Native.Nat.{_≤_};
-use crate::records;
-use crate::tried;
-use apply_files::parts::first;
+use apply_output::parts::first;
 use apply_samples::columns::place;
 use apply_samples::columns::put_number;
+use apply_trials::records;
+use apply_trials::tried;
 
 // 200 rows, SSN 900000000 to 900000199.
 fn put_rows(master: &mut [u8]) {

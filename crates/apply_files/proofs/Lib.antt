@@ -1,4 +1,2 @@
 pub mod YearLaws
-pub mod DecimalLaws
-pub mod LineLaws
 pub mod RunLaws

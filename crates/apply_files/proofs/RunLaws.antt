@@ -2,19 +2,18 @@
 use mathlib.Core.Path.{_≡_, refl, ap}
 use mathlib.Core.Bool.{Bool, true, false, cond, _||_}
 use mathlib.Core.List.{List, _++_}
-use Prim.Native.Nat.{ℕ, _+_, _/_, _%_, _≤_, _<_}
-use native.Mathlib.Numerals.{add-one}
+use Prim.Native.Nat.{ℕ, _/_, _%_, _≤_}
 use native.Mathlib.Omega.{arith}
 use lib.Dec.{eqb}
-use lib.ListN.{length, getD, take, drop, drop-of-length-le}
-use lib.Seq.{drop-cons}
+use lib.ListN.{take, drop}
 use borrow.Author.Tests.{ltb-false}
 use Rattle.batch.specs.declared.apply.Applied.{Applied}
-use Rattle.batch.specs.Apply.{callOf, outcomeOf, applyOutcome}
+use Rattle.batch.specs.Apply.{outcomeOf, applyOutcome}
 use Rattle.apply_files.specs.declared.limits.Input.{Input}
 use Rattle.apply_files.specs.declared.limits.Input.the-variants.{Missing, Bytes}
 use Rattle.apply_files.specs.Limits.{masterSpace, sizeOf, refusal0}
-use Rattle.apply_files.specs.Run.{lengthIn, lentLength, behind, yearOutcome, recordCount}
+use Rattle.apply_files.specs.Run.{lengthIn, lentLength, withRest, yearOutcome}
+use Rattle.batch.specs.Call.{callOf}
 
 -- never more than the 200 rows
 pub lent-bound : (n : ℕ) → n ≤ 40000 → lentLength n ≤ 40000
@@ -26,11 +25,11 @@ lent-bound n h = go (eqb (n % 200) 0)
     go false = h
 
 -- the call's outcome, with the rest of the buffer behind it
-pub rest-behind : (answer : Applied) (master lent : List ℕ) (e n : ℕ) (batch locals : List ℕ) (year : ℕ) (verdicts rejects v′ r′ : List ℕ)
+pub with-rest : (answer : Applied) (master lent : List ℕ) (e n : ℕ) (batch locals : List ℕ) (year : ℕ) (verdicts rejects v′ r′ : List ℕ)
     → e ≡ lentLength n → outcomeOf answer lent v′ r′ ≡ applyOutcome (callOf (take e master) (n / 200) batch locals year verdicts rejects)
     → outcomeOf answer (lent ++ drop e master) v′ r′ ≡ yearOutcome master n batch locals year verdicts rejects
 unfolding yearOutcome
-rest-behind answer master lent e n batch locals year verdicts rejects v′ r′ l is = rw (← l) (ap (behind (drop e master)) is)
+with-rest answer master lent e n batch locals year verdicts rejects v′ r′ l is = rw (← l) (ap (withRest (drop e master)) is)
 
 -- what isn't refused fits: a master.bin within the 200 rows
 pub in-space : (m b l y : Input) → refusal0 (sizeOf m) (sizeOf b) (sizeOf l) (sizeOf y) ≡ false → lengthIn m ≤ 40000
@@ -41,14 +40,3 @@ in-space (Bytes n) b l y e = ltb-false 40000 n (or-left _ _ e)
     or-left : (p q : Bool) → (p || q) ≡ false → p ≡ false
     or-left true q h = h
     or-left false q h = refl
-
--- the records from a detail on: one more where its verdict isn't zero
-pub record-next : (verdicts : List ℕ) (i : ℕ) → i < length verdicts
-    → recordCount (drop i verdicts) ≡ cond (eqb (getD verdicts i 0) 0) 0 1 + recordCount (drop (i + 1) verdicts)
-unfolding recordCount
-record-next verdicts i h = rw (add-one, drop-cons verdicts i 0 h)
-
--- behind all details stands the control record
-pub record-last : (verdicts : List ℕ) (i : ℕ) → length verdicts ≤ i → recordCount (drop i verdicts) ≡ 1
-unfolding recordCount
-record-last verdicts i h = rw (drop-of-length-le verdicts h)

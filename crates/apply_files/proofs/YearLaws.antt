@@ -7,7 +7,7 @@ use Prim.Native.Nat.{ℕ}
 use native.Mathlib.Omega.{arith}
 use lib.ListN.{length, getD}
 use borrow.Author.Tests.{ne-eqb}
-use Rattle.layout.specs.Fields.{every}
+use Rattle.text.specs.Fields.{every}
 use Rattle.apply_files.specs.Year.{isAsciiDigit, asciiNumberOnto, yearIn}
 
 pub four-bytes : (s : List ℕ) → length s ≡ 4 → s ≡ getD s 0 0 ∷ getD s 1 0 ∷ getD s 2 0 ∷ getD s 3 0 ∷ []

@@ -21,9 +21,9 @@ abbrev pub sizeOf : Input → Option ℕ
 sizeOf Missing = none
 sizeOf (Bytes n) = some n
 
-abbrev pub isMissing : Option ℕ → Bool
-isMissing none = true
-isMissing (some n) = false
+abbrev pub isMissingFile : Option ℕ → Bool
+isMissingFile none = true
+isMissingFile (some n) = false
 
 -- missing or beyond the space
 abbrev pub isBeyond : ℕ → Option ℕ → Bool
@@ -33,4 +33,4 @@ isBeyond space (some n) = ltb space n
 -- `refused 0`, of the four files' sizes
 unfoldable pub refusal0 : (master batch locals year : Option ℕ) → Bool
 refusal0 master batch locals year =
-    isBeyond masterSpace master || (isBeyond batchSpace batch || (isBeyond localsSpace locals || isMissing year))
+    isBeyond masterSpace master || (isBeyond batchSpace batch || (isBeyond localsSpace locals || isMissingFile year))

@@ -1,16 +1,16 @@
 -- Document 01, "The printed line": what apply-batch makes of the bytes of its files. Assumes nothing.
-use Prim.Native.Nat.{ℕ, _+_, _/_, _%_}
-use mathlib.Core.Path.{_≡_}
-use mathlib.Core.List.{List, [], _∷_, _++_}
+use Prim.Native.Nat.{ℕ, _/_, _%_}
+use mathlib.Core.List.{List, _++_}
 use mathlib.Core.Bool.{cond}
 use mathlib.Core.Option.{Option, none, some}
 use lib.Dec.{eqb}
 use lib.ListN.{take, drop}
-use Rattle.batch.specs.Apply.{Call, Outcome, refused, callOf, applyOutcome}
+use Rattle.batch.specs.Apply.{Outcome, refused, applyOutcome}
 use Rattle.apply_files.specs.declared.limits.Input.{Input}
 use Rattle.apply_files.specs.declared.limits.Input.the-variants.{Missing, Bytes}
 use Rattle.apply_files.specs.Limits.{masterSpace, sizeOf, refusal0}
 use Rattle.apply_files.specs.Year.{yearIn}
+use Rattle.batch.specs.Call.{callOf}
 
 -- the bytes of a file, at the front of the buffer that it was read into
 abbrev pub lengthIn : Input → ℕ
@@ -29,12 +29,12 @@ abbrev pub unchanged : ℕ → (master verdicts rejects : List ℕ) → Outcome
 unchanged n master verdicts rejects = record { result = refused n; master = master; verdicts = verdicts; rejects = rejects }
 
 -- the call's outcome on a master.bin of n bytes, with the rest of the buffer as it was
-abbrev pub behind : List ℕ → Outcome → Outcome
-behind rest o = record { result = o .result; master = o .master ++ rest; verdicts = o .verdicts; rejects = o .rejects }
+abbrev pub withRest : List ℕ → Outcome → Outcome
+withRest rest o = record { result = o .result; master = o .master ++ rest; verdicts = o .verdicts; rejects = o .rejects }
 
 unfoldable pub yearOutcome : (master : List ℕ) (n : ℕ) (batch locals : List ℕ) (year : ℕ) (verdicts rejects : List ℕ) → Outcome
 yearOutcome master n batch locals year verdicts rejects =
-    behind (drop (lentLength n) master)
+    withRest (drop (lentLength n) master)
     (applyOutcome (callOf (take (lentLength n) master) (n / 200) batch locals year verdicts rejects))
 
 -- a year.txt that isn't four ASCII digits is refusal 1
@@ -47,8 +47,3 @@ unfoldable pub runOutcome : (m b l y : Input) (master batch locals year verdicts
 runOutcome m b l y master batch locals year verdicts rejects =
     cond (refusal0 (sizeOf m) (sizeOf b) (sizeOf l) (sizeOf y)) (unchanged 0 master verdicts rejects)
     (byYear (yearIn (bytesIn y year)) master (lengthIn m) (bytesIn b batch) (bytesIn l locals) verdicts rejects)
-
--- how many records the reject file has: one for each verdict number that isn't zero, and the control record
-unfoldable pub recordCount : List ℕ → ℕ
-recordCount [] = 1
-recordCount (v ∷ vs) = cond (eqb v 0) 0 1 + recordCount vs

@@ -5,8 +5,8 @@ use mathlib.Core.Bool.{Bool, cond, _&&_}
 use mathlib.Core.Option.{Option, none, some}
 use lib.Dec.{eqb}
 use lib.ListN.{length}
-use Rattle.layout.specs.Characters.{within}
-use Rattle.layout.specs.Fields.{every}
+use Rattle.text.specs.Characters.{within}
+use Rattle.text.specs.Fields.{every}
 use Rattle.apply_files.specs.declared.year.Year.{Year}
 use Rattle.apply_files.specs.declared.year.Year.the-variants.{Of, Wrong}
 

@@ -1,38 +1,26 @@
 // The program apply-batch: four files read, the batch applied, two files and a line written.
 mod files;
 pub mod limits;
-pub mod line;
 pub mod outcome;
-pub mod parts;
 pub mod year;
 
+use apply_output::line;
+use apply_output::new_files::NewFiles;
+use apply_output::new_files::files_to_write;
+use apply_output::parts::first;
 use batch::apply::Applied;
+use limits::Input;
 use outcome::length_of;
 use outcome::outcome_of;
-use outcome::record_count;
-use parts::first;
-use parts::first_blocks;
 
-// Writes the files of a run that was carried out; a refusal writes none. Whether that is done.
-fn write_files(
-    answer: Applied,
-    master: &[u8; 40001],
-    verdicts: &[u64; 100],
-    rejects: &[u8; 24745],
-) -> bool {
-    match answer {
-        Applied::Done {
-            accepted: _,
-            rejected: _,
-            warned: _,
-            neither: _,
-            rows,
-        } => {
-            let rows = first_blocks(master, rows, 200);
-            let records = first_blocks(rejects, record_count(verdicts), 245);
-            files::replace(rows, records)
-        }
-        Applied::Refused(_) => true,
+// Writes the files of a run; a refusal writes none. Whether that is done.
+fn write_files(files: NewFiles, master: &[u8; 40001], rejects: &[u8; 24745]) -> bool {
+    match files {
+        NewFiles::NoFile => true,
+        NewFiles::Both {
+            master: m,
+            rejects: r,
+        } => files::replace(first(master, m), first(rejects, r)),
     }
 }
 
@@ -59,7 +47,39 @@ fn print_line(batch: &[u8], answer: Applied) {
     }
 }
 
-// Reads the four files of the present folder, applies the batch, writes, and prints the line.
+// Applies the batch to the files, each as it was read into its buffer, writes, and prints the line.
+fn run_over(
+    master: &mut [u8; 40001],
+    m: Input,
+    batch: &[u8],
+    b: Input,
+    locals: &[u8],
+    l: Input,
+    year: &[u8],
+    y: Input,
+) {
+    let mut verdicts = [0u64; 100];
+    let mut rejects = [0u8; 24745];
+    let answer = outcome_of(
+        master,
+        m,
+        batch,
+        b,
+        locals,
+        l,
+        year,
+        y,
+        &mut verdicts,
+        &mut rejects,
+    );
+    let bytes = first(batch, length_of(b));
+    let files = files_to_write(answer, bytes, master, &verdicts, &rejects);
+    if write_files(files, master, &rejects) {
+        print_line(bytes, answer);
+    }
+}
+
+// Reads the four files of the present folder and runs over them.
 pub fn run() {
     let mut master = [0u8; 40001];
     let mut batch = [0u8; 24746];
@@ -69,21 +89,5 @@ pub fn run() {
     let b = files::read(b"batch.bin", &mut batch);
     let l = files::read(b"locals.bin", &mut locals);
     let y = files::read(b"year.txt", &mut year);
-    let mut verdicts = [0u64; 100];
-    let mut rejects = [0u8; 24745];
-    let answer = outcome_of(
-        &mut master,
-        m,
-        &batch,
-        b,
-        &locals,
-        l,
-        &year,
-        y,
-        &mut verdicts,
-        &mut rejects,
-    );
-    if write_files(answer, &master, &verdicts, &rejects) {
-        print_line(first(&batch, length_of(b)), answer);
-    }
+    run_over(&mut master, m, &batch, b, &locals, l, &year, y);
 }

@@ -1,6 +1,6 @@
 // The space of apply-batch, and the refusal of files that are missing or beyond it.
 ghost use mathlib.Core.Path.{_≡_};
-ghost use Rattle.apply_files.specs.Limits.{sizeOf, isMissing, isBeyond, refusal0};
+ghost use Rattle.apply_files.specs.Limits.{sizeOf, isMissingFile, isBeyond, refusal0};
 
 // Space for 200 rows, for 100 details and a control record, and for 1,000 codes, in bytes.
 pub const MASTER_SPACE: usize = 40000;
@@ -17,8 +17,8 @@ pub enum Input {
     Bytes(usize),
 }
 
-fn is_missing(file: Input) -> bool
-    ensures { λ r. ⌜ r ≡ isMissing (sizeOf file) ⌝ }
+fn is_missing_file(file: Input) -> bool
+    ensures { λ r. ⌜ r ≡ isMissingFile (sizeOf file) ⌝ }
 {
     match file {
         Input::Missing => true,
@@ -40,6 +40,6 @@ fn is_beyond(space: usize, file: Input) -> bool
 pub fn are_refused(master: Input, batch: Input, locals: Input, year: Input) -> bool
     ensures { λ r. ⌜ r ≡ refusal0 (sizeOf master) (sizeOf batch) (sizeOf locals) (sizeOf year) ⌝ }
 {
-    let long = is_beyond(LOCALS_SPACE, locals) | is_missing(year);
+    let long = is_beyond(LOCALS_SPACE, locals) | is_missing_file(year);
     is_beyond(MASTER_SPACE, master) | (is_beyond(BATCH_SPACE, batch) | long)
 }

@@ -1,18 +1,16 @@
 // The run over the bytes of the four files.
 use crate::limits;
 use crate::limits::Input;
-use crate::parts::first;
 use crate::year;
 use crate::year::Year;
+use apply_output::parts::first;
 use batch::apply;
 use batch::apply::Applied;
 ghost use mathlib.Core.Path.{_≡_};
-ghost use mathlib.Core.Bool.{cond};
-ghost use lib.Dec.{eqb};
 ghost use Prim.Native.Nat.{_≤_};
 ghost use lib.ListN.{length};
 ghost use Rattle.batch.specs.Apply.{outcomeOf};
-ghost use Rattle.apply_files.specs.Run.{lengthIn, lentLength, yearOutcome, byYear, runOutcome, recordCount};
+ghost use Rattle.apply_files.specs.Run.{lengthIn, lentLength, yearOutcome, byYear, runOutcome};
 ghost use Rattle.apply_files.specs.Year.{yearIn};
 
 // How many bytes a file has.
@@ -48,7 +46,8 @@ fn with_year(
     rejects: &mut [u8],
 ) -> Applied
     requires { ⌜ (n ≤ 40000) × (40000 ≤ length (now master)) ⌝ }
-    ensures { λ r. ⌜ outcomeOf r (now (master .exit)) (now (verdicts .exit)) (now (rejects .exit)) ≡ yearOutcome (now (master .entry)) n (now (batch .entry)) (now (locals .entry)) year (now (verdicts .entry)) (now (rejects .entry)) ⌝ }
+    ensures { λ r. ⌜ outcomeOf r (now (master .exit)) (now (verdicts .exit)) (now (rejects .exit))
+        ≡ yearOutcome (now (master .entry)) n (now (batch .entry)) (now (locals .entry)) year (now (verdicts .entry)) (now (rejects .entry)) ⌝ }
 {
     let end = lent_length(n);
     apply::apply(
@@ -73,7 +72,8 @@ fn with_year_text(
     rejects: &mut [u8],
 ) -> Applied
     requires { ⌜ (n ≤ 40000) × (40000 ≤ length (now master)) ⌝ }
-    ensures { λ r. ⌜ outcomeOf r (now (master .exit)) (now (verdicts .exit)) (now (rejects .exit)) ≡ byYear (yearIn (now (year .entry))) (now (master .entry)) n (now (batch .entry)) (now (locals .entry)) (now (verdicts .entry)) (now (rejects .entry)) ⌝ }
+    ensures { λ r. ⌜ outcomeOf r (now (master .exit)) (now (verdicts .exit)) (now (rejects .exit))
+        ≡ byYear (yearIn (now (year .entry))) (now (master .entry)) n (now (batch .entry)) (now (locals .entry)) (now (verdicts .entry)) (now (rejects .entry)) ⌝ }
 {
     match year::year_of(year) {
         Year::Wrong => Applied::Refused(1),
@@ -95,7 +95,8 @@ pub fn outcome_of(
     verdicts: &mut [u64; 100],
     rejects: &mut [u8; 24745],
 ) -> Applied
-    ensures { λ r. ⌜ outcomeOf r (now (master .exit)) (now (verdicts .exit)) (now (rejects .exit)) ≡ runOutcome m b l y (now (master .entry)) (now (batch .entry)) (now (locals .entry)) (now (year .entry)) (now (verdicts .entry)) (now (rejects .entry)) ⌝ }
+    ensures { λ r. ⌜ outcomeOf r (now (master .exit)) (now (verdicts .exit)) (now (rejects .exit))
+        ≡ runOutcome m b l y (now (master .entry)) (now (batch .entry)) (now (locals .entry)) (now (year .entry)) (now (verdicts .entry)) (now (rejects .entry)) ⌝ }
 {
     if limits::are_refused(m, b, l, y) {
         return Applied::Refused(0);
@@ -112,25 +113,4 @@ pub fn outcome_of(
         verdicts,
         rejects,
     )
-}
-
-// 1 for a verdict with a code, else 0.
-fn one_if_code(verdict: u64) -> usize
-    ensures { λ r. ⌜ (r ≡ cond (eqb verdict 0) 0 1) × (r ≤ 1) ⌝ }
-{
-    if verdict == 0 { 0 } else { 1 }
-}
-
-// How many records the reject file has. Verdicts behind those of the details are zero.
-pub fn record_count(verdicts: &[u64]) -> usize
-    requires { ⌜ length (now verdicts) ≤ 100 ⌝ }
-    ensures { λ r. ⌜ r ≡ recordCount (now (verdicts .entry)) ⌝ }
-{
-    let mut count: usize = 1;
-    let mut i = 0;
-    while i < verdicts.len() {
-        count += one_if_code(verdicts[i]);
-        i += 1;
-    }
-    count
 }

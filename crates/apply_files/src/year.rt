@@ -1,9 +1,9 @@
 // The year of year.txt.
-use layout::characters::is_within;
+use text::characters::is_within;
 ghost use mathlib.Core.Path.{_≡_};
 ghost use mathlib.Core.List.{_∷_, []};
 ghost use Prim.Native.Nat.{_-_, _<_};
-ghost use Rattle.layout.specs.Fields.{every};
+ghost use Rattle.text.specs.Fields.{every};
 ghost use Rattle.apply_files.specs.Year.{isAsciiDigit, asciiNumberOnto, yearIn, yearOf};
 
 // What year.txt holds: the number of four ASCII digits, or anything else.

@@ -1,30 +1,6 @@
-// EBCDIC columns from ASCII text, and back.
-use layout::fields;
-
-// The EBCDIC byte of an ASCII capital letter, digit or hyphen, and a space for all else.
-pub fn from_ascii(b: u8) -> u8 {
-    match b {
-        b'A'..=b'I' => 0xC1 + (b - b'A'),
-        b'J'..=b'R' => 0xD1 + (b - b'J'),
-        b'S'..=b'Z' => 0xE2 + (b - b'S'),
-        b'0'..=b'9' => 0xF0 + (b - b'0'),
-        b'-' => 0x60,
-        _ => 0x40,
-    }
-}
-
-// The ASCII byte of an EBCDIC capital letter, digit, hyphen or space, and a dot for all else.
-pub fn to_ascii(b: u8) -> u8 {
-    match b {
-        0xC1..=0xC9 => b'A' + (b - 0xC1),
-        0xD1..=0xD9 => b'J' + (b - 0xD1),
-        0xE2..=0xE9 => b'S' + (b - 0xE2),
-        0xF0..=0xF9 => b'0' + (b - 0xF0),
-        0x60 => b'-',
-        0x40 => b' ',
-        _ => b'.',
-    }
-}
+// EBCDIC columns from ASCII text.
+use text::fields;
+use vector_text::ebcdic::from_ascii;
 
 // Writes a byte i columns behind a column, which count from 1, where there is one.
 fn put_byte(out: &mut [u8], column: usize, i: usize, b: u8) {

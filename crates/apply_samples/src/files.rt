@@ -1,6 +1,7 @@
 // Files by name.
-use crate::show;
-use layout::fields;
+use text::fields;
+use vector_text::print::number;
+use vector_text::print::text;
 
 // Makes a file of some bytes, in the place of the one that was there.
 pub fn save(path: &[u8], bytes: &[u8]) {
@@ -27,21 +28,21 @@ pub fn is_there(path: &[u8]) -> bool {
 
 // Shows a file: none, as it was, or so many bytes.
 pub fn show(path: &[u8], before: &[u8]) {
-    show::text(b"  ");
-    show::text(path);
+    text(b"  ");
+    text(path);
     let fd = os::open_read(path);
     if fd < 0 {
-        show::text(b" none\n");
+        text(b" none\n");
         return;
     }
     let mut buf = io::large_buffer();
     let n = io::read_full(fd, &mut buf);
     libc::close(fd);
     if fields::same(&buf[..n], before) {
-        show::text(b" as it was\n");
+        text(b" as it was\n");
         return;
     }
-    show::text(b" ");
-    show::number(n as u64);
-    show::text(b" bytes\n");
+    text(b" ");
+    number(n as u64);
+    text(b" bytes\n");
 }

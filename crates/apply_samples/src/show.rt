@@ -1,22 +1,16 @@
 // Bytes shown on standard output.
-use crate::columns::to_ascii;
-use libc::STDOUT_FILENO;
-
-pub fn text(s: &[u8]) {
-    io::write_all(STDOUT_FILENO, s);
-}
-
-pub fn number(n: u64) {
-    io::print_decimal(STDOUT_FILENO, n);
-}
+use vector_text::ebcdic::to_ascii;
+use vector_text::print;
+use vector_text::print::number;
+use vector_text::print::text;
 
 fn byte(b: u8) {
-    io::print_hex(STDOUT_FILENO, b as u64, 2);
+    print::byte(b);
     text(b" ");
 }
 
 fn character(b: u8) {
-    let one = [to_ascii(b)];
+    let one = [to_ascii(b, b'.')];
     text(&one);
 }
 

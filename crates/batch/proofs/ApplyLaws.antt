@@ -8,25 +8,29 @@ use lib.Dec.{eqb, leb, ltb, lit≤}
 use lib.ListN.{length, take, drop, length-drop, take-append-drop}
 use lib.Seq.{length-take-le}
 use borrow.Author.Tests.{eq-eqb, ne-eqb, lt-ltb, le-ltb, leb-true, leb-false}
-use Rattle.layout.specs.Blocks.{joined, over, spliced}
-use Rattle.layout.specs.Master.{rowsOf}
-use Rattle.layout.proofs.FieldsLaws.{length-columns, and-left, and-right}
-use Rattle.layout.proofs.BlocksLaws.{length-blocks, holds-over}
-use Rattle.batch.specs.Limits.{maxRows}
+use Rattle.text.specs.Blocks.{joined, over, spliced}
+use Rattle.casemaster.specs.Master.{rowsOf}
+use Rattle.text.proofs.FieldsLaws.{length-columns, and-left, and-right}
+use Rattle.text.proofs.BlocksLaws.{length-blocks, holds-over}
+use Rattle.layout.specs.Limits.{maxRows}
 use Rattle.batch.specs.Rejects.{numbers, rejectRecords}
 use Rattle.batch.specs.Counts.{Counts, countsOf, controlRecord}
 use Rattle.batch.specs.Tally.{countsIn}
-use Rattle.batch.specs.Totals.{detailCount, detailsOf, controlOf, submittingState}
-use Rattle.batch.specs.Apply.{Call, Outcome, IsOutcome, newRows, refusal1, refusal2, refusal9, refusal10, refusal11, orElse, spaceRefusal, batchRefusal, masterRefusal, applyRefusal, resultOf, resultIn, outcomeOf, callRows, callVerdicts, carriedOut, applyOutcome}
+use Rattle.batch.specs.Apply.{Outcome, IsOutcome, resultOf, resultIn, outcomeOf, callRows, callVerdicts, carriedOut, applyOutcome}
 use Rattle.batch.specs.Progress.{Worked}
 use Rattle.batch.specs.declared.counts.Tally.{Tally}
 use Rattle.batch.specs.declared.apply.Applied.{Applied}
 use Rattle.batch.specs.declared.apply.Applied.the-variants.{Refused}
 use Rattle.batch.proofs.BatchLaws.{batch-behind}
-use Rattle.batch.proofs.RefusalsLaws.{master-passed, master-refused}
+use Rattle.casemaster.proofs.RefusalsLaws.{master-passed, master-refused}
 use Rattle.batch.proofs.CountsLaws.{length-control}
-use Rattle.batch.proofs.HoldsLaws.{holds-last}
+use Rattle.text.proofs.HoldsLaws.{holds-last}
 use Rattle.batch.proofs.KnownLaws.{Known}
+use Rattle.casemaster.specs.Refusals.{orElse, masterRefusal}
+use Rattle.turns.specs.Adds.{addsWithoutRow}
+use Rattle.layout.specs.Batch.{detailCount, detailsOf, controlOf, submittingState}
+use Rattle.batch.specs.Call.{Call}
+use Rattle.batch.specs.Refusals.{refusal1, refusal2, refusal9, refusal10, refusal11, spaceRefusal, batchRefusal, applyRefusal}
 
 -- ---- the space
 
@@ -43,7 +47,7 @@ not-both false b = refl
 
 module _ (m : List ℕ) (n : ℕ) (batch : List ℕ) where
   abbrev rows : ℕ
-  rows = n + newRows (rowsOf n m) (detailsOf batch)
+  rows = n + addsWithoutRow (rowsOf n m) (detailsOf batch)
 
   -- refusal 9 does not hold where so many rows, or more, have a place
   pub has-room : (r : ℕ) → rows ≤ r → (leb r (length m / 200) && leb r maxRows) ≡ true → false ≡ refusal9 m n batch

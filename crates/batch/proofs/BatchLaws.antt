@@ -7,14 +7,16 @@ use native.Mathlib.Omega.{arith}
 use lib.Dec.{eqb, ltb}
 use lib.ListN.{length, take, drop}
 use borrow.Author.Tests.{ltb-false, eqb-true, eqb-false, not-false}
-use Rattle.layout.specs.Blocks.{blocks}
-use Rattle.onecase.proofs.BoolLaws.{or-left, or-right}
-use Rattle.batch.specs.Limits.{maxRecords}
-use Rattle.batch.specs.Totals.{detailCount, detailsOf, controlOf, isControl, areCountsRight, areAmountsRight}
+use Rattle.text.specs.Blocks.{blocks}
+use Rattle.text.proofs.BoolLaws.{or-left, or-right}
+use Rattle.layout.specs.Limits.{maxRecords}
+use Rattle.batch.specs.Totals.{isControl, areCountsRight, areAmountsRight}
 use Rattle.batch.specs.TotalsParts.{AreTotals, countsAgree, amountsAgree}
-use Rattle.batch.specs.Apply.{refusal5, refusal6, refusal7, refusal8, batchRefusal, orElse}
 use Rattle.batch.specs.declared.totals.Totals.{Totals}
-use Rattle.batch.proofs.LimitsLaws.{few-records}
+use Rattle.layout.proofs.LimitsLaws.{few-records}
+use Rattle.casemaster.specs.Refusals.{orElse}
+use Rattle.layout.specs.Batch.{detailCount, detailsOf, controlOf}
+use Rattle.batch.specs.Refusals.{refusal5, refusal6, refusal7, refusal8, batchRefusal}
 
 -- one or more records and nothing behind them, not too many
 pub record IsWhole (batch : List ℕ) : Type 0 where
@@ -39,8 +41,8 @@ whole-batch batch f =
     }
 
 -- so few that their totals can be added up
-pub few-details : (batch : List ℕ) → IsWhole batch → detailCount batch ≤ 2 ^ 32
-few-details batch w = omega (arith, w .few, few-records)
+pub summed-details : (batch : List ℕ) → IsWhole batch → detailCount batch ≤ 2 ^ 32
+summed-details batch w = omega (arith, w .few, few-records)
 
 -- ---- the number answered
 

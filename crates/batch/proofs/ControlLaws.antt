@@ -4,11 +4,11 @@ use mathlib.Core.Bool.{true}
 use mathlib.Core.List.{List}
 use Prim.Native.Nat.{ℕ, _+_, _-_, _≤_}
 use native.Mathlib.Omega.{arith}
-use Rattle.layout.specs.Fields.{columns, isBlank, allDigits, sameBytes}
+use Rattle.text.specs.Fields.{columns, isBlank, allDigits, sameBytes}
 use Rattle.layout.specs.States.{isState}
 use Rattle.layout.specs.ChartA2.{controlState, control, controlFiller}
-use Rattle.layout.proofs.FieldsLaws.{and-left, and-right}
-use Rattle.onecase.proofs.ColumnsLaws.{columns-of-columns}
+use Rattle.text.proofs.FieldsLaws.{and-left, and-right}
+use Rattle.text.proofs.ColumnsLaws.{columns-of-columns}
 use Rattle.onecase.proofs.DigitsLaws.{digits-part}
 use Rattle.batch.specs.Counts.{CTL}
 use Rattle.batch.specs.Totals.{isControl}

@@ -6,11 +6,11 @@ use native.Mathlib.Nat.{add-assoc, zero-add, add-zero}
 use native.Mathlib.Omega.{arith}
 use lib.Dec.{lit≤}
 use lib.ListN.{length}
-use Rattle.layout.specs.Fields.{digitField, spaces, placed}
+use Rattle.text.specs.Fields.{digitField, spaces, placed}
 use Rattle.onecase.specs.Verdict.{Judgement, isRejected, isWarned}
 use Rattle.batch.specs.Counts.{Counts, CTL, howMany, countsOf, controlRecord}
 use Rattle.batch.specs.Tally.{plus, oneDetail}
-use Rattle.batch.proofs.ColumnsWritten.{Written, written-none, written-field, written-digits, written-kept}
+use Rattle.text.proofs.ColumnsWritten.{Written, written-none, written-field, written-digits, written-kept}
 
 -- ---- counts added up
 
@@ -58,8 +58,8 @@ plus-none a = simp add-zero
 pub one-fits : (x n y : ℕ) → x ≤ n → n < 18446744073709551615 → y ≤ 1 → x + y < 2 ^ 64
 one-fits x n y h l o = omega arith
 
-pub one-most : (x n y : ℕ) → x ≤ n → y ≤ 1 → x + y ≤ n + 1
-one-most x n y h o = omega arith
+pub count-most : (x n y : ℕ) → x ≤ n → y ≤ 1 → x + y ≤ n + 1
+count-most x n y h o = omega arith
 
 -- ---- the control record
 

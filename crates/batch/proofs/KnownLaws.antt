@@ -1,66 +1,96 @@
--- What is known of a call that no refusal stops. Assumes nothing.
-use Prim.Native.Nat.{ℕ, zero, suc, _+_, _-_, _*_, _/_, _%_, _^_, _≤_}
-use mathlib.Core.Path.{_≡_, refl}
-use mathlib.Core.Bool.{Bool, true, false, not, _||_}
-use mathlib.Core.List.{List}
-use native.Mathlib.Nat.{suc-ne-zero}
+-- What is known of a call that no refusal stops, each refusal read once, and that a batch which is carried out is such a call.
+-- Assumes nothing.
+use Prim.Native.Nat.{ℕ, _+_, _*_, _/_, _%_, _^_, _≤_}
+use mathlib.Core.Path.{_≡_, refl, sym, ap, _∙_}
+use mathlib.Core.Bool.{Bool, true, false, not, cond, _||_, false≢true}
 use native.Mathlib.Omega.{arith}
 use lib.Dec.{eqb, ltb}
 use lib.ListN.{length}
-use borrow.Author.Tests.{ltb-false, eqb-true, eqb-false, not-false}
-use Rattle.layout.specs.Master.{rowsOf, areSoundRows}
+use borrow.Author.Tests.{ltb-false, eqb-true, not-false}
+use Rattle.casemaster.specs.Master.{rowsOf, areSoundRows}
 use Rattle.layout.specs.Locals.{isLocalList}
-use Rattle.onecase.proofs.BoolLaws.{or-left, or-right}
-use Rattle.batch.specs.Limits.{maxRecords}
-use Rattle.batch.specs.Totals.{detailCount, detailsOf}
-use Rattle.batch.specs.Apply.{Call, newRows, refusal2, refusal3, refusal4, refusal5, refusal9, refusal10, refusal11, orElse, batchRefusal}
-use Rattle.batch.proofs.LimitsLaws.{few-details}
-use Rattle.batch.proofs.PassedLaws.{Passed, batch-fits}
+use Rattle.text.proofs.BoolLaws.{or-left, or-right}
+use Rattle.layout.specs.Limits.{maxRows, maxRecords}
+use Rattle.layout.proofs.LimitsLaws.{few-details}
+use Rattle.batch.proofs.BatchLaws.{whole-batch}
+use Rattle.batch.proofs.PassedLaws.{Passed, passed}
+use Rattle.casemaster.specs.Refusals.{refusal3, refusal4}
+use Rattle.turns.specs.Adds.{addsWithoutRow}
+use Rattle.layout.specs.Batch.{detailCount, detailsOf, controlOf}
+use Rattle.batch.specs.Totals.{isControl, areCountsRight, areAmountsRight}
+use Rattle.batch.specs.Apply.{Outcome, leftAlone, carriedOut, applyOutcome, IsOutcome, isCarriedOut}
+use Rattle.batch.specs.Call.{Call}
+use Rattle.batch.specs.Refusals.{refusal1, refusal2, refusal6, refusal7, refusal8, refusal9, refusal10, refusal11, applyRefusal}
 
-some-records : (l : ℕ) → (l ≡ 0 → ⊥) → l % 245 ≡ 0 → (l / 245 - 1) * 245 + 245 ≤ l
-some-records zero e m = absurd (e refl)
-some-records (suc l) e m = omega arith
-
--- a batch that passes 5 has a control record
-pub whole-records : (batch : List ℕ) → batchRefusal batch 0 ≡ 0 → detailCount batch * 245 + 245 ≤ length batch
-unfolding batchRefusal refusal5
-whole-records batch z =
-    let n5 = go (eqb (length batch) 0 || not (eqb (length batch % 245) 0) || ltb maxRecords (length batch / 245)) _ z in
-    let b5 = or-left (eqb (length batch) 0 || not (eqb (length batch % 245) 0)) _ n5 in
-    some-records (length batch) (eqb-false (length batch) 0 (or-left (eqb (length batch) 0) _ b5)) (eqb-true (length batch % 245) 0 (not-false _ (or-right (eqb (length batch) 0) _ b5)))
-  where
-    go : (b : Bool) (behind : ℕ) → orElse b 5 behind ≡ 0 → b ≡ false
-    go true behind e = absurd (suc-ne-zero 4 e)
-    go false behind e = refl
-
+-- all that follows from no refusal
 pub record Known (c : Call) : Type 0 where
+  -- 1 and 2
+  pub year-from : 1900 ≤ c .year
+  pub year-to : c .year ≤ 9999
   pub list : isLocalList (c .locals) ≡ true
+  -- 3 and 4
+  pub master-whole : length (c .master) % 200 ≡ 0
   pub rows-in : c .rows * 200 ≤ length (c .master)
+  pub rows-limit : c .rows ≤ maxRows
   pub sound : areSoundRows (rowsOf (c .rows) (c .master)) ≡ true
+  -- 5 to 8
+  pub batch-whole : length (c .batch) ≡ (detailCount (c .batch) + 1) * 245
   pub batch-in : detailCount (c .batch) * 245 + 245 ≤ length (c .batch)
-  pub room : c .rows + newRows (rowsOf (c .rows) (c .master)) (detailsOf (c .batch)) ≤ length (c .master) / 200
+  pub batch-limit : detailCount (c .batch) + 1 ≤ maxRecords
+  pub few : detailCount (c .batch) ≤ 2 ^ 24
+  pub control : isControl (controlOf (c .batch)) ≡ true
+  pub counts : areCountsRight (controlOf (c .batch)) (detailsOf (c .batch)) ≡ true
+  pub amounts : areAmountsRight (controlOf (c .batch)) (detailsOf (c .batch)) ≡ true
+  -- 9 to 11
+  pub room : c .rows + addsWithoutRow (rowsOf (c .rows) (c .master)) (detailsOf (c .batch)) ≤ length (c .master) / 200
+  pub room-limit : c .rows + addsWithoutRow (rowsOf (c .rows) (c .master)) (detailsOf (c .batch)) ≤ maxRows
   pub slots : detailCount (c .batch) ≤ length (c .verdicts)
   pub space : (detailCount (c .batch) + 1) * 245 ≤ length (c .rejects)
-  pub few : detailCount (c .batch) ≤ 2 ^ 24
 
 pub known : (c : Call) → Passed c → Known c
-unfolding refusal2 refusal3 refusal4 refusal5 refusal9 refusal10 refusal11
+unfolding refusal1 refusal2 refusal3 refusal4 refusal6 refusal7 refusal8 refusal9 refusal10 refusal11
 known c p =
-    let b3 = or-left (not (eqb (length (c .master) % 200) 0) || ltb (length (c .master) / 200) (c .rows)) _ (p .no3) in
-    let r3 = ltb-false (length (c .master) / 200) (c .rows) (or-right (not (eqb (length (c .master) % 200) 0)) _ b3) in
-    let b5 = or-left (eqb (length (c .batch)) 0 || not (eqb (length (c .batch) % 245) 0)) _ (p .no5) in
-    let e5 = eqb-false (length (c .batch)) 0 (or-left (eqb (length (c .batch)) 0) _ b5) in
-    let m5 = eqb-true (length (c .batch) % 245) 0 (not-false _ (or-right (eqb (length (c .batch)) 0) _ b5)) in
-    let r9 = ltb-false (length (c .master) / 200) _ (or-left (ltb (length (c .master) / 200) (c .rows + newRows (rowsOf (c .rows) (c .master)) (detailsOf (c .batch)))) _ (p .no9)) in
-    let r10 = ltb-false (length (c .verdicts)) (detailCount (c .batch)) (p .no10) in
-    let r11 = ltb-false (length (c .rejects)) (245 * (detailCount (c .batch) + 1)) (p .no11) in
+    let n : ℕ = length (c .master) in
+    let m : ℕ = c .rows + addsWithoutRow (rowsOf (c .rows) (c .master)) (detailsOf (c .batch)) in
+    let three = or-left (not (eqb (n % 200) 0) || ltb (n / 200) (c .rows)) (ltb maxRows (c .rows)) (p .no3) in
+    let inside = ltb-false (n / 200) (c .rows) (or-right (not (eqb (n % 200) 0)) (ltb (n / 200) (c .rows)) three) in
+    let five = whole-batch (c .batch) (p .no5) in
+    let eleven = ltb-false (length (c .rejects)) (245 * (detailCount (c .batch) + 1)) (p .no11) in
     record {
-      list = not-false _ (p .no2);
-      rows-in = omega (arith, r3);
-      sound = not-false _ (p .no4);
-      batch-in = some-records (length (c .batch)) e5 m5;
-      room = r9;
-      slots = r10;
-      space = omega (arith, r11);
-      few = omega (arith, batch-fits c p .limit, few-details);
+      year-from = ltb-false (c .year) 1900 (or-left (ltb (c .year) 1900) (ltb 9999 (c .year)) (p .no1));
+      year-to = ltb-false 9999 (c .year) (or-right (ltb (c .year) 1900) (ltb 9999 (c .year)) (p .no1));
+      list = not-false (isLocalList (c .locals)) (p .no2);
+      master-whole = eqb-true (n % 200) 0 (not-false (eqb (n % 200) 0) (or-left (not (eqb (n % 200) 0)) (ltb (n / 200) (c .rows)) three));
+      rows-in = omega (arith, inside);
+      rows-limit = ltb-false maxRows (c .rows) (or-right (not (eqb (n % 200) 0) || ltb (n / 200) (c .rows)) (ltb maxRows (c .rows)) (p .no3));
+      sound = not-false (areSoundRows (rowsOf (c .rows) (c .master))) (p .no4);
+      batch-whole = omega (arith, five .one, five .whole);
+      batch-in = omega (arith, five .one, five .whole);
+      batch-limit = omega (arith, five .one, five .few);
+      few = omega (arith, five .one, five .few, few-details);
+      control = not-false (isControl (controlOf (c .batch))) (p .no6);
+      counts = not-false (areCountsRight (controlOf (c .batch)) (detailsOf (c .batch))) (p .no7);
+      amounts = not-false (areAmountsRight (controlOf (c .batch)) (detailsOf (c .batch))) (p .no8);
+      room = ltb-false (n / 200) m (or-left (ltb (n / 200) m) (ltb maxRows m) (p .no9));
+      room-limit = ltb-false maxRows m (or-right (ltb (n / 200) m) (ltb maxRows m) (p .no9));
+      slots = ltb-false (length (c .verdicts)) (detailCount (c .batch)) (p .no10);
+      space = omega (arith, eleven);
     }
+
+-- ---- a batch that is carried out
+
+module _ (c : Call) (o : Outcome) (i : IsOutcome c o) (t : isCarriedOut (o .result) ≡ true) where
+  none-holds : applyRefusal c ≡ 0
+  unfolding applyOutcome
+  none-holds = go (eqb (applyRefusal c) 0) refl (i .is)
+    where
+      go : (b : Bool) → eqb (applyRefusal c) 0 ≡ b → o ≡ cond b (carriedOut c) (leftAlone (applyRefusal c) c) → applyRefusal c ≡ 0
+      go true e h = eqb-true (applyRefusal c) 0 e
+      go false e h = absurd (false≢true (sym (ap (λ (q : Outcome). isCarriedOut (q .result)) h) ∙ t))
+
+  pub carried-known : Known c
+  carried-known = known c (passed c none-holds)
+
+  pub carried-is : o ≡ carriedOut c
+  unfolding applyOutcome
+  carried-is = i .is ∙ rw none-holds

@@ -5,16 +5,16 @@ use mathlib.Core.List.{List, [], _∷_, _++_, append-nil}
 use native.Mathlib.Omega.{arith}
 use lib.Dec.{lit≤}
 use lib.ListN.{length, drop-of-length-le}
-use Rattle.layout.specs.Blocks.{spliced}
-use Rattle.layout.specs.Fields.{spaces, placed}
-use Rattle.layout.specs.Codes.{numberOfCodes, codesFrom, codesOfNumber, sixLowest}
-use Rattle.layout.proofs.CodesLaws.{length-text, lowest-codes, number-codes}
+use Rattle.text.specs.Blocks.{spliced}
+use Rattle.text.specs.Fields.{spaces, placed}
+use Rattle.layout.specs.Codes.{codesFrom, codesOfNumber, sixLowest}
+use Rattle.layout.proofs.CodesLaws.{length-text, lowest-codes}
 use Rattle.onecase.specs.Verdict.{Judgement, meaning}
 use Rattle.onecase.specs.declared.verdict.Verdict.{Verdict}
 use Rattle.onecase.specs.declared.verdict.Verdict.the-variants.{Accepted, Rejected, RejectedWithName}
-use Rattle.batch.specs.Rejects.{numberOf, fourColumns, rejectRecord, ifAny}
+use Rattle.batch.specs.Rejects.{fourColumns, rejectRecord, ifAny}
 use Rattle.batch.specs.Answers.{setIn}
-use Rattle.batch.proofs.ColumnsWritten.{Written, written-none, written-field, written-kept}
+use Rattle.text.proofs.ColumnsWritten.{Written, written-none, written-field, written-kept}
 
 -- ---- what an answer stands for
 
@@ -22,10 +22,6 @@ pub codes-in : (v : Verdict) → meaning v .codes ≡ codesOfNumber (setIn v)
 codes-in (Accepted set) = refl
 codes-in (Rejected set) = refl
 codes-in (RejectedWithName set name) = refl
-
--- the number of its codes is its set
-pub number-in : (v : Verdict) → setIn v < 2 ^ 64 → numberOf (meaning v) ≡ setIn v
-number-in v h = ap numberOfCodes (codes-in v) ∙ number-codes (setIn v) h
 
 pub four-in : (v : Verdict) → length (fourColumns (meaning v .name)) ≡ 4
 four-in (Accepted set) = refl
@@ -47,6 +43,11 @@ pub spliced-all : (bytes s : List ℕ) → length s ≡ length bytes → spliced
 unfolding spliced
 spliced-all bytes s e = ap (λ (z : List ℕ). s ++ z) (drop-of-length-le bytes {i = 0 + length s} (omega (arith, e))) ∙ append-nil s
 
+-- six codes of two digits
+pub length-six : (codes : List ℕ) → length (sixLowest codes) ≡ 12
+unfolding sixLowest
+length-six codes = length-text 6 codes
+
 module _ (detail : List ℕ) (verdict : Judgement) (wide : length detail ≡ 245) (four : length (fourColumns (verdict .name)) ≡ 4) where
   -- its fields placed one after the other in the detail
   pub reject-written : (text name a b c : List ℕ)
@@ -56,10 +57,10 @@ module _ (detail : List ℕ) (verdict : Judgement) (wide : length detail ≡ 245
       → b ≡ placed 240 243 name a
       → c ≡ placed 244 244 (spaces 1) b
       → Written 245 (rejectRecord detail verdict) detail c
-  unfolding rejectRecord sixLowest
+  unfolding rejectRecord
   reject-written text name a b c et en ea eb ec =
       let w1 = written-kept (written-none detail) 1 227 refl (lit≤ tt) (omega arith) in
-      let w2 = written-field w1 228 239 (sixLowest (verdict .codes)) (rw et at ea) refl (omega (arith, length-text 6 (verdict .codes))) (omega arith) in
+      let w2 = written-field w1 228 239 (sixLowest (verdict .codes)) (rw et at ea) refl (omega (arith, length-six (verdict .codes))) (omega arith) in
       let w3 = written-field w2 240 243 (fourColumns (verdict .name)) (rw en at eb) refl (omega arith) (omega arith) in
       let w4 = written-field w3 244 244 (spaces 1) ec refl refl (omega arith) in
       written-kept w4 245 245 refl (lit≤ tt) (omega arith)

@@ -6,16 +6,16 @@ use Prim.Native.Nat.{ℕ, _+_, _*_, _^_, _≤_, _<_}
 use native.Mathlib.Omega.{arith}
 use lib.Dec.{eqb}
 use lib.ListN.{take, drop}
-use Rattle.layout.specs.Characters.{A, N}
-use Rattle.layout.specs.Fields.{columns, areDigits, number}
-use Rattle.layout.specs.Blocks.{blocks}
-use Rattle.layout.proofs.FieldsLaws.{and-right, digits-width, digits-all}
-use Rattle.layout.proofs.NumberLaws.{number-below}
-use Rattle.onecase.specs.Record.{caseTypeOf}
+use Rattle.text.specs.Characters.{A, N}
+use Rattle.text.specs.Fields.{columns, areDigits, number}
+use Rattle.text.specs.Blocks.{blocks}
+use Rattle.text.proofs.FieldsLaws.{and-right, digits-width, digits-all}
+use Rattle.text.proofs.NumberLaws.{number-below}
+use Rattle.layout.specs.Record.{caseTypeOf}
 use Rattle.batch.specs.Totals.{countOf, amountIn, amountOf}
-use Rattle.batch.specs.TotalsParts.{countIn, hasAmount, HasRoom, IsAdded, AreTotals}
+use Rattle.batch.specs.TotalsParts.{countIn, hasAmount, FitsOneMore, IsAdded, AreTotals}
 use Rattle.batch.specs.declared.totals.Totals.{Totals}
-use Rattle.batch.proofs.SumLaws.{IsSum, sum-next, sum-end, sum-below}
+use Rattle.text.proofs.SumLaws.{IsSum, sum-next, sum-end, sum-below}
 
 -- ---- counts and amounts
 
@@ -58,7 +58,7 @@ pub record AreSoFar (n : ℕ) (batch : List ℕ) (i : ℕ) (t : Totals) : Type 0
   pub nonTanfAmount : t .«non_tanf_amount» + amountOf N (drop i (blocks 245 n batch)) ≡ amountOf N (blocks 245 n batch)
 
 module _ (n : ℕ) (batch : List ℕ) (i : ℕ) (t : Totals) (s : AreSoFar n batch i t) where
-  pub totals-room : n ≤ 2 ^ 32 → HasRoom t
+  pub totals-room : n ≤ 2 ^ 32 → FitsOneMore t
   totals-room h =
       record {
         tanfCount = omega (arith, sum-below (count-sum A) 245 n batch 1 i _ (count-small A) (s .tanfCount));

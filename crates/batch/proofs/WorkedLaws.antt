@@ -3,28 +3,29 @@ use Prim.Native.Nat.{ℕ, _+_, _-_, _*_, _/_, _≤_, _<_}
 use mathlib.Core.Path.{_≡_, ap, _∙_, subst}
 use mathlib.Core.List.{List}
 use native.Mathlib.Omega.{arith}
-use lib.ListN.{length, take, drop, getD}
-use Rattle.layout.specs.Blocks.{blocks}
-use Rattle.layout.specs.Master.{rowsOf}
-use Rattle.layout.specs.Search.{Raised}
-use Rattle.layout.proofs.BlocksLaws.{length-blocks}
+use lib.ListN.{length, drop, getD}
+use Rattle.text.specs.Blocks.{blocks}
+use Rattle.casemaster.specs.Master.{rowsOf}
+use Rattle.casemaster.specs.Search.{Raised}
+use Rattle.text.proofs.BlocksLaws.{length-blocks}
 use Rattle.keyorder.specs.Order.{indexesIn, Ordered}
-use Rattle.keyorder.specs.Packed.{Packed}
 use Rattle.keyorder.specs.KeyWork.{Usable, JudgedRun}
-use Rattle.batch.specs.Turns.{verdictsOn}
-use Rattle.batch.specs.Totals.{detailCount, detailsOf, submittingState}
+use Rattle.turns.specs.Turns.{verdictsOn}
 use Rattle.batch.specs.Tally.{AtMost}
-use Rattle.batch.specs.Apply.{Call, newRows}
 use Rattle.batch.specs.Progress.{Worked}
-use Rattle.batch.specs.Walk.{keysAt, distinct, newKeys}
-use Rattle.batch.specs.Walking.{rowsFrom, OrderReady, WalkReady, Walked}
-use Rattle.batch.specs.Written.{noJudgement, HoldsVerdicts, Written}
+use Rattle.keywalk.specs.Walking.{rowsFrom, OrderReady, fixedOf, startOf, newOwnKeys, HasVerdict, WalkReady, Walked, HoldsVerdicts}
+use Rattle.batch.specs.Written.{VerdictsWritten}
 use Rattle.batch.specs.declared.counts.Tally.{Tally}
-use Rattle.batch.proofs.WidthLaws.{blocks-wide}
-use Rattle.batch.proofs.TurnsLaws.{Fit}
+use Rattle.text.proofs.WidthLaws.{blocks-wide}
 use Rattle.batch.proofs.KnownLaws.{Known}
-use Rattle.batch.proofs.KeysLaws.{usable}
-use Rattle.batch.proofs.WorkLaws.{order-ready, new-few, all-marked, numbers-behind}
+use Rattle.keywalk.proofs.KeysLaws.{SameIndexes, usable}
+use Rattle.keywalk.proofs.WorkLaws.{order-ready, new-few, all-marked, numbers-behind}
+use Rattle.turns.specs.Adds.{addsWithoutRow}
+use Rattle.onecase.specs.Verdict.{noJudgement}
+use Rattle.layout.specs.Batch.{detailCount, detailsOf, submittingState}
+use Rattle.casemaster.proofs.RowsLaws.{Fit}
+use Rattle.batch.specs.Call.{Call}
+use Rattle.judging.specs.Setting.{settingOf}
 
 module _ (c : Call) (k : Known c) (st : List ℕ) (se : st ≡ submittingState (c .batch)) where
   abbrev d : ℕ
@@ -49,14 +50,14 @@ module _ (c : Call) (k : Known c) (st : List ℕ) (se : st ≡ submittingState (
     pub ordered : OrderReady st (c .batch) d own v₁
     ordered = order-ready st (c .batch) d (c .verdicts) v₁ own records-in (k .slots) x
 
-    module _ (new : ℕ) (ni : new ≡ newKeys st (c .year) (c .locals) details (distinct (keysAt details (take own (indexesIn d v₁)))) rows) where
+    module _ (new : ℕ) (ni : new ≡ newOwnKeys (fixedOf st (c .year) (c .locals) (c .batch) own (c .rows)) v₁ rows) where
       -- the rows that there will be have room
       pub rows-room : (c .rows + new) * 200 ≤ length (c .master)
       unfolding detailsOf
       rows-room =
-          let few : newKeys st (c .year) (c .locals) details (distinct (keysAt details (take own (indexesIn d v₁)))) rows ≤ newRows rows details =
-          new-few st (c .year) (c .locals) (c .batch) d own rows v₁ ordered fit (k .list) in
-          let room : c .rows + newRows rows details ≤ length (c .master) / 200 = k .room in
+          let few : newOwnKeys (fixedOf st (c .year) (c .locals) (c .batch) own (c .rows)) v₁ rows ≤ addsWithoutRow rows details =
+          new-few (settingOf st (c .year) (c .locals)) ordered fit (k .list) in
+          let room : c .rows + addsWithoutRow rows details ≤ length (c .master) / 200 = k .room in
           omega (arith, ni, few, room)
 
       module _ (m₁ : List ℕ) (raised : Raised (c .master) (c .rows) new m₁) where
@@ -65,7 +66,7 @@ module _ (c : Call) (k : Known c) (st : List ℕ) (se : st ≡ submittingState (
             let e : c .rows + new - new ≡ c .rows = omega arith in
             ap (λ (z : ℕ). rowsOf z (drop (new * 200) m₁)) e ∙ raised .rows-are
 
-        pub walk-ready : WalkReady st (c .year) (c .locals) (c .batch) d own (c .rows + new) new m₁ v₁
+        pub walk-ready : WalkReady (fixedOf st (c .year) (c .locals) (c .batch) own (c .rows + new)) (startOf new m₁ v₁)
         walk-ready =
             record {
               listed = k .list;
@@ -77,27 +78,29 @@ module _ (c : Call) (k : Known c) (st : List ℕ) (se : st ≡ submittingState (
             }
 
         module _ (m₂ v₂ : List ℕ) (len : length v₂ ≡ length v₁)
-            (walked : Walked st (c .year) (c .locals) (c .batch) d own (c .rows + new) new m₁ v₁ m₂ v₂) where
-          pub all-usable : Usable (c .batch) v₂ d
-          all-usable = usable st (c .batch) d own v₁ ordered v₂ len (walked .indexes) d (omega arith)
+            (walked : Walked (fixedOf st (c .year) (c .locals) (c .batch) own (c .rows + new)) (startOf new m₁ v₁) m₂ v₂) where
+          same : SameIndexes v₁ v₂
+          same = record { len = len; indexes = walked .indexes }
 
-          module _ (v₃ : List ℕ) (judged : JudgedRun st (c .year) (c .locals) (c .batch) own (d - own) v₂ v₃) where
+          pub all-usable : Usable (c .batch) v₂ d
+          all-usable = usable ordered same d (omega arith)
+
+          module _ (v₃ : List ℕ) (judged : JudgedRun (settingOf st (c .year) (c .locals)) (c .batch) own (d - own) v₂ v₃) where
             verdicts-walked : (q : ℕ) → q < own
-                → (index : ℕ)
-                × Packed (getD v₂ (getD (indexesIn d v₁) q 0) 0) index
-                (getD (verdictsOn st (c .year) (c .locals) rows details) (getD (indexesIn d v₁) q 0) noJudgement)
+                → HasVerdict v₂ (getD (indexesIn d v₁) q 0)
+                (getD (verdictsOn (settingOf st (c .year) (c .locals)) rows details) (getD (indexesIn d v₁) q 0) noJudgement)
             verdicts-walked q l = rw (← rows-are) (walked .verdicts q l)
 
-            pub marked : HoldsVerdicts d v₃ (verdictsOn st (c .year) (c .locals) rows details)
-            marked = all-marked st (c .year) (c .locals) (c .batch) d own rows v₁ ordered fit (k .list) v₂ v₃ len (walked .indexes) verdicts-walked judged
+            pub marked : HoldsVerdicts d v₃ (verdictsOn (settingOf st (c .year) (c .locals)) rows details)
+            marked = all-marked (settingOf st (c .year) (c .locals)) ordered fit (k .list) v₃ same verdicts-walked judged
 
             kept : drop d v₃ ≡ drop d (c .verdicts)
             kept =
-                numbers-behind st (c .year) (c .locals) (c .batch) d own rows v₁ ordered fit (k .list) v₂ v₃ len (walked .indexes) verdicts-walked judged
+                numbers-behind (settingOf st (c .year) (c .locals)) ordered fit (k .list) v₃ same verdicts-walked judged
                 ∙ walked .numbers-kept ∙ x .kept
 
             pub all-worked : (v₄ rj : List ℕ) (n : ℕ) (rejects : ℕ) (t : Tally) → length m₂ ≡ length (c .master) → n ≡ c .rows + new
-                → Written details (verdictsOn st (c .year) (c .locals) rows details) v₃ (c .rejects) v₄ rj rejects t
+                → VerdictsWritten details (verdictsOn (settingOf st (c .year) (c .locals)) rows details) v₃ (c .rejects) v₄ rj rejects t
                 → Worked c m₂ n v₄ rj rejects t
             unfolding detailsOf
             all-worked v₄ rj n rejects t lm ne w =

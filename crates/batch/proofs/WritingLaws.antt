@@ -1,8 +1,8 @@
 -- The loop that writes verdicts out of the numbers that hold them: what stands in the buffers and what is left to write make the whole.
 -- From the start, over one detail, to the end. Assumes nothing.
-use Prim.Native.Nat.{ℕ, _+_, _-_, _*_, _^_, _≤_, _<_}
+use Prim.Native.Nat.{ℕ, _+_, _*_, _^_, _≤_, _<_}
 use mathlib.Core.Path.{_≡_, refl, sym, ap, _∙_, subst}
-use mathlib.Core.Bool.{Bool, true, false, not, _&&_}
+use mathlib.Core.Bool.{Bool, not, _&&_, Bool·not-not}
 use mathlib.Core.List.{List, [], _∷_, _++_, append-assoc, append-nil}
 use native.Mathlib.Nat.{add-zero}
 use native.Mathlib.Numerals.{add-one}
@@ -11,26 +11,26 @@ use lib.Dec.{eqb}
 use lib.ListN.{length, take, drop, getD, set, drop-of-length-le}
 use lib.Seq.{take-suc-set, drop-set-lt, drop-cons, getD-drop}
 use borrow.Author.Tests.{ne-eqb}
-use Rattle.layout.specs.Blocks.{blocks}
-use Rattle.layout.specs.Codes.{numberOfCodes, codesOfNumber}
-use Rattle.layout.proofs.MovedLaws.{kept-further}
-use Rattle.layout.proofs.BlocksLaws.{length-blocks, blocks-next}
+use Rattle.text.specs.Blocks.{blocks}
+use Rattle.layout.specs.Codes.{numberOfCodes}
+use Rattle.text.proofs.BlocksLaws.{length-blocks, blocks-next, kept-further}
 use Rattle.layout.proofs.CodesLaws.{number-codes}
-use Rattle.onecase.specs.Verdict.{Judgement, judgement, isAccepted, isEmpty, isRejected, isWarned, meaning, saysAccepted}
+use Rattle.onecase.specs.Verdict.{Judgement, isEmpty, isRejected, isWarned, meaning, saysAccepted, noJudgement}
 use Rattle.onecase.specs.declared.verdict.Verdict.{Verdict}
-use Rattle.onecase.specs.declared.verdict.Verdict.the-variants.{Accepted, Rejected, RejectedWithName}
-use Rattle.onecase.proofs.CodeSums.{number-none}
-use Rattle.onecase.proofs.RejectedLaws.{rejected-is, warned-is}
+use Rattle.judging.proofs.CodeSums.{number-none}
+use Rattle.onecase.proofs.JudgedLaws.{Judged, judged}
 use Rattle.keyorder.specs.Packed.{Packed, IsJudged, IsVerdictIn}
 use Rattle.batch.specs.Rejects.{numberOf, numbers, rejectRecord, ifAny, rejectRecords}
 use Rattle.batch.specs.Counts.{Counts, countsOf}
 use Rattle.batch.specs.Tally.{countsIn, plus, oneDetail, AtMost}
 use Rattle.batch.specs.Answers.{setIn}
 use Rattle.batch.specs.Progress.{Recorded, noTally}
-use Rattle.batch.specs.Written.{noJudgement, HoldsVerdicts, Written}
+use Rattle.batch.specs.Written.{VerdictsWritten}
 use Rattle.batch.specs.declared.counts.Tally.{Tally}
 use Rattle.batch.specs.declared.verdicts.Progress.{Progress}
+use Rattle.batch.proofs.RejectsLaws.{codes-in}
 use Rattle.batch.proofs.CountsLaws.{counts-cons, plus-assoc, counts-none, none-plus, plus-none}
+use Rattle.keywalk.specs.Walking.{HoldsVerdicts}
 
 -- the first number of what is kept is kept
 kept-first : (a b : List ℕ) (i : ℕ) → drop i a ≡ drop i b → getD a i 0 ≡ getD b i 0
@@ -44,35 +44,18 @@ pub any-code : (cs : List ℕ) → eqb (numberOfCodes cs) 0 ≡ isEmpty cs
 any-code [] = refl
 any-code (c ∷ cs) = ne-eqb (numberOfCodes (c ∷ cs)) 0 (λ e. let z : _≡_ {A = ℕ} 0 1 = cc (number-none (c ∷ cs) e) in omega arith)
 
-pub set-codes : (v : Verdict) → meaning v .codes ≡ codesOfNumber (setIn v)
-set-codes (Accepted set) = refl
-set-codes (Rejected set) = refl
-set-codes (RejectedWithName set name) = refl
-
-not-not : (b : Bool) → not (not b) ≡ b
-not-not true = refl
-not-not false = refl
-
 -- warned: accepted, with a code
 judged-warned : (j : Judgement) → IsJudged j → isWarned j ≡ (not (isRejected j) && not (isEmpty (j .codes)))
-judged-warned j g = subst (λ (x : Judgement). isWarned x ≡ (not (isRejected x) && not (isEmpty (x .codes)))) (g .judged) there
-  where
-    there : isWarned (judgement (g .state) (g .year) (g .list) (g .row) (g .rec))
-        ≡ (not (isRejected (judgement (g .state) (g .year) (g .list) (g .row) (g .rec))) && not (isEmpty (judgement (g .state) (g .year) (g .list) (g .row) (g .rec) .codes)))
-    there =
-        let a = isAccepted (g .state) (g .year) (g .list) (g .row) (g .rec) in
-        let x = judgement (g .state) (g .year) (g .list) (g .row) (g .rec) in
-        let e : not (isRejected x) ≡ a = ap not (rejected-is (g .state) (g .year) (g .list) (g .row) (g .rec)) ∙ not-not a in
-        warned-is (g .state) (g .year) (g .list) (g .row) (g .rec) ∙ ap (λ (b : Bool). b && not (isEmpty (x .codes))) (sym e)
+judged-warned j g = subst (Judged (g .row)) (g .judged) (judged (g .setting) (g .row) (g .rec)) .warned
 
 module _ (v : Verdict) (j : Judgement) (e : meaning v ≡ j) (f : setIn v < 2 ^ 64) where
   pub set-number : setIn v ≡ numberOf j
-  set-number = sym (number-codes (setIn v) f) ∙ ap numberOfCodes (sym (set-codes v)) ∙ ap numberOf e
+  set-number = sym (number-codes (setIn v) f) ∙ ap numberOfCodes (sym (codes-in v)) ∙ ap numberOf e
 
   pub adds-verdict : (rec : List ℕ) → saysAccepted v ≡ not (isRejected j) → IsJudged j
       → oneDetail rec (not (saysAccepted v)) (saysAccepted v && not (eqb (setIn v) 0)) ≡ oneDetail rec (isRejected j) (isWarned j)
   adds-verdict rec a g =
-      let r : not (saysAccepted v) ≡ isRejected j = ap not a ∙ not-not (isRejected j) in
+      let r : not (saysAccepted v) ≡ isRejected j = ap not a ∙ Bool·not-not (isRejected j) in
       let w : (saysAccepted v && not (eqb (setIn v) 0)) ≡ isWarned j =
       ap (λ (b : Bool). b && not (eqb (setIn v) 0)) a
       ∙ ap (λ (n : ℕ). not (isRejected j) && not (eqb n 0)) set-number
@@ -240,7 +223,7 @@ module _ (rows : ℕ) (batch : List ℕ) (d : ℕ) (v₀ rj₀ : List ℕ) where
           let y : plus (countsIn (s .tally)) (countsOf [] (drop i verdicts)) ≡ countsOf ds verdicts = rw none-left at (g .left verdicts h .counts-same) in
           sym (plus-none (countsIn (s .tally))) ∙ ap (plus (countsIn (s .tally))) (sym (counts-none (drop i verdicts))) ∙ y
 
-      pub writing-done : Written ds verdicts v₀ rj₀ v rj (s .rejects) (s .tally)
+      pub writing-done : VerdictsWritten ds verdicts v₀ rj₀ v rj (s .rejects) (s .tally)
       writing-done =
           let n : length ds ≡ d = length-blocks 245 d batch in
           let e : i ≡ length ds = all ∙ sym n in

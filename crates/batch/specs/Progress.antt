@@ -6,18 +6,19 @@ use mathlib.Core.List.{List, _++_}
 use mathlib.Core.Bool.{not, _&&_}
 use lib.Dec.{eqb}
 use lib.ListN.{length, take, drop, set}
-use Rattle.layout.specs.Blocks.{blocks, Holds}
-use Rattle.layout.specs.Master.{rowsOf}
+use Rattle.text.specs.Blocks.{blocks, Holds}
+use Rattle.casemaster.specs.Master.{rowsOf}
 use Rattle.onecase.specs.Verdict.{meaning, saysAccepted}
 use Rattle.onecase.specs.declared.verdict.Verdict.{Verdict}
 use Rattle.batch.specs.Rejects.{numbers, rejectRecord, ifAny, rejectRecords}
 use Rattle.batch.specs.Tally.{countsIn, plus, oneDetail, AtMost}
 use Rattle.batch.specs.Answers.{setIn}
 use Rattle.batch.specs.Counts.{countsOf}
-use Rattle.batch.specs.Totals.{detailCount, detailsOf}
-use Rattle.batch.specs.Apply.{Call, callRows, callVerdicts}
+use Rattle.batch.specs.Apply.{callRows, callVerdicts}
 use Rattle.batch.specs.declared.counts.Tally.{Tally}
 use Rattle.batch.specs.declared.verdicts.Progress.{Progress}
+use Rattle.layout.specs.Batch.{detailCount, detailsOf}
+use Rattle.batch.specs.Call.{Call}
 
 -- a verdict written: its number, its reject record if it has a code, and the counts
 pub record Recorded (rec : List ℕ) (verdict : Verdict) (s : Progress) (i : ℕ) (verdicts rejects : List ℕ) (r : Progress) (verdicts′ rejects′ : List ℕ) : Type 0 where

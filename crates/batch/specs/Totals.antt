@@ -1,31 +1,14 @@
 -- Document 01, "Applying a batch": details, then the control record of Chart A-2, told by its place alone; and the totals. Assumes nothing.
-use Prim.Native.Nat.{ℕ, _+_, _-_, _*_, _/_}
+use Prim.Native.Nat.{ℕ, _+_}
 use mathlib.Core.List.{List, [], _∷_}
 use mathlib.Core.Bool.{Bool, cond, _&&_, _||_}
 use lib.Dec.{eqb}
-use lib.ListN.{length, take, drop}
-use Rattle.layout.specs.Characters.{A, M, N}
-use Rattle.layout.specs.Fields.{columns, isBlank, allDigits, areDigits, number, sameBytes}
+use Rattle.text.specs.Characters.{A, M, N}
+use Rattle.text.specs.Fields.{columns, isBlank, allDigits, areDigits, number, sameBytes}
 use Rattle.layout.specs.States.{isState}
-use Rattle.layout.specs.Blocks.{blocks}
 use Rattle.layout.specs.ChartA2.{controlState, control, totalTanf, totalNonTanf, amountTanf, amountNonTanf, controlFiller}
-use Rattle.onecase.specs.Record.{isType, caseTypeOf}
+use Rattle.layout.specs.Record.{isType, caseTypeOf}
 use Rattle.batch.specs.Counts.{CTL}
-
--- details are all records but the last
-abbrev pub detailCount : List ℕ → ℕ
-detailCount batch = length batch / 245 - 1
-
-unfoldable pub detailsOf : List ℕ → List (List ℕ)
-detailsOf batch = blocks 245 (detailCount batch) batch
-
--- the control record is the last record
-unfoldable pub controlOf : List ℕ → List ℕ
-controlOf batch = take 245 (drop (detailCount batch * 245) batch)
-
--- the submitting state is that in the control record
-abbrev pub submittingState : List ℕ → List ℕ
-submittingState batch = controlState (controlOf batch)
 
 -- Chart A-2: state in the table, CTL, digits, spaces
 unfoldable pub isControl : List ℕ → Bool

@@ -5,10 +5,10 @@ use mathlib.Core.Path.{_≡_}
 use mathlib.Core.List.{List}
 use mathlib.Core.Bool.{Bool, cond, _&&_, _||_}
 use lib.Dec.{eqb}
-use Rattle.layout.specs.Characters.{A, M, N}
-use Rattle.layout.specs.Fields.{number}
+use Rattle.text.specs.Characters.{A, M, N}
+use Rattle.text.specs.Fields.{number}
 use Rattle.layout.specs.ChartA2.{totalTanf, totalNonTanf, amountTanf, amountNonTanf}
-use Rattle.onecase.specs.Record.{isType, caseTypeOf}
+use Rattle.layout.specs.Record.{isType, caseTypeOf}
 use Rattle.batch.specs.Totals.{countOf, amountIn, amountOf}
 use Rattle.batch.specs.declared.totals.Totals.{Totals}
 
@@ -21,7 +21,7 @@ abbrev pub hasAmount : List ℕ → Bool
 hasAmount detail = isType A detail || isType M detail
 
 -- there is room for a detail more
-pub record HasRoom (t : Totals) : Type 0 where
+pub record FitsOneMore (t : Totals) : Type 0 where
   pub tanfCount : t .«tanf_count» < 2 ^ 63
   pub nonTanfCount : t .«non_tanf_count» < 2 ^ 63
   pub tanfAmount : t .«tanf_amount» < 2 ^ 63

@@ -1,30 +1,26 @@
 // Applying a batch: the refusals in order, then its details, key by key.
-use crate::adds;
 use crate::counts;
 use crate::refusals;
-use crate::totals;
 use crate::verdicts;
 use crate::verdicts::Progress;
-use crate::walk;
+use casemaster::master;
 use keyorder::key_work;
 use keyorder::order;
-use keyorder::records;
+use keywalk::walk;
 use layout::chart_a2;
-use layout::fields;
-use layout::master;
+use layout::records;
+use text::fields;
 ghost use mathlib.Core.Path.{_≡_};
-ghost use mathlib.Core.Bool.{true, _&&_};
 ghost use Prim.Native.Nat.{_+_, _*_, _/_, _≤_, _<_};
-ghost use lib.Dec.{leb};
 ghost use lib.ListN.{length};
-ghost use Rattle.layout.specs.Blocks.{spliced};
-ghost use Rattle.layout.specs.Master.{rowsOf, areSoundRows};
-ghost use Rattle.batch.specs.Limits.{maxRows};
-ghost use Rattle.batch.specs.Totals.{detailCount, submittingState};
+ghost use Rattle.text.specs.Blocks.{spliced};
 ghost use Rattle.batch.specs.Counts.{controlRecord};
 ghost use Rattle.batch.specs.Tally.{countsIn, AtMost};
 ghost use Rattle.batch.specs.Progress.{Worked};
-ghost use Rattle.batch.specs.Apply.{refusal9, spaceRefusal, applyRefusal, carriedOut, resultOf, resultIn, callOf, outcomeOf, IsOutcome};
+ghost use Rattle.batch.specs.Apply.{carriedOut, resultOf, resultIn, outcomeOf, IsOutcome};
+ghost use Rattle.layout.specs.Batch.{submittingState};
+ghost use Rattle.batch.specs.Call.{callOf};
+ghost use Rattle.batch.specs.Refusals.{applyRefusal};
 
 // The answer of the call: the counts of a run that is carried out, or the number of the refusal.
 pub enum Applied {
@@ -36,77 +32,6 @@ pub enum Applied {
         rows: usize,
     },
     Refused(u64),
-}
-
-// Whether so many rows have a place in the master.
-fn has_place(m: &[u8], rows: usize) -> bool
-    ensures { λ r. ⌜ r ≡ (leb rows (length (now (m .entry)) / 200) && leb rows maxRows) ⌝ }
-{
-    (rows <= m.len() / 200) & (rows <= refusals::MAX_ROWS)
-}
-
-// Refusal 9. The A records are counted first: where all of them have a place, no key is looked up.
-fn lacks_room(m: &[u8], n: usize, batch: &[u8], d: usize) -> bool
-    requires { ⌜ (n * 200 ≤ length (now m)) × (areSoundRows (rowsOf n (now m)) ≡ true) × (d ≡ detailCount (now batch)) × (d * 245 ≤ length (now batch)) ⌝ }
-    ensures { λ r. ⌜ r ≡ refusal9 (now (m .entry)) n (now (batch .entry)) ⌝ }
-{
-    if has_place(m, n + adds::count_adds(batch, d)) {
-        return false;
-    }
-    !has_place(m, n + adds::count_new(m, n, batch, d))
-}
-
-// The number of the first of refusals 9, 10 and 11 that holds, or 0.
-fn space_refusal(
-    m: &[u8],
-    n: usize,
-    batch: &[u8],
-    locals: &[u8],
-    year: u64,
-    verdicts: &[u64],
-    rejects: &[u8],
-) -> u64
-    requires { ⌜ (n * 200 ≤ length (now m)) × (areSoundRows (rowsOf n (now m)) ≡ true) × (detailCount (now batch) * 245 + 245 ≤ length (now batch)) ⌝ }
-    ensures { λ r. ⌜ r ≡ spaceRefusal (callOf (now (m .entry)) n (now (batch .entry)) (now (locals .entry)) year (now (verdicts .entry)) (now (rejects .entry))) ⌝ }
-{
-    let d = batch.len() / 245 - 1;
-    if lacks_room(m, n, batch, d) {
-        return 9;
-    }
-    if verdicts.len() < d {
-        return 10;
-    }
-    if rejects.len() < 245 * (d + 1) {
-        return 11;
-    }
-    0
-}
-
-// The number of the first refusal that holds, or 0.
-fn first_refusal(
-    m: &[u8],
-    n: usize,
-    batch: &[u8],
-    locals: &[u8],
-    year: u64,
-    verdicts: &[u64],
-    rejects: &[u8],
-) -> u64
-    ensures { λ r. ⌜ r ≡ applyRefusal (callOf (now (m .entry)) n (now (batch .entry)) (now (locals .entry)) year (now (verdicts .entry)) (now (rejects .entry))) ⌝ }
-{
-    let opening = refusals::opening_refusal(year, locals);
-    if opening != 0 {
-        return opening;
-    }
-    let rows = refusals::master_refusal(m, n);
-    if rows != 0 {
-        return rows;
-    }
-    let totals = totals::batch_refusal(batch);
-    if totals != 0 {
-        return totals;
-    }
-    space_refusal(m, n, batch, locals, year, verdicts, rejects)
 }
 
 // All details worked, key by key: what that leaves is what each in turn leaves.
@@ -121,7 +46,9 @@ fn work(
     rejects: &mut [u8],
 ) -> Progress
     requires { ⌜ (applyRefusal (callOf (now m) n (now batch) (now list) year (now verdicts) (now rejects)) ≡ 0) × (now state ≡ submittingState (now batch)) ⌝ }
-    ensures { λ r. ⌜ Worked (callOf (now (m .entry)) n (now (batch .entry)) (now (list .entry)) year (now (verdicts .entry)) (now (rejects .entry))) (now (m .exit)) (r .rows) (now (verdicts .exit)) (now (rejects .exit)) (r .rejects) (r .tally) ⌝ }
+    ensures { λ r. ⌜ Worked
+        (callOf (now (m .entry)) n (now (batch .entry)) (now (list .entry)) year (now (verdicts .entry)) (now (rejects .entry)))
+        (now (m .exit)) (r .rows) (now (verdicts .exit)) (now (rejects .exit)) (r .rejects) (r .tally) ⌝ }
 {
     let d = batch.len() / 245 - 1;
     let own = order::order_details(batch, d, state, verdicts);
@@ -136,7 +63,8 @@ fn work(
 // Writes the control record behind the reject records, and answers the counts.
 fn finish(s: Progress, state: &[u8], rejects: &mut [u8], d: usize) -> Applied
     requires { ⌜ (length (now state) ≡ 2) × (s .rejects * 245 + 245 ≤ length (now rejects)) × (AtMost d (s .tally)) × (d < 9223372036854775807) ⌝ }
-    ensures { λ r. ⌜ (now (rejects .exit) ≡ spliced (now (rejects .entry)) (s .rejects * 245) (controlRecord (now (state .entry)) (countsIn (s .tally)))) × (resultOf r ≡ resultIn (countsIn (s .tally)) (s .rows)) ⌝ }
+    ensures { λ r. ⌜ now (rejects .exit) ≡ spliced (now (rejects .entry)) (s .rejects * 245) (controlRecord (now (state .entry)) (countsIn (s .tally))) ⌝ }
+    ensures { λ r. ⌜ resultOf r ≡ resultIn (countsIn (s .tally)) (s .rows) ⌝ }
 {
     let t = s.tally;
     let k = s.rejects;
@@ -162,7 +90,8 @@ fn run(
     rejects: &mut [u8],
 ) -> Applied
     requires { ⌜ applyRefusal (callOf (now m) n (now batch) (now locals) year (now verdicts) (now rejects)) ≡ 0 ⌝ }
-    ensures { λ r. ⌜ outcomeOf r (now (m .exit)) (now (verdicts .exit)) (now (rejects .exit)) ≡ carriedOut (callOf (now (m .entry)) n (now (batch .entry)) (now (locals .entry)) year (now (verdicts .entry)) (now (rejects .entry))) ⌝ }
+    ensures { λ r. ⌜ outcomeOf r (now (m .exit)) (now (verdicts .exit)) (now (rejects .exit))
+        ≡ carriedOut (callOf (now (m .entry)) n (now (batch .entry)) (now (locals .entry)) year (now (verdicts .entry)) (now (rejects .entry))) ⌝ }
 {
     let d = batch.len() / 245 - 1;
     let control = records::record_at(batch, d);
@@ -181,9 +110,11 @@ pub fn apply(
     verdicts: &mut [u64],
     rejects: &mut [u8],
 ) -> Applied
-    ensures { λ r. ⌜ IsOutcome (callOf (now (master .entry)) rows (now (batch .entry)) (now (locals .entry)) year (now (verdicts .entry)) (now (rejects .entry))) (outcomeOf r (now (master .exit)) (now (verdicts .exit)) (now (rejects .exit))) ⌝ }
+    ensures { λ r. ⌜ IsOutcome
+        (callOf (now (master .entry)) rows (now (batch .entry)) (now (locals .entry)) year (now (verdicts .entry)) (now (rejects .entry)))
+        (outcomeOf r (now (master .exit)) (now (verdicts .exit)) (now (rejects .exit))) ⌝ }
 {
-    let number = first_refusal(master, rows, batch, locals, year, verdicts, rejects);
+    let number = refusals::first_refusal(master, rows, batch, locals, year, verdicts, rejects);
     if number != 0 {
         return Applied::Refused(number);
     }

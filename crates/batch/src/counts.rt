@@ -1,6 +1,6 @@
 // The counts of a run, and the control record of the reject file.
 use layout::chart_02;
-use layout::fields;
+use text::fields;
 ghost use mathlib.Core.Path.{_≡_};
 ghost use mathlib.Core.Bool.{not, cond};
 ghost use Prim.Native.Nat.{_+_, _<_, _≤_};

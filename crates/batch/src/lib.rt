@@ -1,11 +1,7 @@
-// The public calls: applying a batch, finding a case, reconciliation.
-pub mod adds;
+// Applying a batch: its totals and refusals, the work, the verdict list, the reject file and the counts.
 pub mod apply;
 pub mod counts;
-pub mod find;
-pub mod reconcile;
 pub mod refusals;
 pub mod rejects;
 pub mod totals;
 pub mod verdicts;
-pub mod walk;

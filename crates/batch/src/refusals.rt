@@ -1,17 +1,26 @@
-// The refusals that several calls share.
+// The refusals of `apply`, in the order of the paper.
+use crate::totals;
+use casemaster::refusals::master_refusal;
+use layout::limits::MAX_RECORDS;
+use layout::limits::MAX_ROWS;
 use layout::locals;
-use layout::master;
+use layout::records;
+use layout::records::RECORD_WIDTH;
+use turns::adds;
 ghost use mathlib.Core.Path.{_≡_};
-ghost use Rattle.batch.specs.Apply.{refusal1, refusal2, masterRefusal, orElse};
-
-// At most so many rows.
-pub const MAX_ROWS: usize = 65535;
-
-// At most so many records in a batch.
-pub const MAX_RECORDS: usize = 65536;
+ghost use mathlib.Core.Bool.{true, _&&_};
+ghost use Prim.Native.Nat.{_+_, _*_, _/_, _≤_};
+ghost use lib.Dec.{leb};
+ghost use lib.ListN.{length};
+ghost use Rattle.layout.specs.Limits.{maxRows};
+ghost use Rattle.layout.specs.Batch.{detailCount};
+ghost use Rattle.casemaster.specs.Master.{rowsOf, areSoundRows};
+ghost use Rattle.casemaster.specs.Refusals.{orElse};
+ghost use Rattle.batch.specs.Call.{callOf};
+ghost use Rattle.batch.specs.Refusals.{refusal1, refusal2, refusal5, refusal9, batchRefusal, spaceRefusal, applyRefusal};
 
 // The number of the first of refusals 1 and 2 that holds, or 0.
-pub fn opening_refusal(year: u64, locals: &[u8]) -> u64
+fn opening_refusal(year: u64, locals: &[u8]) -> u64
     ensures { λ r. ⌜ r ≡ orElse (refusal1 year) 1 (orElse (refusal2 (now (locals .entry))) 2 0) ⌝ }
 {
     if year < 1900 {
@@ -23,22 +32,103 @@ pub fn opening_refusal(year: u64, locals: &[u8]) -> u64
     if locals::is_local_list(locals) { 0 } else { 2 }
 }
 
-// The number of the first of refusals 3 and 4 that holds, or 0.
-pub fn master_refusal(master: &[u8], rows: usize) -> u64
-    ensures { λ r. ⌜ r ≡ masterRefusal (now (master .entry)) rows 0 ⌝ }
+// Refusal 5: a batch that is empty, no multiple of a record's width, or of too many records.
+fn is_wrong_length(batch: &[u8]) -> bool
+    ensures { λ r. ⌜ r ≡ refusal5 (now (batch .entry)) ⌝ }
 {
-    if master.len() % 200 != 0 {
-        return 3;
+    let n = batch.len();
+    (n == 0) | (n % RECORD_WIDTH != 0) | (MAX_RECORDS < n / RECORD_WIDTH)
+}
+
+// The number of the first of refusals 5 to 8 that holds, or 0.
+fn batch_refusal(batch: &[u8]) -> u64
+    ensures { λ r. ⌜ r ≡ batchRefusal (now (batch .entry)) 0 ⌝ }
+{
+    if is_wrong_length(batch) {
+        return 5;
     }
-    if master.len() / 200 < rows {
-        return 3;
+    let details = batch.len() / RECORD_WIDTH - 1;
+    let control = records::record_at(batch, details);
+    if !totals::is_control(&control) {
+        return 6;
     }
-    if MAX_ROWS < rows {
-        return 3;
+    let t = totals::totals_of(batch, details);
+    if !totals::are_counts_right(&control, t) {
+        return 7;
     }
-    if master::are_sound_rows(master, rows) {
-        0
-    } else {
-        4
+    if !totals::are_amounts_right(&control, t) {
+        return 8;
     }
+    0
+}
+
+// Whether so many rows have a place in the master.
+fn has_place(m: &[u8], rows: usize) -> bool
+    ensures { λ r. ⌜ r ≡ (leb rows (length (now (m .entry)) / 200) && leb rows maxRows) ⌝ }
+{
+    (rows <= m.len() / 200) & (rows <= MAX_ROWS)
+}
+
+// Refusal 9. The A records are counted first: where all of them have a place, no key is looked up.
+fn lacks_room(m: &[u8], n: usize, batch: &[u8], d: usize) -> bool
+    requires { ⌜ (n * 200 ≤ length (now m)) × (areSoundRows (rowsOf n (now m)) ≡ true) × (d ≡ detailCount (now batch)) × (d * 245 ≤ length (now batch)) ⌝ }
+    ensures { λ r. ⌜ r ≡ refusal9 (now (m .entry)) n (now (batch .entry)) ⌝ }
+{
+    if has_place(m, n + adds::count_adds(batch, d)) {
+        return false;
+    }
+    !has_place(m, n + adds::count_new(m, n, batch, d))
+}
+
+// The number of the first of refusals 9, 10 and 11 that holds, or 0.
+fn space_refusal(
+    m: &[u8],
+    n: usize,
+    batch: &[u8],
+    locals: &[u8],
+    year: u64,
+    verdicts: &[u64],
+    rejects: &[u8],
+) -> u64
+    requires { ⌜ (n * 200 ≤ length (now m)) × (areSoundRows (rowsOf n (now m)) ≡ true) × (detailCount (now batch) * 245 + 245 ≤ length (now batch)) ⌝ }
+    ensures { λ r. ⌜ r ≡ spaceRefusal (callOf (now (m .entry)) n (now (batch .entry)) (now (locals .entry)) year (now (verdicts .entry)) (now (rejects .entry))) ⌝ }
+{
+    let d = batch.len() / 245 - 1;
+    if lacks_room(m, n, batch, d) {
+        return 9;
+    }
+    if verdicts.len() < d {
+        return 10;
+    }
+    if rejects.len() < 245 * (d + 1) {
+        return 11;
+    }
+    0
+}
+
+// The number of the first refusal that holds, or 0.
+pub fn first_refusal(
+    m: &[u8],
+    n: usize,
+    batch: &[u8],
+    locals: &[u8],
+    year: u64,
+    verdicts: &[u64],
+    rejects: &[u8],
+) -> u64
+    ensures { λ r. ⌜ r ≡ applyRefusal (callOf (now (m .entry)) n (now (batch .entry)) (now (locals .entry)) year (now (verdicts .entry)) (now (rejects .entry))) ⌝ }
+{
+    let opening = opening_refusal(year, locals);
+    if opening != 0 {
+        return opening;
+    }
+    let rows = master_refusal(m, n);
+    if rows != 0 {
+        return rows;
+    }
+    let totals = batch_refusal(batch);
+    if totals != 0 {
+        return totals;
+    }
+    space_refusal(m, n, batch, locals, year, verdicts, rejects)
 }

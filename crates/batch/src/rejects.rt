@@ -1,13 +1,13 @@
 // The verdict's number and the reject record of Chart 0-1.
 use layout::chart_01;
 use layout::codes;
-use layout::fields;
 use onecase::verdict::Verdict;
+use text::fields;
 ghost use mathlib.Core.Path.{_≡_};
 ghost use mathlib.Core.List.{_++_};
 ghost use Prim.Native.Nat.{_+_, _*_, _≤_};
 ghost use lib.ListN.{length};
-ghost use Rattle.layout.specs.Blocks.{blocks, Holds};
+ghost use Rattle.text.specs.Blocks.{blocks, Holds};
 ghost use Rattle.onecase.specs.Verdict.{meaning, saysAccepted};
 ghost use Rattle.batch.specs.Rejects.{fourColumns, rejectRecord, ifAny};
 ghost use Rattle.batch.specs.Answers.{setIn};
@@ -63,7 +63,9 @@ pub fn reject_record(rec: &[u8], v: Verdict) -> [u8; 245]
 // Writes a detail's reject record behind k others, if it has a code, and answers how many there are then.
 pub fn put_reject(rejects: &mut [u8], k: usize, rec: &[u8], v: Verdict) -> usize
     requires { ⌜ (length (now rec) ≡ 245) × (k * 245 + 245 ≤ length (now rejects)) ⌝ }
-    ensures { λ r. ⌜ (Holds 245 (now (rejects .entry)) (now (rejects .exit)) r (blocks 245 k (now (rejects .entry)) ++ ifAny (meaning v .codes) (rejectRecord (now (rec .entry)) (meaning v)))) × (k ≤ r) × (r ≤ k + 1) ⌝ }
+    ensures { λ r. ⌜ (Holds 245 (now (rejects .entry)) (now (rejects .exit)) r
+        (blocks 245 k (now (rejects .entry)) ++ ifAny (meaning v .codes) (rejectRecord (now (rec .entry)) (meaning v))))
+        × (k ≤ r) × (r ≤ k + 1) ⌝ }
 {
     if set_of(v) == 0 {
         return k;

@@ -1,21 +1,20 @@
 // A batch: details, then the control record of Chart A-2, and the totals that it carries.
-use crate::refusals;
-use keyorder::records;
-use keyorder::records::RECORD_WIDTH;
 use layout::chart_a1;
 use layout::chart_a2;
-use layout::fields;
-use layout::fields::Columns;
+use layout::limits::MAX_RECORDS;
+use layout::record;
+use layout::records;
+use layout::records::RECORD_WIDTH;
 use layout::states;
-use onecase::record;
+use text::fields;
+use text::fields::Columns;
 ghost use mathlib.Core.Path.{_≡_};
 ghost use mathlib.Core.Bool.{true};
 ghost use Prim.Native.Nat.{_*_, _^_, _≤_};
 ghost use lib.ListN.{length};
-ghost use Rattle.layout.specs.Blocks.{blocks};
+ghost use Rattle.text.specs.Blocks.{blocks};
 ghost use Rattle.batch.specs.Totals.{isControl, amountIn};
-ghost use Rattle.batch.specs.TotalsParts.{countIn, hasAmount, HasRoom, IsAdded, AreTotals, countsAgree, amountsAgree};
-ghost use Rattle.batch.specs.Apply.{refusal5, batchRefusal};
+ghost use Rattle.batch.specs.TotalsParts.{countIn, hasAmount, FitsOneMore, IsAdded, AreTotals, countsAgree, amountsAgree};
 
 // The case types.
 pub const TANF: u8 = 0xC1;
@@ -34,7 +33,7 @@ pub struct Totals {
 }
 
 // Whether a record has the control record's form: a state of the table, CTL, digits, spaces.
-fn is_control(rec: &[u8; 245]) -> bool
+pub fn is_control(rec: &[u8; 245]) -> bool
     ensures { λ r. ⌜ r ≡ isControl (now (rec .entry)) ⌝ }
 {
     let state = states::is_state(fields::field(rec, chart_a2::STATE));
@@ -76,7 +75,7 @@ fn amount_in(case_type: u8, rec: &[u8]) -> u64
 
 // The totals with a detail added.
 fn with_detail(t: Totals, rec: &[u8]) -> Totals
-    requires { ⌜ (HasRoom t) × (length (now rec) ≡ 245) ⌝ }
+    requires { ⌜ (FitsOneMore t) × (length (now rec) ≡ 245) ⌝ }
     ensures { λ r. ⌜ IsAdded (now (rec .entry)) t r ⌝ }
 {
     Totals {
@@ -88,7 +87,7 @@ fn with_detail(t: Totals, rec: &[u8]) -> Totals
 }
 
 // The totals of the first n records, none of which is copied out.
-fn totals_of(batch: &[u8], n: usize) -> Totals
+pub fn totals_of(batch: &[u8], n: usize) -> Totals
     requires { ⌜ (n * 245 ≤ length (now batch)) × (n ≤ 2 ^ 32) ⌝ }
     ensures { λ r. ⌜ AreTotals (blocks 245 n (now (batch .entry))) r ⌝ }
 {
@@ -109,7 +108,7 @@ fn totals_of(batch: &[u8], n: usize) -> Totals
 }
 
 // Whether the counts are those of the control record.
-fn are_counts_right(rec: &[u8; 245], t: Totals) -> bool
+pub fn are_counts_right(rec: &[u8; 245], t: Totals) -> bool
     requires { ⌜ isControl (now rec) ≡ true ⌝ }
     ensures { λ r. ⌜ r ≡ countsAgree (now (rec .entry)) t ⌝ }
 {
@@ -119,41 +118,11 @@ fn are_counts_right(rec: &[u8; 245], t: Totals) -> bool
 }
 
 // Whether the amounts are those of the control record.
-fn are_amounts_right(rec: &[u8; 245], t: Totals) -> bool
+pub fn are_amounts_right(rec: &[u8; 245], t: Totals) -> bool
     requires { ⌜ isControl (now rec) ≡ true ⌝ }
     ensures { λ r. ⌜ r ≡ amountsAgree (now (rec .entry)) t ⌝ }
 {
     let tanf = fields::number_at(rec, chart_a2::AMOUNT_TANF);
     let non_tanf = fields::number_at(rec, chart_a2::AMOUNT_NON_TANF);
     (tanf == t.tanf_amount) & (non_tanf == t.non_tanf_amount)
-}
-
-// Refusal 5: a batch that is empty, no multiple of a record's width, or of too many records.
-fn is_wrong_length(batch: &[u8]) -> bool
-    ensures { λ r. ⌜ r ≡ refusal5 (now (batch .entry)) ⌝ }
-{
-    let n = batch.len();
-    (n == 0) | (n % RECORD_WIDTH != 0) | (refusals::MAX_RECORDS < n / RECORD_WIDTH)
-}
-
-// The number of the first of refusals 5 to 8 that holds, or 0.
-pub fn batch_refusal(batch: &[u8]) -> u64
-    ensures { λ r. ⌜ r ≡ batchRefusal (now (batch .entry)) 0 ⌝ }
-{
-    if is_wrong_length(batch) {
-        return 5;
-    }
-    let details = batch.len() / RECORD_WIDTH - 1;
-    let control = records::record_at(batch, details);
-    if !is_control(&control) {
-        return 6;
-    }
-    let t = totals_of(batch, details);
-    if !are_counts_right(&control, t) {
-        return 7;
-    }
-    if !are_amounts_right(&control, t) {
-        return 8;
-    }
-    0
 }

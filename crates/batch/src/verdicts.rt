@@ -3,17 +3,18 @@ use crate::counts;
 use crate::counts::Tally;
 use crate::rejects;
 use keyorder::packed;
-use keyorder::records::RECORD_WIDTH;
+use layout::records::RECORD_WIDTH;
 use onecase::verdict::Verdict;
 ghost use mathlib.Core.Path.{_≡_};
 ghost use mathlib.Core.List.{List};
 ghost use Prim.Native.Nat.{_+_, _*_, _≤_, _<_};
 ghost use lib.ListN.{length};
-ghost use Rattle.layout.specs.Blocks.{blocks};
+ghost use Rattle.text.specs.Blocks.{blocks};
 ghost use Rattle.onecase.specs.Verdict.{Judgement};
 ghost use Rattle.batch.specs.Tally.{AtMost};
 ghost use Rattle.batch.specs.Progress.{noTally, Recorded};
-ghost use Rattle.batch.specs.Written.{HoldsVerdicts, Written};
+ghost use Rattle.batch.specs.Written.{VerdictsWritten};
+ghost use Rattle.keywalk.specs.Walking.{HoldsVerdicts};
 
 // How far the work has come: rows, reject records and counts.
 pub struct Progress {
@@ -72,7 +73,10 @@ pub fn write_verdicts(
     rejects: &mut [u8],
 ) -> Progress
     requires { ⌜ (d * 245 ≤ length (now batch)) × (d ≤ length (now numbers)) × ((d + 1) * 245 ≤ length (now rejects)) ⌝ }
-    ensures { λ r. ⌜ (r .rows ≡ rows) × (r .rejects ≤ d) × AtMost d (r .tally) × ((verdicts : List Judgement) → HoldsVerdicts d (now (numbers .entry)) verdicts → Written (blocks 245 d (now (batch .entry))) verdicts (now (numbers .entry)) (now (rejects .entry)) (now (numbers .exit)) (now (rejects .exit)) (r .rejects) (r .tally)) ⌝ }
+    ensures { λ r. ⌜ (r .rows ≡ rows) × (r .rejects ≤ d) × AtMost d (r .tally)
+        × ((verdicts : List Judgement) → HoldsVerdicts d (now (numbers .entry)) verdicts
+        → VerdictsWritten (blocks 245 d (now (batch .entry))) verdicts (now (numbers .entry)) (now (rejects .entry))
+        (now (numbers .exit)) (now (rejects .exit)) (r .rejects) (r .tally)) ⌝ }
 {
     let tally = no_tally();
     let mut s = Progress {

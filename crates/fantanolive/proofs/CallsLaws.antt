@@ -2,13 +2,14 @@
 use Prim.Native.Nat.{ℕ}
 use mathlib.Core.Path.{_≡_, ap, _∙_, sym}
 use mathlib.Core.List.{List}
-use Rattle.batch.specs.Apply.{Call, Outcome, outcomeOf, IsOutcome}
-use Rattle.batch.specs.Find.{FindResult, foundOf, findResult}
-use Rattle.batch.specs.Reconcile.{ReconcileOutcome, reconciledAs, reconcileOutcome}
+use Rattle.batch.specs.Apply.{Outcome, outcomeOf, IsOutcome}
+use Rattle.lookup.specs.Find.{FindResult, foundOf, findResult}
+use Rattle.reconciliation.specs.Reconcile.{ReconcileOutcome, reconciledAs, reconcileOutcome}
 use Rattle.batch.specs.declared.apply.Applied.{Applied}
-use Rattle.batch.specs.declared.find.Found.{Found}
-use Rattle.batch.specs.declared.reconcile.Reconciled.{Reconciled}
+use Rattle.lookup.specs.declared.find.Found.{Found}
+use Rattle.reconciliation.specs.declared.reconcile.Reconciled.{Reconciled}
 use Rattle.fantanolive.specs.Calls.{applyLeftBy, applyLeft, findLeftBy, findLeft, reconcileLeftBy, reconcileLeft}
+use Rattle.batch.specs.Call.{Call}
 
 -- of an answer told apart
 pub apply-left : (c : Call) (master verdicts rejects result : List ℕ) (answer told : Applied)

@@ -2,11 +2,12 @@
 -- Assumes nothing.
 use Prim.Native.Nat.{ℕ}
 use mathlib.Core.List.{List, [], _∷_}
-use Rattle.batch.specs.Apply.{Call, Result, refused, done, Outcome, applyOutcome}
-use Rattle.batch.specs.Find as Find
-use Rattle.batch.specs.Find.{FindResult, findResult}
-use Rattle.batch.specs.Reconcile as Reconcile
-use Rattle.batch.specs.Reconcile.{ReconcileResult, ReconcileOutcome, reconcileOutcome}
+use Rattle.batch.specs.Apply.{Result, refused, done, Outcome, applyOutcome}
+use Rattle.lookup.specs.Find as Find
+use Rattle.lookup.specs.Find.{FindResult, findResult}
+use Rattle.reconciliation.specs.Reconcile as Reconcile
+use Rattle.reconciliation.specs.Reconcile.{ReconcileResult, ReconcileOutcome, reconcileOutcome}
+use Rattle.batch.specs.Call.{Call}
 
 -- ---- fantanolive_apply
 

@@ -2,13 +2,13 @@
 // of a call that is carried out. Every argument may be anything that its type can hold.
 use batch::apply;
 use batch::apply::Applied;
-use batch::find;
-use batch::find::Found;
-use batch::reconcile;
-use batch::reconcile::Reconciled;
+use lookup::find;
+use lookup::find::Found;
+use reconciliation::reconcile;
+use reconciliation::reconcile::Reconciled;
 ghost use mathlib.Core.Path.{_≡_};
-ghost use Rattle.batch.specs.Apply.{callOf};
 ghost use Rattle.fantanolive.specs.Calls.{applyLeft, findLeft, reconcileLeft};
+ghost use Rattle.batch.specs.Call.{callOf};
 
 // Applies a batch; the result numbers are accepted, rejected, warned, neither and rows.
 #[no_mangle]
@@ -22,7 +22,10 @@ pub extern "C" fn fantanolive_apply(
     rejects: &mut [u8],
     result: &mut [u64; 5],
 ) -> u64
-    ensures { λ r. ⌜ record { number = r; result = now (result .exit); master = now (master .exit); verdicts = now (verdicts .exit); rejects = now (rejects .exit) } ≡ applyLeft (callOf (now (master .entry)) rows (now (batch .entry)) (now (locals .entry)) year (now (verdicts .entry)) (now (rejects .entry))) (now (result .entry)) ⌝ }
+    ensures { λ r. ⌜ record { number = r; result = now (result .exit); master = now (master .exit); verdicts = now (verdicts .exit); rejects = now (rejects .exit) }
+        ≡ applyLeft
+        (callOf (now (master .entry)) rows (now (batch .entry)) (now (locals .entry)) year (now (verdicts .entry)) (now (rejects .entry)))
+        (now (result .entry)) ⌝ }
 {
     match apply::apply(master, rows, batch, locals, year, verdicts, rejects) {
         Applied::Done {
@@ -63,7 +66,8 @@ pub extern "C" fn fantanolive_reconcile(
     out: &mut [u8],
     records: &mut u64,
 ) -> u64
-    ensures { λ r. ⌜ record { number = r; records = now (records .exit); out = now (out .exit) } ≡ reconcileLeft (now (master .entry)) rows (now (state .entry)) (now (date .entry)) (now (out .entry)) (now (records .entry)) ⌝ }
+    ensures { λ r. ⌜ record { number = r; records = now (records .exit); out = now (out .exit) }
+        ≡ reconcileLeft (now (master .entry)) rows (now (state .entry)) (now (date .entry)) (now (out .entry)) (now (records .entry)) ⌝ }
 {
     match reconcile::reconcile(master, rows, state, date, out) {
         Reconciled::Done(count) => {

@@ -7,13 +7,12 @@ use native.Mathlib.Omega.{arith}
 use lib.Dec.{ltb}
 use lib.ListN.{length}
 use borrow.Author.Tests.{ltb-true, ltb-false}
-use Rattle.layout.specs.Characters.{isDigit}
-use Rattle.layout.specs.Fields.{every, allDigits, numberOnto}
-use Rattle.layout.specs.Key.{orderOf}
-use Rattle.layout.specs.declared.key.Order.the-variants.{Less}
-use Rattle.layout.proofs.FieldsLaws.{and-left, and-right}
-use Rattle.layout.proofs.NumberLaws.{digit-bounds}
-use Rattle.layout.proofs.KeyLaws.{order-lt, order-eq}
+use Rattle.text.specs.Characters.{isDigit}
+use Rattle.text.specs.Fields.{every, allDigits, numberOnto}
+use Rattle.text.proofs.FieldsLaws.{and-left, and-right}
+use Rattle.text.proofs.NumberLaws.{digit-bounds}
+use Rattle.text.specs.ByteOrder.{less, orderOf}
+use Rattle.text.proofs.ByteOrderLaws.{order-lt, order-eq}
 
 abbrev Digits : List ℕ → Type 0
 Digits s = every isDigit s ≡ true
@@ -36,7 +35,7 @@ onto-less n m (x ∷ s) (y ∷ t) e f g h =
 
 -- how two fields of digits stand, by their numbers and by their bytes, whatever follows them
 pub data Stand (n : ℕ) (s t : List ℕ) : Type 0 where
-  below : numberOnto n s < numberOnto n t → ((u v : List ℕ) → orderOf (s ++ u) (t ++ v) ≡ Less) → Stand n s t
+  below : numberOnto n s < numberOnto n t → ((u v : List ℕ) → orderOf (s ++ u) (t ++ v) ≡ less) → Stand n s t
   level : s ≡ t → Stand n s t
   above : numberOnto n t < numberOnto n s → Stand n s t
 

@@ -3,35 +3,28 @@
 use Prim.Native.Nat.{ℕ, zero, suc, _+_, _-_, _*_, _/_, _%_, _^_, _≤_, _<_}
 use mathlib.Core.Path.{_≡_, refl, sym, ap, _∙_, subst}
 use mathlib.Core.Logic.{_⊎_, inl, inr, ⊎-elim}
-use mathlib.Core.Bool.{Bool, true, false, not, cond, _&&_, _||_, and-true, and-false, or-true, or-false, false≢true}
-use mathlib.Core.List.{List, [], _∷_, _++_}
-use mathlib.Core.Option.{Option, none, some}
+use mathlib.Core.Bool.{Bool, true, false, cond, _||_, or-false}
+use mathlib.Core.List.{List, [], _∷_}
+use mathlib.Core.Option.{Option, some}
 use native.Mathlib.Nat.{add-zero, div-one, div-div-eq-div-mul, pow-suc, pow-succ', pow-le-pow-right, le-of-suc-le-suc, not-suc-le-zero, zero-lt-suc}
 use native.Mathlib.Omega.{arith}
-use borrow.Author.Tests.{leb-true, eqb-true, eq-eqb, ne-eqb, not-false}
+use borrow.Author.Tests.{leb-true, eqb-true, eq-eqb, ne-eqb}
 use lib.Dec.{eqb, leb, lit≤, lit<}
 use lib.ListN.{length}
-use Rattle.layout.specs.Characters.{within, isByte, isLetter, space, hyphen}
-use Rattle.layout.specs.Fields.{columns, every, isBlank}
+use Rattle.text.specs.Characters.{within, isByte, isLetter, space, hyphen}
+use Rattle.text.specs.Fields.{columns, every, isBlank}
 use Rattle.layout.specs.Name.{isNameByte, isNameRest, isName}
 use Rattle.layout.specs.Codes.{numberOfCodes, codesFrom, codesOfNumber, RisingCodes}
 use Rattle.layout.proofs.CodesLaws.{codes-number}
-use Rattle.layout.proofs.FieldsLaws.{and-left, and-right}
-use Rattle.onecase.specs.Errors.{code, errors, judged17}
-use Rattle.onecase.specs.Warnings.{warning51, warning52, warnings}
-use Rattle.onecase.specs.Verdict.{Judgement, isAccepted, codes, judgement, isError, isRejected}
-use Rattle.onecase.proofs.CodeSums.{number-none}
-use Rattle.onecase.proofs.JudgementLaws.{hasCode, errors-accepted, code-17, name-17, no-name, name-is, name-width}
-use Rattle.onecase.proofs.JudgeLaws.{errors-rise, codes-rise}
-use Rattle.onecase.proofs.RejectedLaws.{rejected-is}
+use Rattle.text.proofs.FieldsLaws.{and-left, and-right}
+use Rattle.onecase.specs.Verdict.{Judgement, hasCode, isError, isWarning, isRejected}
+use Rattle.judging.proofs.CodeSums.{number-none}
+use Rattle.onecase.proofs.JudgementLaws.{has-front, name-width}
+use Rattle.onecase.proofs.JudgedLaws.{Judged, isSome, judged, rejected-some}
 use Rattle.onecase.proofs.SoundLaws.{sound-columns}
 use Rattle.keyorder.specs.Packed.{characterCode, characterOf, nameNumber, nameIn, SoundOrNone, IsJudged}
 
 -- ---- a code's bit in the number of its set
-
-has-front : (c k : ℕ) (b : Bool) (cs : List ℕ) → hasCode c (code k b ++ cs) ≡ (eqb k c && b || hasCode c cs)
-has-front c k true cs = rw (and-true (eqb k c))
-has-front c k false cs = rw (and-false (eqb k c))
 
 has-below : (d c a n : ℕ) → c < a → hasCode c (codesFrom d a n) ≡ false
 unfolding codesFrom
@@ -59,14 +52,6 @@ bit-17 n = has-bit 64 17 0 n (lit< tt)
 
 -- ---- errors alone, or warnings alone
 
-every-front : (f : ℕ → Bool) (c : ℕ) (b : Bool) (cs : List ℕ) → every f (code c b ++ cs) ≡ ((f c || not b) && every f cs)
-every-front f c true cs = rw (or-false (f c))
-every-front f c false cs = rw (or-true (f c))
-
-every-only : (f : ℕ → Bool) (c : ℕ) (b : Bool) → every f (code c b) ≡ (f c || not b)
-every-only f c true = rw (and-true (f c), or-false (f c))
-every-only f c false = sym (or-true (f c))
-
 -- errors from a on leave room for 2 to the power a
 errors-room : (a : ℕ) (cs : List ℕ) → RisingCodes a 64 cs → every isError cs ≡ true → a ≤ 19 → numberOfCodes cs + 2 ^ a ≤ 2 ^ 19
 errors-room a [] r t h = let p : 2 ^ a ≤ 2 ^ 19 = pow-le-pow-right (lit< tt) h in omega arith
@@ -86,11 +71,27 @@ pub record LowAlone (n : ℕ) : Type 0 where
   pub some-code : 0 < n
   pub low : n < 2 ^ 19
 
-warned-high : (a b : Bool) → HighAlone (numberOfCodes (code 51 a ++ code 52 b))
-warned-high true true = record { low = refl; high = refl }
-warned-high true false = record { low = refl; high = refl }
-warned-high false true = record { low = refl; high = refl }
-warned-high false false = record { low = refl; high = refl }
+-- the bit of a code from 43 on
+high-bit : (d : ℕ) → (k : ℕ) × (2 ^ (d + 43) ≡ k * 2 ^ 43)
+high-bit zero = (1, refl)
+high-bit (suc d) =
+    let ih = high-bit d in
+    let s : suc d + 43 ≡ suc (d + 43) = omega arith in
+    (ih .0 * 2, ap (λ (n : ℕ). 2 ^ n) s ∙ pow-suc 2 (d + 43) ∙ omega (arith, ih .1))
+
+-- codes from 43 on stand in the high part
+high-codes : (cs : List ℕ) → every isWarning cs ≡ true → (k : ℕ) × (numberOfCodes cs ≡ k * 2 ^ 43)
+high-codes [] t = (0, refl)
+high-codes (c ∷ cs) t =
+    let ih = high-codes cs (and-right (isWarning c) (every isWarning cs) t) in
+    let l : 51 ≤ c = leb-true 51 c (and-left (isWarning c) (every isWarning cs) t) in
+    let s : c ≡ (c - 43) + 43 = omega arith in
+    let b = high-bit (c - 43) in
+    let p : 2 ^ c ≡ b .0 * 2 ^ 43 = ap (λ (n : ℕ). 2 ^ n) s ∙ b .1 in
+    (b .0 + ih .0, omega (arith, p, ih .1))
+
+high-alone : (n k : ℕ) → n ≡ k * 2 ^ 43 → HighAlone n
+high-alone n k e = record { low = omega arith; high = omega arith }
 
 -- ---- the characters of a name
 
@@ -212,10 +213,6 @@ four-back (a ∷ b ∷ c ∷ d ∷ x ∷ xs) e h = absurd (omega arith)
 
 -- ---- a judgement
 
-abbrev pub isSome : Option (List ℕ) → Bool
-isSome none = false
-isSome (some bytes) = true
-
 abbrev pub setNumber : Judgement → ℕ
 setNumber j = numberOfCodes (j .codes)
 
@@ -227,52 +224,28 @@ pub record JudgedSet (j : Judgement) : Type 0 where
   pub named : eqb (setNumber j / 2 ^ 17 % 2) 1 ≡ isSome (j .name)
   pub name-again : (bytes : List ℕ) → j .name ≡ some bytes → nameIn (nameNumber bytes) ≡ bytes
 
-module _ (state : List ℕ) (year : ℕ) (list : List ℕ) (row : Option (List ℕ)) (rec : List ℕ) where
-  errors-errors : every isError (errors state year list row rec) ≡ true
-  unfolding errors
-  errors-errors = simp (every-front, every-only)
-
-  low-of : isRejected (judgement state year list row rec) ≡ true → LowAlone (setNumber (judgement state year list row rec))
-  unfolding judgement codes
-  low-of t = go (isAccepted state year list row rec) refl
+module _ (row : Option (List ℕ)) (j : Judgement) (h : Judged row j) where
+  low-of : isRejected j ≡ true → LowAlone (setNumber j)
+  low-of t =
+      let r = errors-room 0 (j .codes) (h .rises) (h .errors t) (lit≤ tt) in
+      record { some-code = pos (setNumber j) refl; low = omega arith }
     where
-      go : (b : Bool) → isAccepted state year list row rec ≡ b → LowAlone (numberOfCodes (cond b (warnings list row rec) (errors state year list row rec)))
-      go true e = absurd (false≢true (sym (rejected-is state year list row rec ∙ ap not e) ∙ t))
-      go false e =
-          let r = errors-room 0 (errors state year list row rec) (errors-rise state year list row rec .rises) errors-errors (lit≤ tt) in
-          record { some-code = pos (numberOfCodes (errors state year list row rec)) refl; low = omega arith }
-        where
-          pos : (n : ℕ) → numberOfCodes (errors state year list row rec) ≡ n → 0 < n
-          pos zero z = absurd (false≢true (sym e ∙ errors-accepted state year list row rec (number-none (errors state year list row rec) z)))
-          pos (suc n) z = zero-lt-suc n
+      pos : (n : ℕ) → setNumber j ≡ n → 0 < n
+      pos zero z = absurd (rejected-some j t (number-none (j .codes) z))
+      pos (suc n) z = zero-lt-suc n
 
-  high-of : isRejected (judgement state year list row rec) ≡ false → HighAlone (setNumber (judgement state year list row rec))
-  unfolding judgement codes warnings
-  high-of t =
-      let a : isAccepted state year list row rec ≡ true = not-false (isAccepted state year list row rec) (sym (rejected-is state year list row rec) ∙ t) in
-      rw a (warned-high (warning51 list rec) (warning52 row rec))
+  high-of : isRejected j ≡ false → HighAlone (setNumber j)
+  high-of t = let k = high-codes (j .codes) (h .warnings t) in high-alone (setNumber j) (k .0) (k .1)
 
-  codes-of : codesOfNumber (setNumber (judgement state year list row rec)) ≡ judgement state year list row rec .codes
-  unfolding judgement
-  codes-of = codes-number (codes state year list row rec) (codes-rise state year list row rec .rises)
+  codes-of : codesOfNumber (setNumber j) ≡ j .codes
+  codes-of = codes-number (j .codes) (h .rises)
 
-  some-17 : isSome (judgement state year list row rec .name) ≡ judged17 state row rec
-  some-17 = go (judged17 state row rec) refl
-    where
-      go : (b : Bool) → judged17 state row rec ≡ b → isSome (judgement state year list row rec .name) ≡ b
-      go true e = ap isSome (name-17 state year list row rec e .2)
-      go false e = ap isSome (no-name state year list row rec e)
+  named-of : eqb (setNumber j / 2 ^ 17 % 2) 1 ≡ isSome (j .name)
+  named-of = sym (bit-17 (setNumber j)) ∙ ap (hasCode 17) codes-of ∙ h .named
 
-  named-of : eqb (setNumber (judgement state year list row rec) / 2 ^ 17 % 2) 1 ≡ isSome (judgement state year list row rec .name)
-  named-of =
-      sym (bit-17 (setNumber (judgement state year list row rec)))
-      ∙ ap (hasCode 17) codes-of
-      ∙ code-17 state year list row rec
-      ∙ sym some-17
-
-  again-of : SoundOrNone row → (bytes : List ℕ) → judgement state year list row rec .name ≡ some bytes → nameIn (nameNumber bytes) ≡ bytes
+  again-of : SoundOrNone row → (bytes : List ℕ) → j .name ≡ some bytes → nameIn (nameNumber bytes) ≡ bytes
   again-of s bytes e =
-      let n = name-is state year list row rec bytes e in
+      let n = h .name-is bytes e in
       let k : SoundOrNone (some (n .0)) = subst SoundOrNone (n .1) s in
       let f : nameIn (nameNumber (columns 31 34 (n .0))) ≡ columns 31 34 (n .0) =
       four-back (columns 31 34 (n .0)) (name-width (n .0) (k .0)) (name-back (columns 31 34 (n .0)) (sound-columns (n .0) (k .1) .name-right)) in
@@ -280,11 +253,11 @@ module _ (state : List ℕ) (year : ℕ) (list : List ℕ) (row : Option (List �
 
 pub judged-set : (j : Judgement) → IsJudged j → JudgedSet j
 judged-set j i =
-    subst JudgedSet (i .judged)
+    let h : Judged (i .row) j = subst (Judged (i .row)) (i .judged) (judged (i .setting) (i .row) (i .rec)) in
     record {
-      codes-are = codes-of (i .state) (i .year) (i .list) (i .row) (i .rec);
-      errors-low = low-of (i .state) (i .year) (i .list) (i .row) (i .rec);
-      warnings-high = high-of (i .state) (i .year) (i .list) (i .row) (i .rec);
-      named = named-of (i .state) (i .year) (i .list) (i .row) (i .rec);
-      name-again = again-of (i .state) (i .year) (i .list) (i .row) (i .rec) (i .row-sound);
+      codes-are = codes-of (i .row) j h;
+      errors-low = low-of (i .row) j h;
+      warnings-high = high-of (i .row) j h;
+      named = named-of (i .row) j h;
+      name-again = again-of (i .row) j h (i .row-sound);
     }

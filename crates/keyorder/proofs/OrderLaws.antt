@@ -9,7 +9,7 @@ use lib.Dec.{ltb}
 use lib.ListN.{length, take, drop, getD, length-append, length-drop, length-map, List·getD-map}
 use lib.Seq.{getD-take, length-take-le, take-at, drop-at}
 use borrow.Author.Tests.{ltb-true, ltb-false}
-use Rattle.onecase.specs.Record.{recordKey}
+use Rattle.layout.specs.Record.{recordKey}
 use Rattle.sorting.specs.Sorting.{sorted}
 use Rattle.sorting.proofs.SortingLaws.{Different, length-sorted, sorted-has, has-sorted, sorted-strict}
 use Rattle.keyorder.specs.Order.{rankAt, detailAt, Before, indexIn, indexesIn, Ordered}
@@ -50,7 +50,8 @@ index-of x = omega arith
 index-zero : 0 ≡ indexIn 0
 index-zero = refl
 
-index-at : (d : ℕ) (s : List ℕ) (q : ℕ) → q < d → getD (indexesIn d s) q 0 ≡ indexIn (getD s q 0)
+-- the index in a number of the first d
+pub index-at : (d : ℕ) (s : List ℕ) (q : ℕ) → q < d → getD (indexesIn d s) q 0 ≡ indexIn (getD s q 0)
 index-at d s q l =
     ap (getD (indexesIn d s) q) index-zero ∙ List·getD-map indexIn (take d s) q 0 ∙ ap indexIn (getD-take d s q 0 l)
 

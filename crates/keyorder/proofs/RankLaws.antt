@@ -8,19 +8,20 @@ use lib.Dec.{eqb}
 use lib.ListN.{length, take, drop, getD, take-append-drop, drop-of-length-le}
 use lib.Seq.{drop-cons, drop-drop}
 use borrow.Author.Tests.{eqb-true, eq-eqb, ne-eqb, not-true, not-false}
-use Rattle.layout.specs.Characters.{A, N}
-use Rattle.layout.specs.Fields.{columns, sameBytes, areDigits, isZero, number}
+use Rattle.text.specs.Characters.{A, N}
+use Rattle.text.specs.Fields.{columns, sameBytes, areDigits, isZero, number}
 use Rattle.layout.specs.States.{isState}
 use Rattle.layout.specs.Ssn.{wrongSsn}
-use Rattle.layout.specs.Key.{isCaseType, isSoundKey, orderOf}
-use Rattle.layout.specs.declared.key.Order.the-variants.{Less}
-use Rattle.layout.proofs.FieldsLaws.{and-left, and-right, digits-width, digits-all}
-use Rattle.layout.proofs.NumberLaws.{number-below}
-use Rattle.layout.proofs.SameLaws.{same-eq}
-use Rattle.layout.proofs.KeyLaws.{order-lt, order-front, sound-length}
-use Rattle.onecase.proofs.BoolLaws.{or-left}
-use Rattle.keyorder.specs.Order.{isOwnKey, rankOf}
+use Rattle.layout.specs.Key.{isCaseType, isSoundKey, isOwnKey}
+use Rattle.text.proofs.FieldsLaws.{and-left, and-right, digits-width, digits-all}
+use Rattle.text.proofs.NumberLaws.{number-below}
+use Rattle.text.proofs.SameLaws.{same-eq}
+use Rattle.layout.proofs.KeyLaws.{sound-length}
+use Rattle.text.proofs.BoolLaws.{or-left}
+use Rattle.keyorder.specs.Order.{rankOf}
 use Rattle.keyorder.proofs.DigitOrder.{Stand, below, level, above, stand}
+use Rattle.text.specs.ByteOrder.{less, orderOf}
+use Rattle.text.proofs.ByteOrderLaws.{order-lt, order-front}
 
 -- ---- what a sound key of a state is
 
@@ -187,7 +188,7 @@ module _ (state k l : List ℕ) (hk : isOwnKey state k ≡ true) (hl : isOwnKey 
       go (above h) ek el mk ml = absurd (omega arith)
 
   -- a lesser rank, a lesser key
-  pub rank-less : rankOf state k < rankOf state l → orderOf k l ≡ Less
+  pub rank-less : rankOf state k < rankOf state l → orderOf k l ≡ less
   unfolding number
   rank-less e =
       ap (λ (z : List ℕ). orderOf z l) whole-k
@@ -196,7 +197,7 @@ module _ (state k l : List ℕ) (hk : isOwnKey state k ≡ true) (hl : isOwnKey 
       ∙ go stands (own-rank state k hk) (own-rank state l hl) (type-most tk) (type-most tl)
     where
       go : Stand 0 (ssn k) (ssn l) → rankOf state k ≡ number (ssn k) * 2 + typeRank tk → rankOf state l ≡ number (ssn l) * 2 + typeRank tl
-          → typeRank tk ≤ 1 → typeRank tl ≤ 1 → orderOf (ssn k ++ (tk ∷ [])) (ssn l ++ (tl ∷ [])) ≡ Less
+          → typeRank tk ≤ 1 → typeRank tl ≤ 1 → orderOf (ssn k ++ (tk ∷ [])) (ssn l ++ (tl ∷ [])) ≡ less
       go (below h o) ek el mk ml = o (tk ∷ []) (tl ∷ [])
       go (level p) ek el mk ml =
           let r : number (ssn k) ≡ number (ssn l) = ap number p in

@@ -3,18 +3,14 @@
 use Prim.Native.Nat.{ℕ, _+_, _*_, _/_, _%_, _^_, _≤_, _<_}
 use mathlib.Core.Path.{_≡_}
 use mathlib.Core.List.{List, [], map}
-use mathlib.Core.Bool.{Bool, cond, _&&_}
+use mathlib.Core.Bool.{cond}
 use mathlib.Core.Logic.{_⊎_}
 use lib.Dec.{eqb}
 use lib.ListN.{length, take, drop, getD}
-use Rattle.layout.specs.Characters.{N}
-use Rattle.layout.specs.Fields.{columns, sameBytes, number}
-use Rattle.layout.specs.Key.{isSoundKey}
-use Rattle.onecase.specs.Record.{recordKey}
-
--- a sound key of the submitting state: one free of 01, 02 and 04
-unfoldable pub isOwnKey : List ℕ → List ℕ → Bool
-isOwnKey state key = isSoundKey key && sameBytes (columns 1 2 key) state
+use Rattle.text.specs.Characters.{N}
+use Rattle.text.specs.Fields.{columns, number}
+use Rattle.layout.specs.Key.{isOwnKey}
+use Rattle.layout.specs.Record.{recordKey}
 
 -- above the rank of every such key
 abbrev pub noRank : ℕ

@@ -1,28 +1,18 @@
 // The details at some positions of the key order, worked through the machine.
+use crate::bits::INDEX_PLACE;
 use crate::packed;
-use crate::records;
+use layout::records;
 use onecase::case;
 use onecase::case::Case;
 ghost use mathlib.Core.Path.{_≡_};
 ghost use mathlib.Core.Option.{none};
 ghost use Prim.Native.Nat.{_-_, _*_, _+_, _≤_, _<_};
 ghost use lib.ListN.{length, getD};
-ghost use Rattle.layout.specs.Fields.{sameBytes};
-ghost use Rattle.onecase.specs.Record.{recordKey};
+ghost use Rattle.text.specs.Fields.{sameBytes};
 ghost use Rattle.onecase.specs.Machine.{next, rowOf};
 ghost use Rattle.keyorder.specs.Order.{indexIn};
-ghost use Rattle.keyorder.specs.KeyWork.{recordIn, Usable, IsKeyEnd, Marked, KeyRun, JudgedRun, makesRow};
-
-// 2 to the power 19: where a number's index begins.
-const INDEX: u64 = 0x80000;
-
-// The machine's state without a row.
-pub fn no_case() -> Case
-    ensures { λ r. ⌜ rowOf r ≡ none ⌝ }
-{
-    let row = [0x40u8; 200];
-    Case { held: false, row }
-}
+ghost use Rattle.keyorder.specs.KeyWork.{recordIn, keyIn, Usable, IsKeyEnd, Marked, KeyRun, JudgedRun, makesRow};
+ghost use Rattle.judging.specs.Setting.{settingOf};
 
 // The record at a position of the key order.
 pub fn record_in(batch: &[u8], numbers: &[u64], p: usize) -> [u8; 245]
@@ -35,15 +25,16 @@ pub fn record_in(batch: &[u8], numbers: &[u64], p: usize) -> [u8; 245]
 // The key of the detail at a position of the key order.
 pub fn key_in(batch: &[u8], numbers: &[u64], p: usize) -> [u8; 12]
     requires { ⌜ (p < length (now numbers)) × (indexIn (getD (now numbers) p 0) * 245 + 245 ≤ length (now batch)) ⌝ }
-    ensures { λ r. ⌜ r ≡ recordKey (recordIn (now (batch .entry)) (now (numbers .entry)) p) ⌝ }
+    ensures { λ r. ⌜ r ≡ keyIn (now (batch .entry)) (now (numbers .entry)) p ⌝ }
 {
     records::key_at(batch, packed::index_in(numbers[p]))
 }
 
 // Whether the details at two positions of the key order have one key.
 fn same_key_in(batch: &[u8], numbers: &[u64], p: usize, q: usize) -> bool
-    requires { ⌜ (p < length (now numbers)) × (indexIn (getD (now numbers) p 0) * 245 + 245 ≤ length (now batch)) × (q < length (now numbers)) × (indexIn (getD (now numbers) q 0) * 245 + 245 ≤ length (now batch)) ⌝ }
-    ensures { λ r. ⌜ r ≡ sameBytes (recordKey (recordIn (now (batch .entry)) (now (numbers .entry)) p)) (recordKey (recordIn (now (batch .entry)) (now (numbers .entry)) q)) ⌝ }
+    requires { ⌜ (p < length (now numbers)) × (indexIn (getD (now numbers) p 0) * 245 + 245 ≤ length (now batch)) ⌝ }
+    requires { ⌜ (q < length (now numbers)) × (indexIn (getD (now numbers) q 0) * 245 + 245 ≤ length (now batch)) ⌝ }
+    ensures { λ r. ⌜ r ≡ sameBytes (keyIn (now (batch .entry)) (now (numbers .entry)) p) (keyIn (now (batch .entry)) (now (numbers .entry)) q) ⌝ }
 {
     let first = packed::index_in(numbers[p]);
     let other = packed::index_in(numbers[q]);
@@ -77,16 +68,17 @@ fn work_detail(
     list: &[u8],
 ) -> Case
     requires { ⌜ (p < length (now numbers)) × (indexIn (getD (now numbers) p 0) < length (now numbers)) × (indexIn (getD (now numbers) p 0) * 245 + 245 ≤ length (now batch)) ⌝ }
-    ensures { λ r. ⌜ (rowOf r ≡ next (now (state .entry)) year (now (list .entry)) (rowOf case) (recordIn (now (batch .entry)) (now (numbers .entry)) p)) × Marked (now (state .entry)) year (now (list .entry)) (now (batch .entry)) p (rowOf case) (now (numbers .entry)) (now (numbers .exit)) ⌝ }
+    ensures { λ r. ⌜ rowOf r ≡ next (settingOf (now (state .entry)) year (now (list .entry))) (rowOf case) (recordIn (now (batch .entry)) (now (numbers .entry)) p) ⌝ }
+    ensures { λ r. ⌜ Marked (settingOf (now (state .entry)) year (now (list .entry))) (now (batch .entry)) p (rowOf case) (now (numbers .entry)) (now (numbers .exit)) ⌝ }
 {
     let i = packed::index_in(numbers[p]);
     let rec = records::record_at(batch, i);
     let step = case.step(&rec, state, year, list);
     let verdict = step.verdict;
-    let left = step.case;
+    let after = step.case;
     let index = packed::index_in(numbers[i]) as u64;
-    numbers[i] = packed::with_verdict(index * INDEX, verdict);
-    left
+    numbers[i] = packed::with_verdict(index * INDEX_PLACE, verdict);
+    after
 }
 
 // The details of one key, at positions p up to e, through the machine in batch order; the state that they leave is handed back.
@@ -101,7 +93,7 @@ pub fn work_key(
     list: &[u8],
 ) -> Case
     requires { ⌜ (p ≤ e) × Usable (now batch) (now numbers) e ⌝ }
-    ensures { λ r. ⌜ KeyRun (now (state .entry)) year (now (list .entry)) (now (batch .entry)) p (e - p) (rowOf case) (now (numbers .entry)) (rowOf r) (now (numbers .exit)) ⌝ }
+    ensures { λ r. ⌜ KeyRun (settingOf (now (state .entry)) year (now (list .entry))) (now (batch .entry)) p (e - p) (rowOf case) (now (numbers .entry)) (rowOf r) (now (numbers .exit)) ⌝ }
 {
     let mut c = case;
     let mut q = p;
@@ -123,17 +115,17 @@ pub fn judge_alone(
     list: &[u8],
 )
     requires { ⌜ (p ≤ e) × Usable (now batch) (now numbers) e ⌝ }
-    ensures { λ _. ⌜ JudgedRun (now (state .entry)) year (now (list .entry)) (now (batch .entry)) p (e - p) (now (numbers .entry)) (now (numbers .exit)) ⌝ }
+    ensures { λ _. ⌜ JudgedRun (settingOf (now (state .entry)) year (now (list .entry))) (now (batch .entry)) p (e - p) (now (numbers .entry)) (now (numbers .exit)) ⌝ }
 {
     let mut q = p;
     while q < e {
-        let _ = work_detail(no_case(), batch, numbers, q, state, year, list);
+        let _ = work_detail(case::no_case(), batch, numbers, q, state, year, list);
         q += 1;
     }
 }
 
 // Whether one of the details at positions p up to e makes a row from none.
-pub fn makes_row(
+pub fn some_makes_row(
     batch: &[u8],
     numbers: &[u64],
     p: usize,
@@ -143,7 +135,7 @@ pub fn makes_row(
     list: &[u8],
 ) -> bool
     requires { ⌜ (p ≤ e) × Usable (now batch) (now numbers) e ⌝ }
-    ensures { λ r. ⌜ r ≡ makesRow (now (state .entry)) year (now (list .entry)) (now (batch .entry)) (now (numbers .entry)) p (e - p) ⌝ }
+    ensures { λ r. ⌜ r ≡ makesRow (settingOf (now (state .entry)) year (now (list .entry))) (now (batch .entry)) (now (numbers .entry)) p (e - p) ⌝ }
 {
     let mut q = p;
     while q < e {

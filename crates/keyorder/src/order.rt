@@ -1,6 +1,8 @@
-// The indexes of a batch's details in the order of their keys.
+// The indexes of a batch's details in the order of their keys. What each number holds at each step stands in bits.rt.
+use crate::bits::INDEX_PLACE;
+use crate::bits::INDEXES;
 use crate::rank;
-use crate::records;
+use layout::records;
 use layout::states;
 use sorting::sorting::sort;
 ghost use mathlib.Core.Path.{_≡_};
@@ -8,20 +10,14 @@ ghost use mathlib.Core.Bool.{cond};
 ghost use Prim.Native.Nat.{_+_, _*_, _/_, _^_, _≤_, _<_};
 ghost use lib.Dec.{ltb};
 ghost use lib.ListN.{length, take, drop};
-ghost use Rattle.layout.specs.Blocks.{blocks};
+ghost use Rattle.text.specs.Blocks.{blocks};
 ghost use Rattle.layout.specs.States.{isState};
-ghost use Rattle.onecase.specs.Record.{recordKey};
+ghost use Rattle.layout.specs.Record.{recordKey};
 ghost use Rattle.keyorder.specs.Order.{rankOf, noRank, Ordered};
 ghost use Rattle.keyorder.specs.Numbers.{numberWith, Numbered, NotFalling, Stripped};
 
-// Above every index: the rank stands from here on.
-const INDEXES: u64 = 16777216;
-
-// The place of an index in a number of the verdict list.
-const INDEX_PLACE: u64 = 524288;
-
 // The rank of detail i and its index in one number.
-fn number_at(batch: &[u8], i: usize, state: &[u8], listed: bool) -> u64
+fn rank_and_index(batch: &[u8], i: usize, state: &[u8], listed: bool) -> u64
     requires { ⌜ (i * 245 + 245 ≤ length (now batch)) × (i < 2 ^ 24) × (listed ≡ isState (now state)) ⌝ }
     ensures { λ r. ⌜ r ≡ numberWith (rankOf (now (state .entry)) (recordKey (take 245 (drop (i * 245) (now (batch .entry)))))) i ⌝ }
 {
@@ -38,7 +34,7 @@ fn number_details(batch: &[u8], d: usize, state: &[u8], numbers: &mut [u64])
     let listed = states::is_state(state);
     let mut i: usize = 0;
     while i < d {
-        numbers[i] = number_at(batch, i, state, listed);
+        numbers[i] = rank_and_index(batch, i, state, listed);
         i += 1;
     }
 }

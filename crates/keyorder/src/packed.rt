@@ -1,5 +1,8 @@
-// A verdict beside an index in one number: bits 0 to 18 the set's low part, bits 19 to 42 the index, bits 43 to 63 the set's high
-// part or, with error 17, the four stored characters.
+// A verdict beside an index in one number; bits.rt shows the parts.
+use crate::bits::HIGH_PLACE;
+use crate::bits::INDEX_PLACE;
+use crate::bits::INDEXES;
+use crate::bits::NAMED;
 use onecase::verdict::FourBytes;
 use onecase::verdict::Verdict;
 ghost use mathlib.Core.Path.{_≡_};
@@ -8,23 +11,11 @@ ghost use Rattle.onecase.specs.Verdict.{fourBytes, meaning};
 ghost use Rattle.keyorder.specs.Order.{indexIn};
 ghost use Rattle.keyorder.specs.Packed.{characterCode, characterOf, nameNumber, nameIn, Packed, IsVerdictIn};
 
-// 2 to the power 19, the index's lowest bit.
-const INDEX: u64 = 0x80000;
-
-// 2 to the power 24, how many indices there are.
-const INDICES: u64 = 0x1000000;
-
-// 2 to the power 17, the bit of error 17.
-const NAMED: u64 = 0x20000;
-
-// 2 to the power 43, the high part's lowest bit.
-const HIGH: u64 = 0x80000000000;
-
 // The index that a number holds.
 pub fn index_in(number: u64) -> usize
     ensures { λ r. ⌜ (r ≡ indexIn number) × (r < 2 ^ 24) ⌝ }
 {
-    (number / INDEX % INDICES) as usize
+    (number / INDEX_PLACE % INDEXES) as usize
 }
 
 // Five bits for a letter, hyphen or space.
@@ -73,7 +64,7 @@ fn joined(number: u64, set: u64, high: u64) -> u64
     requires { ⌜ (number % 2 ^ 19 ≡ 0) × (number < 2 ^ 43) × (high < 2 ^ 21) ⌝ }
     ensures { λ r. ⌜ r ≡ number + set % 2 ^ 19 + high * 2 ^ 43 ⌝ }
 {
-    number + set % INDEX + high * HIGH
+    number + set % INDEX_PLACE + high * HIGH_PLACE
 }
 
 // An index alone, with a verdict beside it.
@@ -82,8 +73,8 @@ pub fn with_verdict(number: u64, v: Verdict) -> u64
     ensures { λ r. ⌜ Packed r (indexIn number) (meaning v) ⌝ }
 {
     match v {
-        Verdict::Accepted(set) => joined(number, set, set / HIGH),
-        Verdict::Rejected(set) => joined(number, set, set / HIGH),
+        Verdict::Accepted(set) => joined(number, set, set / HIGH_PLACE),
+        Verdict::Rejected(set) => joined(number, set, set / HIGH_PLACE),
         Verdict::RejectedWithName(set, name) => joined(number, set, name_number(name)),
     }
 }
@@ -92,13 +83,13 @@ pub fn with_verdict(number: u64, v: Verdict) -> u64
 pub fn verdict_in(number: u64) -> Verdict
     ensures { λ r. ⌜ IsVerdictIn number r ⌝ }
 {
-    let set = number % INDEX;
-    let high = number / HIGH;
+    let set = number % INDEX_PLACE;
+    let high = number / HIGH_PLACE;
     if set / NAMED % 2 == 1 {
         return Verdict::RejectedWithName(set, name_in(high));
     }
     if set != 0 {
         return Verdict::Rejected(set);
     }
-    Verdict::Accepted(high * HIGH)
+    Verdict::Accepted(high * HIGH_PLACE)
 }

@@ -1,18 +1,14 @@
 // The rank of a key among the submitting state's sound keys.
-use layout::fields;
-use layout::fields::Columns;
 use layout::key;
+use text::fields;
 ghost use mathlib.Core.Path.{_≡_};
 ghost use mathlib.Core.Bool.{cond};
 ghost use Prim.Native.Nat.{_≤_, _^_};
 ghost use lib.Dec.{eqb};
-ghost use Rattle.layout.specs.Characters.{N};
+ghost use Rattle.text.specs.Characters.{N};
 ghost use Rattle.layout.specs.States.{isState};
-ghost use Rattle.keyorder.specs.Order.{isOwnKey, rankOf};
-
-const STATE: Columns = Columns { first: 1, last: 2 };
-
-const SSN: Columns = Columns { first: 3, last: 11 };
+ghost use Rattle.keyorder.specs.Order.{rankOf};
+ghost use Rattle.layout.specs.Key.{isOwnKey};
 
 // Behind the ranks of all sound keys of one state.
 pub const NO_RANK: u64 = 2147483648;
@@ -25,7 +21,7 @@ fn is_own_key(state: &[u8], listed: bool, key: &[u8]) -> bool
     if key.len() != 12 {
         return false;
     }
-    if !fields::same(fields::field(key, STATE), state) {
+    if !fields::same(fields::field(key, key::STATE), state) {
         return false;
     }
     listed & key::is_sound_behind(key)
@@ -46,6 +42,6 @@ pub fn rank_of(state: &[u8], listed: bool, key: &[u8]) -> u64
     if !is_own_key(state, listed, key) {
         return NO_RANK;
     }
-    let ssn = fields::number_at(key, SSN);
+    let ssn = fields::number_at(key, key::SSN);
     ssn * 2 + type_rank(key[11])
 }

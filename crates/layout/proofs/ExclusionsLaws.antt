@@ -2,21 +2,20 @@
 use mathlib.Core.Path.{_≡_, refl, sym, _∙_}
 use mathlib.Core.Bool.{Bool, true, false, cond, or-true}
 use mathlib.Core.List.{List, [], _∷_, _++_}
-use mathlib.Core.Option.{none, some}
+use mathlib.Core.Option.{none}
 use Prim.Native.Nat.{ℕ, suc, _+_, _-_, _*_, _/_, _%_, _^_, _≤_, _<_}
 use native.Mathlib.Nat.{not-suc-le-zero}
 use native.Mathlib.Numerals.{add-one}
 use native.Mathlib.Omega.{arith}
-use borrow.Author.Tests.{lt-ltb, ltb-true}
-use lib.Bits.{bitOr, or-lt}
-use lib.Dec.{eqb, ltb}
+use borrow.Author.Tests.{lt-ltb}
+use lib.Bits.{bitOr}
+use lib.Dec.{eqb}
 use lib.ListN.{length, getD, take, drop, length-append, length-drop, drop-of-length-le}
-use lib.Pow.{pow-lt}
 use lib.Seq.{drop-cons, take-suc, getD-drop}
-use Rattle.layout.specs.Characters.{space, isByte}
-use Rattle.layout.specs.Fields.{every, isBlank, sameBytes, spaces}
-use Rattle.layout.specs.Exclusions.{exclusionNames, isSeparator, unlessEmpty, wordsFrom, placeAmong, readOnto, exclusionsOf, namesShown, exclusionColumns}
-use Rattle.layout.proofs.FieldsLaws.{and-left, and-right}
+use Rattle.text.specs.Characters.{space, isByte}
+use Rattle.text.specs.Fields.{every, isBlank, sameBytes, spaces}
+use Rattle.layout.specs.Exclusions.{exclusionNames, isSeparator, unlessEmpty, wordsFrom, placeAmong, readOnto, namesShown, exclusionColumns}
+use Rattle.text.proofs.FieldsLaws.{and-left, and-right}
 
 -- ---- words
 
@@ -102,23 +101,6 @@ module _ (set : ℕ) (word : List ℕ) (words : List (List ℕ)) (n : ℕ) (e : 
   unfolding readOnto
   read-fails h = rw (e, h)
 
-read-bound : (words : List (List ℕ)) (set r : ℕ) → set < 256 → readOnto set words ≡ some r → r < 256
-unfolding readOnto
-read-bound [] set r h e = let s : set ≡ r = cc in omega arith
-read-bound (word ∷ words) set r h e =
-    go (placeAmong word exclusionNames) (ltb (placeAmong word exclusionNames) 8) refl e
-    (λ k. read-bound words (bitOr set (2 ^ placeAmong word exclusionNames)) r k)
-  where
-    go : (n : ℕ) (t : Bool) → ltb n 8 ≡ t → cond t (readOnto (bitOr set (2 ^ n)) words) none ≡ some r
-        → (bitOr set (2 ^ n) < 256 → readOnto (bitOr set (2 ^ n)) words ≡ some r → r < 256) → r < 256
-    go n true t e rest = rest (or-lt 8 set (2 ^ n) h (pow-lt (ltb-true n 8 t))) e
-    go n false t e rest = let z : _≡_ {A = ℕ} 0 1 = cc in omega arith
-
--- a set has the eight bits alone
-pub set-bound : (s : List ℕ) (set : ℕ) → exclusionsOf s ≡ some set → set < 256
-unfolding exclusionsOf
-set-bound s set e = read-bound (wordsFrom [] s) 0 set (omega arith) e
-
 -- ---- the columns of a set
 
 pub shown-step : (set n : ℕ) → n < 8
@@ -131,6 +113,8 @@ shown-step set n h =
 pub shown-end : (set n : ℕ) → n ≡ 8 → namesShown set (drop n exclusionNames) ≡ []
 unfolding namesShown exclusionNames
 shown-end set n e = rw e
+
+-- ---- eight names of three columns each
 
 abbrev Threes : List (List ℕ) → Type 0
 Threes [] = Unit {0}

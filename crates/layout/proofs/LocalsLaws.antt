@@ -9,12 +9,12 @@ use native.Mathlib.Omega.{arith}
 use borrow.Author.Tests.{eq-eqb}
 use lib.ListN.{length, take, drop, length-drop, drop-of-length-le}
 use lib.Seq.{length-take-le, take-add, take-length}
-use Rattle.layout.specs.Characters.{isDigit}
-use Rattle.layout.specs.Fields.{every, allDigits, areDigits, sameBytes, isOneOf}
-use Rattle.layout.specs.Blocks.{blocks, everyBlock}
-use Rattle.layout.specs.Key.{rising}
+use Rattle.text.specs.Characters.{isDigit}
+use Rattle.text.specs.Fields.{every, allDigits, areDigits, sameBytes, isOneOf}
+use Rattle.text.specs.Blocks.{blocks}
 use Rattle.layout.specs.Locals.{codesOfList, isLocalList}
-use Rattle.layout.proofs.BlocksLaws.{length-blocks, blocks-next, blocks-whole, part-width}
+use Rattle.text.proofs.BlocksLaws.{length-blocks, blocks-next, blocks-whole, part-width}
+use Rattle.text.specs.ByteOrder.{rising}
 
 pub every-append : (f : ℕ → Bool) (a b : List ℕ) → every f (a ++ b) ≡ (every f a && every f b)
 every-append f [] b = refl
@@ -34,7 +34,7 @@ module _ (w : ℕ) where
 
   -- each of n codes is w digits where their bytes are digits
   pub digits-blocks : (n : ℕ) (xs : List ℕ) → n * w ≤ length xs
-      → everyBlock (areDigits w) (blocks w n xs) ≡ allDigits (take (n * w) xs)
+      → every (areDigits w) (blocks w n xs) ≡ allDigits (take (n * w) xs)
   unfolding blocks areDigits allDigits
   digits-blocks zero xs h = rw zero-mul
   digits-blocks (suc n) xs h =

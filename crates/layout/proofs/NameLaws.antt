@@ -8,7 +8,7 @@ use native.Mathlib.Numerals.{add-one}
 use native.Mathlib.Omega.{arith}
 use lib.ListN.{length, getD, drop, drop-of-length-le}
 use lib.Seq.{drop-cons}
-use Rattle.layout.specs.Fields.{isBlank}
+use Rattle.text.specs.Fields.{isBlank}
 use Rattle.layout.specs.Name.{isNameByte, isNameRest, isName}
 
 pub name-none : (s : List ℕ) → length s ≡ 0 → isName s ≡ false

@@ -11,11 +11,11 @@ use native.Mathlib.Omega.{arith}
 use borrow.Author.Tests.{ltb-true, eq-eqb, ne-eqb, eqb-true, eqb-false}
 use lib.Dec.{ltb, eqb}
 use lib.ListN.{length, getD, List·getD-map}
-use Rattle.layout.specs.Fields.{sameBytes, isOneOf}
+use Rattle.text.specs.Fields.{sameBytes, isOneOf}
 use Rattle.layout.specs.States.{stateTable, isState}
 use Rattle.layout.specs.StateCodes.{codeOf, stateCodes, risingNumbers, isIn, isStateCode}
-use Rattle.layout.proofs.FieldsLaws.{and-left, and-right}
-use Rattle.layout.proofs.SameLaws.{same-lengths}
+use Rattle.text.proofs.FieldsLaws.{and-left, and-right}
+use Rattle.text.proofs.SameLaws.{same-lengths}
 
 -- rising numbers
 
@@ -182,3 +182,14 @@ state-of-code s e h = one-of-codes s e h stateTable states-pairs
 pub state-other : (s : List ℕ) → (length s ≡ 2 → ⊥) → isState s ≡ false
 unfolding isState
 state-other s h = one-of-none s h stateTable states-pairs
+
+-- a state is two bytes
+pub state-wide : (state : List ℕ) → isState state ≡ true → length state ≡ 2
+state-wide state t = go (eqb (length state) 2) refl
+  where
+    go : (b : Bool) → eqb (length state) 2 ≡ b → length state ≡ 2
+    go true e = eqb-true (length state) 2 e
+    go false e =
+        let f : isState state ≡ false = state-other state (eqb-false (length state) 2 e) in
+        let z : _≡_ {A = ℕ} 0 1 = cc in
+        absurd (omega arith)

@@ -3,7 +3,7 @@ use Prim.Native.Nat.{ℕ, _%_}
 use mathlib.Core.List.{List}
 use mathlib.Core.Bool.{Bool, not, cond, _&&_, _||_}
 use lib.Dec.{eqb, leb}
-use Rattle.layout.specs.Fields.{columns, areDigits, number}
+use Rattle.text.specs.Fields.{columns, areDigits, number}
 
 -- every fourth year is a leap year, of the hundreds every fourth
 unfoldable pub isLeap : ℕ → Bool

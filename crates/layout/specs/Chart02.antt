@@ -1,7 +1,7 @@
 -- Chart 0-2, control record of the reject file (245 bytes): its columns, each named once. Assumes nothing.
 use Prim.Native.Nat.{ℕ}
 use mathlib.Core.List.{List}
-use Rattle.layout.specs.Fields.{columns}
+use Rattle.text.specs.Fields.{columns}
 
 abbrev pub rejectState : List ℕ → List ℕ
 rejectState rec = columns 1 2 rec

@@ -1,10 +1,10 @@
 -- Chart A-1, case submission and update record (245 bytes): its columns, each named once. Assumes nothing.
 use Prim.Native.Nat.{ℕ}
 use mathlib.Core.List.{List}
-use Rattle.layout.specs.Fields.{columns}
+use Rattle.text.specs.Fields.{columns}
 
-abbrev pub submittingState : List ℕ → List ℕ
-submittingState rec = columns 1 2 rec
+abbrev pub sentState : List ℕ → List ℕ
+sentState rec = columns 1 2 rec
 
 abbrev pub localCode : List ℕ → List ℕ
 localCode rec = columns 3 5 rec

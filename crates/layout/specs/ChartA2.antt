@@ -1,7 +1,7 @@
 -- Chart A-2, control record of a batch (245 bytes): its columns, each named once. Assumes nothing.
 use Prim.Native.Nat.{ℕ}
 use mathlib.Core.List.{List}
-use Rattle.layout.specs.Fields.{columns}
+use Rattle.text.specs.Fields.{columns}
 
 abbrev pub controlState : List ℕ → List ℕ
 controlState rec = columns 1 2 rec

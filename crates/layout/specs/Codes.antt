@@ -3,7 +3,7 @@ use Prim.Native.Nat.{ℕ, zero, suc, _+_, _/_, _%_, _^_, _≤_, _<_}
 use mathlib.Core.List.{List, [], _∷_, _++_}
 use mathlib.Core.Bool.{cond}
 use lib.Dec.{eqb}
-use Rattle.layout.specs.Characters.{space}
+use Rattle.text.specs.Characters.{space}
 
 -- the number of a set of codes: the sum of 2 to the power c over its codes c
 abbrev pub numberOfCodes : List ℕ → ℕ

@@ -5,8 +5,8 @@ use mathlib.Core.Bool.{Bool, cond, _||_}
 use mathlib.Core.Option.{Option, none, some}
 use lib.Bits.{bitOr}
 use lib.Dec.{eqb, ltb}
-use Rattle.layout.specs.Characters.{comma, space, A, C, D, E, F, I, K, L, M, N, P, R, S, T, «V», X}
-use Rattle.layout.specs.Fields.{sameBytes, spaces}
+use Rattle.text.specs.Characters.{comma, space, A, C, D, E, F, I, K, L, M, N, P, R, S, T, «V», X}
+use Rattle.text.specs.Fields.{sameBytes, spaces}
 use Rattle.layout.specs.declared.exclusions.Exclusions.{Exclusions}
 use Rattle.layout.specs.declared.exclusions.Exclusions.the-variants.{Set, Failure}
 

@@ -4,9 +4,9 @@ use mathlib.Core.List.{List}
 use mathlib.Core.Bool.{Bool, _&&_}
 use lib.ListN.{length}
 use lib.Dec.{eqb}
-use Rattle.layout.specs.Fields.{areDigits, isOneOf}
-use Rattle.layout.specs.Blocks.{blocks, everyBlock}
-use Rattle.layout.specs.Key.{rising}
+use Rattle.text.specs.Fields.{areDigits, isOneOf, every}
+use Rattle.text.specs.Blocks.{blocks}
+use Rattle.text.specs.ByteOrder.{rising}
 
 -- the codes of a list, three bytes each
 unfoldable pub codesOfList : List ℕ → List (List ℕ)
@@ -19,4 +19,4 @@ isListed code list = isOneOf code (codesOfList list)
 -- refusal 2 asks: three-digit codes, three bytes each, strictly rising; an empty list passes
 unfoldable pub isLocalList : List ℕ → Bool
 isLocalList list =
-    eqb (length list % 3) 0 && (everyBlock (areDigits 3) (codesOfList list) && rising (codesOfList list))
+    eqb (length list % 3) 0 && (every (areDigits 3) (codesOfList list) && rising (codesOfList list))

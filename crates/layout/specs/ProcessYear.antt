@@ -3,7 +3,7 @@ use Prim.Native.Nat.{ℕ, _+_}
 use mathlib.Core.List.{List}
 use mathlib.Core.Bool.{Bool, _&&_}
 use lib.Dec.{leb}
-use Rattle.layout.specs.Fields.{areDigits, number}
+use Rattle.text.specs.Fields.{areDigits, number}
 
 -- four digits Y with year − 7 ≤ Y ≤ year; the first bound is written so that nothing goes below zero
 unfoldable pub inWindow : ℕ → List ℕ → Bool

@@ -3,7 +3,7 @@ use Prim.Native.Nat.{ℕ}
 use mathlib.Core.List.{List}
 use mathlib.Core.Bool.{Bool, not, _&&_, _||_}
 use lib.Dec.{eqb, ltb}
-use Rattle.layout.specs.Fields.{columns, isZero, areDigits, number}
+use Rattle.text.specs.Fields.{columns, isZero, areDigits, number}
 
 -- area is the first three digits, group the next two, serial the last four
 abbrev pub area : List ℕ → ℕ

@@ -2,8 +2,8 @@
 use Prim.Native.Nat.{ℕ}
 use mathlib.Core.List.{List, [], _∷_}
 use mathlib.Core.Bool.{Bool}
-use Rattle.layout.specs.Characters.{A, C, D, E, F, G, H, I, J, K, L, M, N, O, P, R, S, T, U, «V», W, X, Y, Z}
-use Rattle.layout.specs.Fields.{isOneOf}
+use Rattle.text.specs.Characters.{A, C, D, E, F, G, H, I, J, K, L, M, N, O, P, R, S, T, U, «V», W, X, Y, Z}
+use Rattle.text.specs.Fields.{isOneOf}
 
 -- state table (54)
 unfoldable pub stateTable : List (List ℕ)

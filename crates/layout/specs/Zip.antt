@@ -4,7 +4,7 @@ use mathlib.Core.List.{List}
 use mathlib.Core.Bool.{Bool, _&&_, _||_}
 use lib.Dec.{eqb}
 use lib.ListN.{length}
-use Rattle.layout.specs.Fields.{columns, isBlank, allDigits}
+use Rattle.text.specs.Fields.{columns, isBlank, allDigits}
 
 -- a right ZIP is nine digits, or five and four spaces
 unfoldable pub isZip : List ℕ → Bool

@@ -1,6 +1,6 @@
 // Error 15: the Gregorian calendar of 1900–9999.
-use crate::fields;
-use crate::fields::Columns;
+use text::fields;
+use text::fields::Columns;
 ghost use mathlib.Core.Path.{_≡_};
 ghost use Rattle.layout.specs.Calendar.{isLeap, daysIn, isDay, isDate};
 

@@ -1,5 +1,5 @@
 // Chart 0-1: the reject record, and its columns.
-use crate::fields::Columns;
+use text::fields::Columns;
 
 pub const AS_SENT: Columns = Columns {
     first: 1,

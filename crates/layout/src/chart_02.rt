@@ -1,5 +1,5 @@
 // Chart 0-2: the control record of the reject file, and its columns.
-use crate::fields::Columns;
+use text::fields::Columns;
 
 pub const STATE: Columns = Columns { first: 1, last: 2 };
 

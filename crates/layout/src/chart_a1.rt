@@ -1,5 +1,5 @@
 // Chart A-1: the case submission and update record, and its columns.
-use crate::fields::Columns;
+use text::fields::Columns;
 
 pub const SUBMITTING_STATE: Columns = Columns { first: 1, last: 2 };
 

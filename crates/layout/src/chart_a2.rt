@@ -1,5 +1,5 @@
 // Chart A-2: the control record of a batch, and its columns.
-use crate::fields::Columns;
+use text::fields::Columns;
 
 pub const STATE: Columns = Columns { first: 1, last: 2 };
 

@@ -1,11 +1,11 @@
 // Error 16: exclusion words, and the set that they name.
-use crate::fields;
+use text::fields;
 ghost use mathlib.Core.Path.{_≡_};
 ghost use mathlib.Core.Bool.{true, false, cond};
 ghost use mathlib.Core.List.{[], _∷_};
 ghost use Prim.Native.Nat.{_<_, _≤_, _-_, _^_};
 ghost use lib.ListN.{length, getD, take, drop};
-ghost use Rattle.layout.specs.Fields.{isBlank, spaces};
+ghost use Rattle.text.specs.Fields.{isBlank, spaces};
 ghost use Rattle.layout.specs.Exclusions.{exclusionNames, isSeparator, wordsFrom, exclusionsOf, setRead, exclusionColumns};
 
 // What an exclusion field names: a set, bit 0 for ADM, or failure at a word that is none of the eight.

@@ -1,7 +1,6 @@
-// The layout of rows and records: characters, fields, tables, the leaf rules of a record's errors, rows, keys and codes.
+// The layout of records: the columns of the charts, tables, the rule of each field, keys, and sets of codes.
 // Each function answers a definition of specs/, in the file of its own name.
 pub mod calendar;
-pub mod characters;
 pub mod chart_01;
 pub mod chart_02;
 pub mod chart_06;
@@ -10,14 +9,13 @@ pub mod chart_a1;
 pub mod chart_a2;
 pub mod codes;
 pub mod exclusions;
-pub mod fields;
 pub mod key;
+pub mod limits;
 pub mod locals;
-pub mod master;
 pub mod name;
 pub mod process_year;
-pub mod row;
-pub mod search;
+pub mod record;
+pub mod records;
 pub mod ssn;
 pub mod states;
 pub mod zip;

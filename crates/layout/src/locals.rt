@@ -1,6 +1,7 @@
 // The list of local codes: three bytes each.
-use crate::fields;
 use crate::key;
+use text::byte_order;
+use text::fields;
 ghost use mathlib.Core.Path.{_≡_};
 ghost use Rattle.layout.specs.Locals.{isListed, isLocalList};
 
@@ -31,5 +32,5 @@ pub fn is_local_list(list: &[u8]) -> bool
     if !fields::all_digits(list) {
         return false;
     }
-    key::is_rising(list, list.len() / 3, 3, 3)
+    byte_order::is_rising(list, list.len() / 3, 3, 3)
 }

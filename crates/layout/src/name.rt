@@ -1,6 +1,6 @@
 // Error 05: the first four columns of a last name.
-use crate::characters;
-use crate::fields;
+use text::characters;
+use text::fields;
 ghost use mathlib.Core.Path.{_≡_};
 ghost use Rattle.layout.specs.Name.{isNameByte, isName, hasLetter};
 

@@ -1,5 +1,5 @@
 // Error 13: the process year.
-use crate::fields;
+use text::fields;
 ghost use mathlib.Core.Path.{_≡_};
 ghost use Rattle.layout.specs.ProcessYear.{inWindow};
 

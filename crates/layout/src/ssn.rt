@@ -1,6 +1,6 @@
 // Error 02: the SSN.
-use crate::fields;
-use crate::fields::Columns;
+use text::fields;
+use text::fields::Columns;
 ghost use mathlib.Core.Path.{_≡_};
 ghost use Rattle.layout.specs.Ssn.{wrongSsn};
 

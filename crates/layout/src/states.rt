@@ -1,5 +1,5 @@
 // The state table and membership in it.
-use crate::fields;
+use text::fields;
 ghost use mathlib.Core.Path.{_≡_};
 ghost use mathlib.Core.Bool.{true};
 ghost use Rattle.layout.specs.States.{stateTable, isState};

@@ -1,6 +1,6 @@
 // Error 14: the ZIP.
-use crate::fields;
-use crate::fields::Columns;
+use text::fields;
+use text::fields::Columns;
 ghost use mathlib.Core.Path.{_≡_};
 ghost use Rattle.layout.specs.Zip.{isZip};
 

@@ -1,15 +1,15 @@
 // Characters: the bytes at the boundaries of each class, and the members of each among all 256.
-use crate::print;
-use layout::characters::COMMA;
-use layout::characters::HYPHEN;
-use layout::characters::NINE;
-use layout::characters::SPACE;
-use layout::characters::ZERO;
-use layout::characters::is_digit;
-use layout::characters::is_letter;
-use layout::characters::is_within;
 use layout::key::is_case_type;
 use layout::name::is_name_byte;
+use text::characters::COMMA;
+use text::characters::HYPHEN;
+use text::characters::NINE;
+use text::characters::SPACE;
+use text::characters::ZERO;
+use text::characters::is_digit;
+use text::characters::is_letter;
+use text::characters::is_within;
+use vector_text::print;
 
 enum Class {
     Letter,

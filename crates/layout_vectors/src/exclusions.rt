@@ -1,10 +1,11 @@
 // Error 16: line (d) of document 01's table and the words beside it, in a field of forty columns; and the columns of a set.
+use crate::ebcdic;
 use crate::lists;
 use crate::lists::Subject;
-use crate::print;
 use layout::exclusions::Exclusions;
 use layout::exclusions::exclusion_columns;
 use layout::exclusions::read_exclusions;
+use vector_text::print;
 
 // What a field's words give.
 pub fn read(field: &[u8]) {
@@ -13,10 +14,6 @@ pub fn read(field: &[u8]) {
         Exclusions::Failure => print::text(b"failure"),
     }
     print::end();
-}
-
-fn words(texts: &[u8]) {
-    lists::each(b"words", Subject::Words, texts);
 }
 
 fn raw(field: &[u8]) {
@@ -31,20 +28,37 @@ fn columns(set: u8) {
     print::number(set as u64);
     print::text(b" ");
     let columns = exclusion_columns(set);
-    print::columns(&columns);
+    ebcdic::columns(&columns);
+}
+
+fn words() {
+    let table = b"words|RET,PAS FIN|,,TAX|RETPAS|                                        ";
+    lists::each(Subject::Words, table);
+    let names = b"words|ADM|RET|VEN|SAL|TAX|PAS|FIN|DCK";
+    lists::each(Subject::Words, names);
+    let twice = b"words|ADM,ADM ADM|FIN RET FIN,RET|ADM,,  DCK|DCK,,  ADM| SAL|, ,,  ,";
+    lists::each(Subject::Words, twice);
+    let last =
+        b"words|                                     DCK|,,,,,,,,,,,,,,,,,,,,,,,,,,,,,,,,,,,,,VEN";
+    lists::each(Subject::Words, last);
+    let all = b"words|ADM RET VEN SAL TAX PAS FIN DCK|ADM,RET,VEN,SAL,TAX,PAS,FIN,DCK,ADM,,RET";
+    lists::each(Subject::Words, all);
+}
+
+// Words that are none of the eight.
+fn other_words() {
+    let texts = b"words|RET,VEN,XYZ|XYZ,RET|RE|RETX|XRET|R ET|RET-PAS|ret|123";
+    lists::each(Subject::Words, texts);
+    let last =
+        b"words|                                      DC|ADM,RET,VEN,SAL,TAX,PAS,FIN,DCK,ADM,,REX";
+    lists::each(Subject::Words, last);
+    raw(b"\xD9\xC5\xE3\x00");
+    raw(b"\xD9\xC5\xE3");
 }
 
 pub fn vectors() {
-    words(b"RET,PAS FIN|,,TAX|RETPAS|                                        ");
-    words(b"ADM|RET|VEN|SAL|TAX|PAS|FIN|DCK");
-    words(b"ADM,ADM ADM|FIN RET FIN,RET|ADM,,  DCK|DCK,,  ADM| SAL|, ,,  ,");
-    words(b"                                     DCK|,,,,,,,,,,,,,,,,,,,,,,,,,,,,,,,,,,,,,VEN");
-    words(b"ADM RET VEN SAL TAX PAS FIN DCK|ADM,RET,VEN,SAL,TAX,PAS,FIN,DCK,ADM,,RET");
-    // words that are none of the eight
-    words(b"RET,VEN,XYZ|XYZ,RET|RE|RETX|XRET|R ET|RET-PAS|ret|123");
-    words(b"                                      DC|ADM,RET,VEN,SAL,TAX,PAS,FIN,DCK,ADM,,REX");
-    raw(b"\xD9\xC5\xE3\x00");
-    raw(b"\xD9\xC5\xE3");
+    words();
+    other_words();
     columns(0);
     columns(1);
     columns(98);

@@ -2,17 +2,18 @@
 use crate::ebcdic;
 use crate::lists;
 use crate::lists::Subject;
-use crate::print;
-use layout::fields::Columns;
-use layout::fields::all_digits;
-use layout::fields::copy;
-use layout::fields::copy_in;
-use layout::fields::field;
-use layout::fields::number_at;
-use layout::fields::number_of;
-use layout::fields::put;
-use layout::fields::put_number;
-use layout::fields::same;
+use text::fields::Columns;
+use text::fields::all_digits;
+use text::fields::copy;
+use text::fields::copy_in;
+use text::fields::field;
+use text::fields::number_at;
+use text::fields::number_of;
+use text::fields::put;
+use text::fields::put_number;
+use text::fields::same;
+use vector_text::ebcdic::write;
+use vector_text::print;
 
 // The number of a whole field.
 pub fn value(s: &[u8]) {
@@ -42,37 +43,51 @@ fn nine_wide(n: u64) {
     print::text(b"nine digits of ");
     print::number(n);
     print::text(b" ");
-    print::columns(&s);
+    ebcdic::columns(&s);
 }
 
 fn parts() {
-    let mut s = [0x40u8; 8];
-    ebcdic::write(b"ABCDEFGH", &mut s);
+    let s = letters();
     print::text(b"columns 1-8 ");
-    print::columns(field(&s, Columns { first: 1, last: 8 }));
+    ebcdic::columns(field(&s, Columns { first: 1, last: 8 }));
     print::text(b"columns 3-5 ");
-    print::columns(field(&s, Columns { first: 3, last: 5 }));
+    ebcdic::columns(field(&s, Columns { first: 3, last: 5 }));
     print::text(b"columns 8-8 ");
-    print::columns(field(&s, Columns { first: 8, last: 8 }));
+    ebcdic::columns(field(&s, Columns { first: 8, last: 8 }));
 }
 
-fn changes() {
+fn letters() -> [u8; 8] {
     let mut s = [0x40u8; 8];
-    ebcdic::write(b"ABCDEFGH", &mut s);
+    write(b"ABCDEFGH", &mut s);
+    s
+}
+
+fn with_two_put() -> [u8; 8] {
+    let mut s = letters();
     put(&mut s, Columns { first: 3, last: 4 }, b"\xE7\xE8");
-    print::text(b"XY put in 3-4 ");
-    print::columns(&s);
+    s
+}
+
+fn with_three_copied() -> [u8; 8] {
+    let mut s = with_two_put();
     copy(
         &mut s,
         Columns { first: 6, last: 8 },
         b"\xF0\xF1\xF2\xF3\xF4",
         Columns { first: 2, last: 4 },
     );
+    s
+}
+
+fn changes() {
+    print::text(b"XY put in 3-4 ");
+    ebcdic::columns(&with_two_put());
     print::text(b"2-4 of 01234 copied to 6-8 ");
-    print::columns(&s);
+    let mut s = with_three_copied();
+    ebcdic::columns(&s);
     copy_in(&mut s, 0, b"\xE9");
     print::text(b"Z copied in at 0 ");
-    print::columns(&s);
+    ebcdic::columns(&s);
 }
 
 fn equal(a: &[u8], b: &[u8]) {
@@ -83,10 +98,10 @@ fn equal(a: &[u8], b: &[u8]) {
 
 fn numbers() {
     let texts =
-        b"00000000125|99999999999|10000000001|00000000000|0000000012A|00000025|7|999999999999999999";
-    lists::each(b"number", Subject::Number, texts);
-    let inside = b"AB00000000125CD|0099999999999 1|AB0000000012 CD|AB 0000000012CD";
-    lists::each(b"number in 3-13", Subject::NumberInside, inside);
+        b"number|00000000125|99999999999|10000000001|00000000000|0000000012A|00000025|7|999999999999999999";
+    lists::each(Subject::Number, texts);
+    let inside = b"number in 3-13|AB00000000125CD|0099999999999 1|AB0000000012 CD|AB 0000000012CD";
+    lists::each(Subject::NumberInside, inside);
     nine_wide(0);
     nine_wide(125);
     nine_wide(999999999);
@@ -94,16 +109,20 @@ fn numbers() {
     nine_wide(1234567890123);
 }
 
-pub fn vectors() {
-    lists::each(b"blank", Subject::Blank, b"    | |   A|A   | 0  | -  ||");
-    let texts = b"2007|0000|9999|20 7|200A|A007|    |200|20077||";
-    lists::each(b"four digits", Subject::Digits(4), texts);
-    numbers();
-    parts();
-    changes();
+fn equals() {
     equal(b"OH", b"OH");
     equal(b"OH", b"OK");
     equal(b"OH", b"PH");
     equal(b"OH", b"O");
     equal(b"", b"");
+}
+
+pub fn vectors() {
+    lists::each(Subject::Blank, b"blank|    | |   A|A   | 0  | -  ||");
+    let texts = b"four digits|2007|0000|9999|20 7|200A|A007|    |200|20077||";
+    lists::each(Subject::Digits(4), texts);
+    numbers();
+    parts();
+    changes();
+    equals();
 }

@@ -4,20 +4,19 @@ ghost use lib.ListN.{length};
 use crate::ebcdic;
 use crate::exclusions;
 use crate::fields;
-use crate::key;
 use crate::locals;
 use crate::name;
-use crate::print;
-use crate::row;
 use layout::calendar::is_date;
-use layout::fields::are_digits;
-use layout::fields::is_blank;
-use layout::key::is_sound_key;
 use layout::locals::is_local_list;
 use layout::process_year::in_window;
 use layout::ssn::wrong_ssn;
 use layout::states::is_state;
 use layout::zip::is_zip;
+use text::fields::are_digits;
+use text::fields::is_blank;
+use vector_text::ebcdic::write;
+use vector_text::lists::text_end;
+use vector_text::print;
 
 // What a text is tried as.
 pub enum Subject {
@@ -36,11 +35,6 @@ pub enum Subject {
     Words,
     LocalList,
     Listed,
-    Key,
-    Order,
-    Rising(usize),
-    Row(usize),
-    DeletedRow(usize),
 }
 
 // Whether the bytes are what the subject says; false for the subjects with other answers.
@@ -57,7 +51,6 @@ fn holds(subject: Subject, s: &[u8]) -> bool {
         Subject::ProcessYear(year) => in_window(year, s),
         Subject::LocalList => is_local_list(s),
         Subject::Listed => locals::is_listed(s),
-        Subject::Key => is_sound_key(s),
         _ => false,
     }
 }
@@ -65,36 +58,22 @@ fn holds(subject: Subject, s: &[u8]) -> bool {
 // The line of one text, in a field of forty columns with spaces behind it.
 fn vector(name: &[u8], subject: Subject, text: &[u8]) {
     let mut field = [0x40u8; 40];
-    let n = ebcdic::write(text, &mut field);
+    let n = write(text, &mut field);
     print::subject(name, text);
     match subject {
         Subject::Ebcdic => ebcdic::both_ways(&field[..n]),
         Subject::Number => fields::value(&field[..n]),
         Subject::NumberInside => fields::value_inside(&field),
         Subject::Words => exclusions::read(&field),
-        Subject::Order => key::order(text),
-        Subject::Rising(n) => print::answer(key::is_rising_by_two(&field, n)),
-        Subject::Row(column) => print::answer(row::is_live_row_sound(column, text)),
-        Subject::DeletedRow(column) => print::answer(row::is_deleted_row_sound(column, text)),
         _ => print::answer(holds(subject, &field[..n])),
     }
 }
 
-// The end of the text that starts at `at`.
-fn text_end(list: &[u8], at: usize) -> usize
-    requires { ⌜ at ≤ length (now list) ⌝ }
-    ensures { λ r. ⌜ (at ≤ r) × (r ≤ length (now (list .entry))) ⌝ }
+// A line for each text from `start` on. A bar at the end of the list ends its last text and starts none.
+fn each_from(name: &[u8], subject: Subject, list: &[u8], start: usize)
+    requires { ⌜ start ≤ length (now list) ⌝ }
 {
-    let mut end = at;
-    while end < list.len() && list[end] != b'|' {
-        end += 1;
-    }
-    end
-}
-
-// A line for each text of a list. A bar at the end of the list ends its last text and starts none.
-pub fn each(name: &[u8], subject: Subject, list: &[u8]) {
-    let mut at = 0;
+    let mut at = start;
     while at < list.len() {
         let end = text_end(list, at);
         vector(name, subject, &list[at..end]);
@@ -102,5 +81,13 @@ pub fn each(name: &[u8], subject: Subject, list: &[u8]) {
             return;
         }
         at = end + 1;
+    }
+}
+
+// A line for each text of a list, whose first is the name of what is tried.
+pub fn each(subject: Subject, list: &[u8]) {
+    let end = text_end(list, 0);
+    if end < list.len() {
+        each_from(&list[0..end], subject, list, end + 1);
     }
 }

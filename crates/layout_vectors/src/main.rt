@@ -1,17 +1,15 @@
-// Vectors of the crate layout, worked by hand from the papers: a line for each, compared with the file stdout.
+// Vectors of the crate layout for single fields and for sets of codes, worked by hand from the papers: a line for each, compared with the
+// file stdout. Keys and rows have a program of their own.
 mod calendar;
 mod characters;
 mod codes;
 mod ebcdic;
 mod exclusions;
 mod fields;
-mod key;
 mod lists;
 mod locals;
 mod name;
-mod print;
 mod process_year;
-mod row;
 mod ssn;
 mod states;
 mod zip;
@@ -28,7 +26,5 @@ fn main() {
     process_year::vectors();
     exclusions::vectors();
     locals::vectors();
-    key::vectors();
-    row::vectors();
     codes::vectors();
 }

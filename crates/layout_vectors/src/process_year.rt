@@ -2,28 +2,17 @@
 use crate::lists;
 use crate::lists::Subject;
 
+fn in_year(year: u64, texts: &[u8]) {
+    lists::each(Subject::ProcessYear(year), texts);
+}
+
 pub fn vectors() {
-    let texts = b"1999|2000|2001|2006|2007|2008|0000|9999|20 7|200A|    |200|20000||";
-    lists::each(b"process year in 2007", Subject::ProcessYear(2007), texts);
-    lists::each(
-        b"process year in 1900",
-        Subject::ProcessYear(1900),
-        b"1892|1893",
-    );
-    lists::each(
-        b"process year in 9999",
-        Subject::ProcessYear(9999),
-        b"9991|9992|9999",
-    );
-    lists::each(
-        b"process year in 3",
-        Subject::ProcessYear(3),
-        b"0000|0003|0004",
-    );
-    lists::each(b"process year in 8", Subject::ProcessYear(8), b"0000|0001");
-    lists::each(
-        b"process year in 2^64-1",
-        Subject::ProcessYear(18446744073709551615),
-        b"9999",
-    );
+    let years =
+        b"process year in 2007|1999|2000|2001|2006|2007|2008|0000|9999|20 7|200A|    |200|20000||";
+    in_year(2007, years);
+    in_year(1900, b"process year in 1900|1892|1893");
+    in_year(9999, b"process year in 9999|9991|9992|9999");
+    in_year(3, b"process year in 3|0000|0003|0004");
+    in_year(8, b"process year in 8|0000|0001");
+    in_year(18446744073709551615, b"process year in 2^64-1|9999");
 }

@@ -1,12 +1,12 @@
 // The state table: the codes among all pairs of upper case letters, and texts beside them.
-use crate::ebcdic;
 use crate::lists;
 use crate::lists::Subject;
-use crate::print;
 use layout::states::is_state;
+use vector_text::ebcdic::from_ascii;
+use vector_text::print;
 
 fn show(first: u8, second: u8) {
-    let code = [ebcdic::from_ascii(first), ebcdic::from_ascii(second)];
+    let code = [from_ascii(first), from_ascii(second)];
     if is_state(&code) {
         let text = [b' ', first, second];
         print::text(&text);
@@ -33,6 +33,6 @@ pub fn vectors() {
     print::text(b"states");
     all_pairs();
     print::end();
-    let texts = b"AA|AJ|AK|AL|NY|NZ|OG|OH|OI|OJ|OK|OL|WX|WY|WZ|ZZ|HO|oh|Oh|  |O |00|O|OHI||";
-    lists::each(b"state", Subject::State, texts);
+    let texts = b"state|AA|AJ|AK|AL|NY|NZ|OG|OH|OI|OJ|OK|OL|WX|WY|WZ|ZZ|HO|oh|Oh|  |O |00|O|OHI||";
+    lists::each(Subject::State, texts);
 }

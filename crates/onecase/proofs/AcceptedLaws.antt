@@ -1,16 +1,15 @@
 -- What a record without an error has in its fields, as far as a row's soundness needs it. Assumes nothing.
-use Prim.Native.Nat.{ℕ, _+_, _-_, _≤_}
-use mathlib.Core.Path.{_≡_, refl, ap, _∙_}
-use mathlib.Core.List.{List, [], _++_, append-assoc}
+use Prim.Native.Nat.{ℕ, _≤_}
+use mathlib.Core.Path.{_≡_, refl, _∙_}
+use mathlib.Core.List.{List}
 use mathlib.Core.Bool.{Bool, true, false, not, cond, _&&_, _||_}
 use mathlib.Core.Option.{Option}
 use native.Mathlib.Omega.{arith}
 use borrow.Author.Tests.{not-false, ltb-false}
-use lib.Dec.{ltb, lit≤}
-use lib.ListN.{length, getD, length-append}
-use lib.Seq.{getD-append-add}
-use Rattle.layout.specs.Characters.{isDigit, A, B, L, M, S}
-use Rattle.layout.specs.Fields.{columns, isBlank, isZero, allDigits, areDigits, number, sameBytes}
+use lib.Dec.{ltb}
+use lib.ListN.{length}
+use Rattle.text.specs.Characters.{isDigit, A, B, L, M, S}
+use Rattle.text.specs.Fields.{columns, isBlank, isZero, allDigits, areDigits, number, sameBytes}
 use Rattle.layout.specs.States.{isState}
 use Rattle.layout.specs.Ssn.{wrongSsn}
 use Rattle.layout.specs.Name.{isName, hasLetter}
@@ -18,25 +17,25 @@ use Rattle.layout.specs.ProcessYear.{inWindow}
 use Rattle.layout.specs.Locals.{isListed, isLocalList}
 use Rattle.layout.specs.Key.{isCaseType, isSoundKey}
 use Rattle.layout.specs.ChartA1.{localCode, arrearage, processYear}
-use Rattle.layout.proofs.FieldsLaws.{and-left, one-column}
-use Rattle.layout.proofs.SameLaws.{same-eq}
-use Rattle.onecase.specs.Record.{recordKey, isType, caseTypeOf}
-use Rattle.onecase.specs.Errors.{error01, error02, error04, error05, error07, error08, error09, error10, error13, isWrongKey, isLiveRow, judged09, isLocalCode, noLocalCode}
+use Rattle.text.proofs.FieldsLaws.{and-left}
+use Rattle.text.proofs.SameLaws.{same-eq}
+use Rattle.layout.specs.Record.{recordKey, isType, caseTypeOf}
+use Rattle.judging.specs.Errors.{error01, error02, error04, error05, error07, error08, error09, error10, error13, isWrongKey, isLiveRow, judged09, isLocalCode, zeroLocalCode}
 use Rattle.onecase.specs.Changes.{addedLocalCode}
-use Rattle.onecase.proofs.BoolLaws.{or-left, or-right, and-second}
+use Rattle.text.proofs.BoolLaws.{or-left, or-right, and-second}
 use Rattle.onecase.proofs.JudgementLaws.{NoError}
-use Rattle.onecase.proofs.ColumnsLaws.{columns-between}
 use Rattle.onecase.proofs.DigitsLaws.{number-not-zero, listed-digits}
-use Rattle.onecase.proofs.ChangesLaws.{length-sent, key-length}
+use Rattle.judging.specs.Setting.{Setting}
+use Rattle.judging.proofs.OwnKeyLaws.{own-sound}
 
-module _ {state : List ℕ} {year : ℕ} {list : List ℕ} {row : Option (List ℕ)} {rec : List ℕ} (n : NoError state year list row rec) where
+module _ {setting : Setting} {row : Option (List ℕ)} {rec : List ℕ} (n : NoError setting row rec) where
   -- ---- the key
 
   pub state-right : isState (columns 1 2 rec) ≡ true
   unfolding error01
   state-right =
       not-false (isState (columns 1 2 rec))
-      (or-left (not (isState (columns 1 2 rec))) (not (sameBytes (columns 1 2 rec) state)) (n .no01))
+      (or-left (not (isState (columns 1 2 rec))) (not (sameBytes (columns 1 2 rec) (setting .state))) (n .no01))
 
   pub ssn-right : wrongSsn (columns 6 14 rec) ≡ false
   unfolding error02
@@ -86,68 +85,41 @@ module _ {state : List ℕ} {year : ℕ} {list : List ℕ} {row : Option (List �
   unfolding error13 inWindow
   year-digits s =
       and-left (areDigits 4 (processYear rec)) _
-      (not-false (inWindow year (processYear rec)) (and-second (isType S rec) (not (inWindow year (processYear rec))) s (n .no13)))
+      (not-false (inWindow (setting .year) (processYear rec)) (and-second (isType S rec) (not (inWindow (setting .year) (processYear rec))) s (n .no13)))
 
   -- ---- the row
 
   pub live-row : isType A rec ≡ false → isLiveRow row ≡ true
   unfolding judged09 error09 isWrongKey
   live-row a =
-      let w : isWrongKey state rec ≡ false = rw (n .no01, n .no02, n .no04) in
+      let w : isWrongKey setting rec ≡ false = rw (n .no01, n .no02, n .no04) in
       not-false (isLiveRow row) (rw (n .no03, w, a) at (n .no09))
 
   -- ---- the key of a fresh row
 
-  module _ (e : length rec ≡ 245) where
-    state-length : length (columns 1 2 rec) ≡ 2
-    state-length = length-sent rec e 1 2 (lit≤ tt) (lit≤ tt) (lit≤ tt)
-
-    ssn-length : length (columns 6 14 rec) ≡ 9
-    ssn-length = length-sent rec e 6 14 (lit≤ tt) (lit≤ tt) (lit≤ tt)
-
-    key-state : columns 1 2 (recordKey rec) ≡ columns 1 2 rec
-    key-state =
-        ap (columns 1 2) (append-assoc (columns 1 2 rec) (columns 6 14 rec) (columns 74 74 rec))
-        ∙ columns-between 1 2 [] (columns 1 2 rec) (columns 6 14 rec ++ columns 74 74 rec) refl (omega (arith, state-length))
-
-    key-ssn : columns 3 11 (recordKey rec) ≡ columns 6 14 rec
-    key-ssn =
-        columns-between 3 11 (columns 1 2 rec) (columns 6 14 rec) (columns 74 74 rec)
-        (omega (arith, state-length)) (omega (arith, state-length, ssn-length))
-
-    key-case-type : getD (recordKey rec) 11 0 ≡ caseTypeOf rec
-    key-case-type =
-        let front : List ℕ = columns 1 2 rec ++ columns 6 14 rec in
-        let l : length front ≡ 11 = simp length-append (omega (arith, state-length, ssn-length)) in
-        let z : 11 ≡ length front + 0 = omega arith in
-        ap (λ (k : ℕ). getD (recordKey rec) k 0) z
-        ∙ getD-append-add front (columns 74 74 rec) 0 0
-        ∙ one-column 74 rec (lit≤ tt)
-
-    pub key-sound : isSoundKey (recordKey rec) ≡ true
-    unfolding isSoundKey
-    key-sound =
-        rw (key-length rec e, key-state, key-ssn, key-case-type, state-right, ssn-right, case-type-right)
+  pub key-sound : length rec ≡ 245 → isSoundKey (recordKey rec) ≡ true
+  unfolding isWrongKey
+  key-sound e = own-sound setting rec e (rw (n .no01, n .no02, n .no04))
 
   -- ---- the local code
 
-  pub relocated-digits : isLocalList list ≡ true → isType L rec ≡ true
-      → allDigits (cond (isBlank (localCode rec)) noLocalCode (localCode rec)) ≡ true
+  pub relocated-digits : isLocalList (setting .list) ≡ true → isType L rec ≡ true
+      → allDigits (cond (isBlank (localCode rec)) zeroLocalCode (localCode rec)) ≡ true
   unfolding error10 isLocalCode allDigits isDigit
   relocated-digits w t =
-      go (isBlank (localCode rec)) (sameBytes (localCode rec) noLocalCode) (isListed (localCode rec) list) refl refl
-      (not-false (isLocalCode list rec) (and-second (isType L rec) (not (isLocalCode list rec)) t (n .no10)))
+      go (isBlank (localCode rec)) (sameBytes (localCode rec) zeroLocalCode) (isListed (localCode rec) (setting .list)) refl refl
+      (not-false (isLocalCode (setting .list) rec) (and-second (isType L rec) (not (isLocalCode (setting .list) rec)) t (n .no10)))
     where
-      go : (a b c : Bool) → sameBytes (localCode rec) noLocalCode ≡ b → isListed (localCode rec) list ≡ c → (a || b || c) ≡ true
-          → allDigits (cond a noLocalCode (localCode rec)) ≡ true
+      go : (a b c : Bool) → sameBytes (localCode rec) zeroLocalCode ≡ b → isListed (localCode rec) (setting .list) ≡ c → (a || b || c) ≡ true
+          → allDigits (cond a zeroLocalCode (localCode rec)) ≡ true
       go true b c f g h = refl
-      go false true c f g h = rw (same-eq (localCode rec) noLocalCode f)
-      go false false c f g h = listed-digits (localCode rec) list w (g ∙ h)
+      go false true c f g h = rw (same-eq (localCode rec) zeroLocalCode f)
+      go false false c f g h = listed-digits (localCode rec) (setting .list) w (g ∙ h)
 
 pub added-digits : (list rec : List ℕ) → isLocalList list ≡ true → allDigits (addedLocalCode list rec) ≡ true
 unfolding addedLocalCode allDigits isDigit
 added-digits list rec w = go (isListed (localCode rec) list) refl
   where
-    go : (b : Bool) → isListed (localCode rec) list ≡ b → allDigits (cond b (localCode rec) noLocalCode) ≡ true
+    go : (b : Bool) → isListed (localCode rec) list ≡ b → allDigits (cond b (localCode rec) zeroLocalCode) ≡ true
     go true e = listed-digits (localCode rec) list w e
     go false e = refl

@@ -1,22 +1,22 @@
 -- What each type of record writes into a row, as a list of fields: they fit, so that a row of 200 bytes stays one, and all but a fresh
 -- row's leave the key. Assumes nothing.
-use Prim.Native.Nat.{ℕ, _+_, _-_, _≤_}
+use Prim.Native.Nat.{ℕ, _≤_}
 use mathlib.Core.Path.{_≡_, refl, _∙_}
 use mathlib.Core.List.{List, [], _∷_}
 use mathlib.Core.Bool.{Bool, true, false, not, cond}
 use native.Mathlib.Omega.{arith}
 use lib.Dec.{lit≤}
-use lib.ListN.{length, length-append}
+use lib.ListN.{length}
 use lib.Seq.{take-all}
-use Rattle.layout.specs.Characters.{D}
-use Rattle.layout.specs.Fields.{columns, isBlank, isZero, spaces}
+use Rattle.text.specs.Characters.{D}
+use Rattle.text.specs.Fields.{columns, isBlank, isZero, spaces}
 use Rattle.layout.specs.Locals.{isListed}
 use Rattle.layout.specs.ChartA1.{localCode, caseId, lastName, firstName, arrearage, transferState, transferLocalCode, processYear, dateIssued}
-use Rattle.layout.proofs.FieldsLaws.{length-columns}
-use Rattle.onecase.specs.Record.{recordKey}
-use Rattle.onecase.specs.Errors.{noLocalCode}
+use Rattle.layout.specs.Record.{recordKey}
+use Rattle.judging.specs.Errors.{zeroLocalCode}
 use Rattle.onecase.specs.Changes.{zeros, address, exclusionByte, addedLocalCode, freshRow, recertified, renamed, reidentified, deleted, relocated, amended, excluded, paid, transferred, readdressed}
-use Rattle.onecase.proofs.ColumnsLaws.{Put, put, putUnless, written, length-written, columns-written, isFree, columns-free, Fits, AllFit, isAsWide, fits-columns}
+use Rattle.text.proofs.ColumnsLaws.{Put, put, putUnless, written, length-written, columns-written, isFree, columns-free, Fits, AllFit, isAsWide, fits-columns}
+use Rattle.layout.proofs.RecordLaws.{length-sent, key-length}
 
 -- ---- the fields
 
@@ -42,7 +42,7 @@ abbrev pub deletedPuts : List Put
 deletedPuts = put 196 196 (D ∷ []) ∷ put 66 73 (zeros 8) ∷ []
 
 abbrev pub relocatedPuts : List ℕ → List Put
-relocatedPuts rec = put 13 15 (cond (isBlank (localCode rec)) noLocalCode (localCode rec)) ∷ []
+relocatedPuts rec = put 13 15 (cond (isBlank (localCode rec)) zeroLocalCode (localCode rec)) ∷ []
 
 abbrev pub amendedPuts : List ℕ → List Put
 amendedPuts rec = putUnless (not (isZero (arrearage rec))) 196 196 (D ∷ []) ∷ put 66 73 (arrearage rec) ∷ []
@@ -118,23 +118,12 @@ module _ (rec : List ℕ) (e : length rec ≡ 245) where
   sent : (keep : Bool) (first last a z : ℕ) → isAsWide 200 first last 245 a z ≡ true → Fits 200 (putUnless keep first last (columns a z rec))
   sent keep first last a z t = fits-columns 200 first last 245 a z keep rec e t
 
-  -- the width of a field sent
-  pub length-sent : (a z : ℕ) → 1 ≤ a → a ≤ z + 1 → z ≤ 245 → length (columns a z rec) ≡ z + 1 - a
-  length-sent a z l o h = length-columns a z rec (record { low = l; ordered = o; high = omega arith })
-
-  pub key-length : length (recordKey rec) ≡ 12
-  key-length =
-      let a = length-sent 1 2 (lit≤ tt) (lit≤ tt) (lit≤ tt) in
-      let b = length-sent 6 14 (lit≤ tt) (lit≤ tt) (lit≤ tt) in
-      let c = length-sent 74 74 (lit≤ tt) (lit≤ tt) (lit≤ tt) in
-      simp length-append (omega arith)
-
   local-length : length (localCode rec) ≡ 3
-  local-length = length-sent 3 5 (lit≤ tt) (lit≤ tt) (lit≤ tt)
+  local-length = length-sent rec e 3 5 (lit≤ tt) (lit≤ tt) (lit≤ tt)
 
   added-length : (list : List ℕ) → length (addedLocalCode list rec) ≡ 3
   unfolding addedLocalCode
-  added-length list = cond-length 3 (isListed (localCode rec) list) (localCode rec) noLocalCode local-length refl
+  added-length list = cond-length 3 (isListed (localCode rec) list) (localCode rec) zeroLocalCode local-length refl
 
   added-fits : (list : List ℕ) → Fits 200 (put 13 15 (addedLocalCode list rec))
   added-fits list = record { low = lit≤ tt; wide = omega (arith, added-length list); high = lit≤ tt }
@@ -145,7 +134,7 @@ module _ (rec : List ℕ) (e : length rec ≡ 245) where
 
   pub fresh-fit : (list : List ℕ) → AllFit 200 (freshPuts list rec)
   fresh-fit list = (
-    record { low = lit≤ tt; wide = omega (arith, key-length); high = lit≤ tt },
+    record { low = lit≤ tt; wide = omega (arith, key-length rec e); high = lit≤ tt },
     (
       added-fits list,
       (
@@ -198,7 +187,7 @@ module _ (rec : List ℕ) (e : length rec ≡ 245) where
   relocated-fit = (
     record {
       low = lit≤ tt;
-      wide = omega (arith, cond-length 3 (isBlank (localCode rec)) noLocalCode (localCode rec) refl local-length);
+      wide = omega (arith, cond-length 3 (isBlank (localCode rec)) zeroLocalCode (localCode rec) refl local-length);
       high = lit≤ tt;
     },
     tt,

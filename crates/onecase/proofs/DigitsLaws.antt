@@ -7,14 +7,13 @@ use native.Mathlib.Omega.{arith}
 use borrow.Author.Tests.{eqb-true}
 use lib.Dec.{eqb}
 use lib.ListN.{length}
-use Rattle.layout.specs.Characters.{isByte, isDigit, zeroDigit}
-use Rattle.layout.specs.Fields.{columns, every, isZero, allDigits, areDigits, numberOnto, number, sameBytes, isOneOf}
-use Rattle.layout.specs.Blocks.{everyBlock}
+use Rattle.text.specs.Characters.{isByte, isDigit, zeroDigit}
+use Rattle.text.specs.Fields.{columns, every, isZero, allDigits, areDigits, numberOnto, number, sameBytes, isOneOf}
 use Rattle.layout.specs.Locals.{codesOfList, isListed, isLocalList}
-use Rattle.layout.specs.Key.{rising}
-use Rattle.layout.proofs.FieldsLaws.{and-left, and-right, every-columns, digits-all}
+use Rattle.text.proofs.FieldsLaws.{and-left, and-right, every-columns, digits-all}
 use Rattle.layout.proofs.LocalsLaws.{every-append}
-use Rattle.layout.proofs.SameLaws.{same-eq}
+use Rattle.text.proofs.SameLaws.{same-eq}
+use Rattle.text.specs.ByteOrder.{rising}
 
 pub digits-append : (a b : List ℕ) → allDigits (a ++ b) ≡ (allDigits a && allDigits b)
 unfolding allDigits
@@ -47,20 +46,20 @@ number-not-zero s h = go (isZero s) refl
 -- ---- codes on a list
 
 -- what is one of the blocks passes a test that each block passes
-pub one-of-every : (f : List ℕ → Bool) (s : List ℕ) (ts : List (List ℕ)) → everyBlock f ts ≡ true → isOneOf s ts ≡ true → f s ≡ true
+pub one-of-every : (f : List ℕ → Bool) (s : List ℕ) (ts : List (List ℕ)) → every f ts ≡ true → isOneOf s ts ≡ true → f s ≡ true
 unfolding isOneOf
 one-of-every f s [] e t = absurd (false≢true t)
 one-of-every f s (b ∷ bs) e t =
-    go (sameBytes s b) refl t (one-of-every f s bs (and-right (f b) (everyBlock f bs) e))
+    go (sameBytes s b) refl t (one-of-every f s bs (and-right (f b) (every f bs) e))
   where
     go : (p : Bool) → sameBytes s b ≡ p → (p || isOneOf s bs) ≡ true → (isOneOf s bs ≡ true → f s ≡ true) → f s ≡ true
-    go true h t r = rw (same-eq s b h) (and-left (f b) (everyBlock f bs) e)
+    go true h t r = rw (same-eq s b h) (and-left (f b) (every f bs) e)
     go false h t r = r t
 
 pub listed-digits : (code list : List ℕ) → isLocalList list ≡ true → isListed code list ≡ true → allDigits code ≡ true
 unfolding isLocalList isListed
 listed-digits code list l t =
-    let e = and-right (eqb (length list % 3) 0) (everyBlock (areDigits 3) (codesOfList list) && rising (codesOfList list)) l in
+    let e = and-right (eqb (length list % 3) 0) (every (areDigits 3) (codesOfList list) && rising (codesOfList list)) l in
     digits-all 3 code
     (one-of-every (areDigits 3) code (codesOfList list)
-    (and-left (everyBlock (areDigits 3) (codesOfList list)) (rising (codesOfList list)) e) t)
+    (and-left (every (areDigits 3) (codesOfList list)) (rising (codesOfList list)) e) t)

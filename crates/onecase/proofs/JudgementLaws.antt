@@ -7,23 +7,26 @@ use mathlib.Core.Option.{Option, none, some}
 use native.Mathlib.Omega.{arith}
 use lib.Dec.{eqb, lit≤}
 use lib.ListN.{length}
-use Rattle.layout.specs.Characters.{A, B}
-use Rattle.layout.specs.Fields.{columns}
-use Rattle.layout.specs.Row.{isLive}
-use Rattle.layout.proofs.FieldsLaws.{and-left, and-right, length-columns}
+use Rattle.text.specs.Characters.{A, B}
+use Rattle.text.specs.Fields.{columns}
+use Rattle.casemaster.specs.Row.{isLive}
+use Rattle.text.proofs.FieldsLaws.{and-left, and-right, length-columns}
 use borrow.Author.Tests.{not-true, not-false}
-use Rattle.onecase.specs.Record.{isType}
-use Rattle.onecase.specs.Errors.{error01, error02, error03, error04, error05, error06, error07, error08, error09, error10, error11, error12, error13, error14, error15, error16, error17, error18, isWrongKey, isLiveRow, isOtherName, judged09, judged17, code, errors}
-use Rattle.onecase.specs.Warnings.{warning52, isRenamed, warnings}
-use Rattle.onecase.specs.Verdict.{isEmpty, isAccepted, codes, storedName, judgement}
+use Rattle.layout.specs.Key.{isOwnKey}
+use Rattle.layout.specs.Record.{recordKey, isType}
+use Rattle.judging.proofs.OwnKeyLaws.{other-wrong}
+use Rattle.judging.specs.Errors.{error01, error02, error03, error04, error05, error06, error07, error08, error09, error10, error11, error12, error13, error14, error15, error16, error17, error18, isWrongKey, isLiveRow, isOtherName, judged09, judged17, code, errors}
+use Rattle.judging.specs.Warnings.{warning52, isRenamed, warnings}
+use Rattle.onecase.specs.Verdict.{isEmpty, isAccepted, codes, storedName, judgement, hasCode}
 use Rattle.onecase.specs.Machine.{next}
-use Rattle.onecase.proofs.BoolLaws.{or-left, and-second}
+use Rattle.text.proofs.BoolLaws.{or-left, and-second}
+use Rattle.judging.specs.Setting.{Setting}
 
 -- ---- no error
 
 -- a condition for each code; a record is rejected exactly where one of them fails
-pub record NoError (state : List ℕ) (year : ℕ) (list : List ℕ) (row : Option (List ℕ)) (rec : List ℕ) : Type 0 where
-  pub no01 : error01 state rec ≡ false
+pub record NoError (setting : Setting) (row : Option (List ℕ)) (rec : List ℕ) : Type 0 where
+  pub no01 : error01 (setting .state) rec ≡ false
   pub no02 : error02 rec ≡ false
   pub no03 : error03 rec ≡ false
   pub no04 : error04 rec ≡ false
@@ -31,15 +34,15 @@ pub record NoError (state : List ℕ) (year : ℕ) (list : List ℕ) (row : Opti
   pub no06 : error06 rec ≡ false
   pub no07 : error07 rec ≡ false
   pub no08 : error08 rec ≡ false
-  pub no09 : judged09 state row rec ≡ false
-  pub no10 : error10 list rec ≡ false
+  pub no09 : judged09 setting row rec ≡ false
+  pub no10 : error10 (setting .list) rec ≡ false
   pub no11 : error11 rec ≡ false
   pub no12 : error12 rec ≡ false
-  pub no13 : error13 year rec ≡ false
+  pub no13 : error13 (setting .year) rec ≡ false
   pub no14 : error14 rec ≡ false
   pub no15 : error15 rec ≡ false
   pub no16 : error16 rec ≡ false
-  pub no17 : judged17 state row rec ≡ false
+  pub no17 : judged17 setting row rec ≡ false
   pub no18 : error18 rec ≡ false
 
 empty-none : (cs : List ℕ) → isEmpty cs ≡ true → cs ≡ []
@@ -59,19 +62,19 @@ only-none : (c : ℕ) (b : Bool) → code c b ≡ [] → b ≡ false
 only-none c true e = cc
 only-none c false e = refl
 
-module _ (state : List ℕ) (year : ℕ) (list : List ℕ) (row : Option (List ℕ)) (rec : List ℕ) where
-  pub accepted-errors : isAccepted state year list row rec ≡ true → errors state year list row rec ≡ []
+module _ (setting : Setting) (row : Option (List ℕ)) (rec : List ℕ) where
+  pub accepted-errors : isAccepted setting row rec ≡ true → errors setting row rec ≡ []
   unfolding isAccepted
-  accepted-errors t = empty-none (errors state year list row rec) t
+  accepted-errors t = empty-none (errors setting row rec) t
 
-  pub errors-accepted : errors state year list row rec ≡ [] → isAccepted state year list row rec ≡ true
+  pub errors-accepted : errors setting row rec ≡ [] → isAccepted setting row rec ≡ true
   unfolding isAccepted
   errors-accepted e = rw e
 
-  errors-none : errors state year list row rec ≡ [] → NoError state year list row rec
+  errors-none : errors setting row rec ≡ [] → NoError setting row rec
   unfolding errors
   errors-none e1 =
-      let e2 = behind-none 1 (error01 state rec) _ e1 in
+      let e2 = behind-none 1 (error01 (setting .state) rec) _ e1 in
       let e3 = behind-none 2 (error02 rec) _ e2 in
       let e4 = behind-none 3 (error03 rec) _ e3 in
       let e5 = behind-none 4 (error04 rec) _ e4 in
@@ -79,19 +82,19 @@ module _ (state : List ℕ) (year : ℕ) (list : List ℕ) (row : Option (List �
       let e7 = behind-none 6 (not (error03 rec) && error06 rec) _ e6 in
       let e8 = behind-none 7 (not (error03 rec) && error07 rec) _ e7 in
       let e9 = behind-none 8 (not (error03 rec) && error08 rec) _ e8 in
-      let e10 = behind-none 9 (judged09 state row rec) _ e9 in
-      let e11 = behind-none 10 (not (error03 rec) && error10 list rec) _ e10 in
+      let e10 = behind-none 9 (judged09 setting row rec) _ e9 in
+      let e11 = behind-none 10 (not (error03 rec) && error10 (setting .list) rec) _ e10 in
       let e12 = behind-none 11 (not (error03 rec) && error11 rec) _ e11 in
       let e13 = behind-none 12 (not (error03 rec) && error12 rec) _ e12 in
-      let e14 = behind-none 13 (not (error03 rec) && error13 year rec) _ e13 in
+      let e14 = behind-none 13 (not (error03 rec) && error13 (setting .year) rec) _ e13 in
       let e15 = behind-none 14 (not (error03 rec) && error14 rec) _ e14 in
       let e16 = behind-none 15 (not (error03 rec) && error15 rec) _ e15 in
       let e17 = behind-none 16 (not (error03 rec) && error16 rec) _ e16 in
-      let e18 = behind-none 17 (judged17 state row rec) _ e17 in
+      let e18 = behind-none 17 (judged17 setting row rec) _ e17 in
       let n03 = front-none 3 (error03 rec) _ e3 in
       let known : not (error03 rec) ≡ true = rw n03 in
       record {
-        no01 = front-none 1 (error01 state rec) _ e1;
+        no01 = front-none 1 (error01 (setting .state) rec) _ e1;
         no02 = front-none 2 (error02 rec) _ e2;
         no03 = n03;
         no04 = front-none 4 (error04 rec) _ e4;
@@ -99,98 +102,109 @@ module _ (state : List ℕ) (year : ℕ) (list : List ℕ) (row : Option (List �
         no06 = and-second (not (error03 rec)) (error06 rec) known (front-none 6 (not (error03 rec) && error06 rec) _ e6);
         no07 = and-second (not (error03 rec)) (error07 rec) known (front-none 7 (not (error03 rec) && error07 rec) _ e7);
         no08 = and-second (not (error03 rec)) (error08 rec) known (front-none 8 (not (error03 rec) && error08 rec) _ e8);
-        no09 = front-none 9 (judged09 state row rec) _ e9;
-        no10 = and-second (not (error03 rec)) (error10 list rec) known (front-none 10 (not (error03 rec) && error10 list rec) _ e10);
+        no09 = front-none 9 (judged09 setting row rec) _ e9;
+        no10 = and-second (not (error03 rec)) (error10 (setting .list) rec) known (front-none 10 (not (error03 rec) && error10 (setting .list) rec) _ e10);
         no11 = and-second (not (error03 rec)) (error11 rec) known (front-none 11 (not (error03 rec) && error11 rec) _ e11);
         no12 = and-second (not (error03 rec)) (error12 rec) known (front-none 12 (not (error03 rec) && error12 rec) _ e12);
-        no13 = and-second (not (error03 rec)) (error13 year rec) known (front-none 13 (not (error03 rec) && error13 year rec) _ e13);
+        no13 = and-second (not (error03 rec)) (error13 (setting .year) rec) known (front-none 13 (not (error03 rec) && error13 (setting .year) rec) _ e13);
         no14 = and-second (not (error03 rec)) (error14 rec) known (front-none 14 (not (error03 rec) && error14 rec) _ e14);
         no15 = and-second (not (error03 rec)) (error15 rec) known (front-none 15 (not (error03 rec) && error15 rec) _ e15);
         no16 = and-second (not (error03 rec)) (error16 rec) known (front-none 16 (not (error03 rec) && error16 rec) _ e16);
-        no17 = front-none 17 (judged17 state row rec) _ e17;
+        no17 = front-none 17 (judged17 setting row rec) _ e17;
         no18 = only-none 18 (error18 rec) e18;
       }
 
-  pub accepted-none : isAccepted state year list row rec ≡ true → NoError state year list row rec
+  pub accepted-none : isAccepted setting row rec ≡ true → NoError setting row rec
   accepted-none t = errors-none (accepted-errors t)
 
-  none-errors : NoError state year list row rec → errors state year list row rec ≡ []
+  none-errors : NoError setting row rec → errors setting row rec ≡ []
   unfolding errors
   none-errors n =
       rw (n .no01, n .no02, n .no03, n .no04, n .no05, n .no06, n .no07, n .no08, n .no09)
       (rw (n .no10, n .no11, n .no12, n .no13, n .no14, n .no15, n .no16, n .no17, n .no18))
 
-  pub none-accepted : NoError state year list row rec → isAccepted state year list row rec ≡ true
+  pub none-accepted : NoError setting row rec → isAccepted setting row rec ≡ true
   none-accepted n = errors-accepted (none-errors n)
 
   -- an error changes nothing
-  pub error-changes-nothing : isAccepted state year list row rec ≡ false → next state year list row rec ≡ row
+  pub error-changes-nothing : isAccepted setting row rec ≡ false → next setting row rec ≡ row
   unfolding next
   error-changes-nothing f = rw f
 
 -- ---- what the row has to do with a judgement
 
 -- the row counts for the errors by 09 and 17 alone
-errors-same : (state : List ℕ) (year : ℕ) (list : List ℕ) (r1 r2 : Option (List ℕ)) (rec : List ℕ)
-    → judged09 state r1 rec ≡ judged09 state r2 rec → judged17 state r1 rec ≡ judged17 state r2 rec
-    → errors state year list r1 rec ≡ errors state year list r2 rec
+errors-same : (setting : Setting) (r1 r2 : Option (List ℕ)) (rec : List ℕ)
+    → judged09 setting r1 rec ≡ judged09 setting r2 rec → judged17 setting r1 rec ≡ judged17 setting r2 rec
+    → errors setting r1 rec ≡ errors setting r2 rec
 unfolding errors
-errors-same state year list r1 r2 rec e f = rw (e, f)
+errors-same setting r1 r2 rec e f = rw (e, f)
 
 -- where 17 is judged of neither row, the judgement is its codes
-judgement-same : (state : List ℕ) (year : ℕ) (list : List ℕ) (r1 r2 : Option (List ℕ)) (rec : List ℕ)
-    → codes state year list r1 rec ≡ codes state year list r2 rec → judged17 state r1 rec ≡ false → judged17 state r2 rec ≡ false
-    → judgement state year list r1 rec ≡ judgement state year list r2 rec
+judgement-same : (setting : Setting) (r1 r2 : Option (List ℕ)) (rec : List ℕ)
+    → codes setting r1 rec ≡ codes setting r2 rec → judged17 setting r1 rec ≡ false → judged17 setting r2 rec ≡ false
+    → judgement setting r1 rec ≡ judgement setting r2 rec
 unfolding judgement
-judgement-same state year list r1 r2 rec c f g = rw (c, f, g)
+judgement-same setting r1 r2 rec c f g = rw (c, f, g)
 
 -- ---- a wrong key
 
-module _ (state rec : List ℕ) (w : isWrongKey state rec ≡ true) where
-  wrong-09 : (row : Option (List ℕ)) → judged09 state row rec ≡ false
+module _ (setting : Setting) (rec : List ℕ) (w : isWrongKey setting rec ≡ true) where
+  wrong-09 : (row : Option (List ℕ)) → judged09 setting row rec ≡ false
   unfolding judged09
   wrong-09 row = rw (w, and-false)
 
-  wrong-17 : (row : Option (List ℕ)) → judged17 state row rec ≡ false
+  wrong-17 : (row : Option (List ℕ)) → judged17 setting row rec ≡ false
   unfolding judged17
   wrong-17 row = rw (w, and-false)
 
 -- 01, 02 or 04 is an error
-pub wrong-rejected : (state : List ℕ) (year : ℕ) (list : List ℕ) (row : Option (List ℕ)) (rec : List ℕ)
-    → isWrongKey state rec ≡ true → isAccepted state year list row rec ≡ false
+pub wrong-rejected : (setting : Setting) (row : Option (List ℕ)) (rec : List ℕ)
+    → isWrongKey setting rec ≡ true → isAccepted setting row rec ≡ false
 unfolding isWrongKey
-wrong-rejected state year list row rec w = go (isAccepted state year list row rec) refl
+wrong-rejected setting row rec w = go (isAccepted setting row rec) refl
   where
-    go : (b : Bool) → isAccepted state year list row rec ≡ b → isAccepted state year list row rec ≡ false
+    go : (b : Bool) → isAccepted setting row rec ≡ b → isAccepted setting row rec ≡ false
     go true e =
-        let n = accepted-none state year list row rec e in
-        let f : isWrongKey state rec ≡ false = rw (n .no01, n .no02, n .no04) in
+        let n = accepted-none setting row rec e in
+        let f : isWrongKey setting rec ≡ false = rw (n .no01, n .no02, n .no04) in
         cc
     go false e = e
 
-module _ (state : List ℕ) (year : ℕ) (list : List ℕ) (rec : List ℕ) (w : isWrongKey state rec ≡ true) where
-  wrong-codes : (r1 r2 : Option (List ℕ)) → codes state year list r1 rec ≡ codes state year list r2 rec
+module _ (setting : Setting) (rec : List ℕ) (w : isWrongKey setting rec ≡ true) where
+  wrong-codes : (r1 r2 : Option (List ℕ)) → codes setting r1 rec ≡ codes setting r2 rec
   unfolding codes
   wrong-codes r1 r2 =
-      rw (wrong-rejected state year list r1 rec w, wrong-rejected state year list r2 rec w)
-      (errors-same state year list r1 r2 rec
-      (wrong-09 state rec w r1 ∙ sym (wrong-09 state rec w r2)) (wrong-17 state rec w r1 ∙ sym (wrong-17 state rec w r2)))
+      rw (wrong-rejected setting r1 rec w, wrong-rejected setting r2 rec w)
+      (errors-same setting r1 r2 rec
+      (wrong-09 setting rec w r1 ∙ sym (wrong-09 setting rec w r2)) (wrong-17 setting rec w r1 ∙ sym (wrong-17 setting rec w r2)))
 
   -- the judgement on a wrong key goes by no row
-  pub wrong-key-same : (r1 r2 : Option (List ℕ)) → judgement state year list r1 rec ≡ judgement state year list r2 rec
+  pub wrong-key-same : (r1 r2 : Option (List ℕ)) → judgement setting r1 rec ≡ judgement setting r2 rec
   wrong-key-same r1 r2 =
-      judgement-same state year list r1 r2 rec (wrong-codes r1 r2) (wrong-17 state rec w r1) (wrong-17 state rec w r2)
+      judgement-same setting r1 r2 rec (wrong-codes r1 r2) (wrong-17 setting rec w r1) (wrong-17 setting rec w r2)
 
   -- and it changes none
-  pub wrong-key-keeps : (row : Option (List ℕ)) → next state year list row rec ≡ row
-  wrong-key-keeps row = error-changes-nothing state year list row rec (wrong-rejected state year list row rec w)
+  pub wrong-key-keeps : (row : Option (List ℕ)) → next setting row rec ≡ row
+  wrong-key-keeps row = error-changes-nothing setting row rec (wrong-rejected setting row rec w)
+
+-- ---- a key that is not a sound one of the control record's state
+
+module _ (setting : Setting) (rec : List ℕ) (e : length rec ≡ 245) (f : isOwnKey (setting .state) (recordKey rec) ≡ false) where
+  -- the record is judged as without a row
+  pub judged-alone : (row : Option (List ℕ)) → judgement setting row rec ≡ judgement setting none rec
+  judged-alone row = wrong-key-same setting rec (other-wrong setting rec e f) row none
+
+  -- and changes none
+  pub kept-alone : (row : Option (List ℕ)) → next setting row rec ≡ row
+  kept-alone row = wrong-key-keeps setting rec (other-wrong setting rec e f) row
 
 -- ---- 17 is judged of a live row alone
 
-module _ (state : List ℕ) (row : Option (List ℕ)) (rec : List ℕ) (t : judged17 state row rec ≡ true) where
+module _ (setting : Setting) (row : Option (List ℕ)) (rec : List ℕ) (t : judged17 setting row rec ≡ true) where
   rest-17 : (not (error05 rec) && (not (error09 row rec) && error17 row rec)) ≡ true
   unfolding judged17
-  rest-17 = and-right (not (isWrongKey state rec)) _ (and-right (not (error03 rec)) _ t)
+  rest-17 = and-right (not (isWrongKey setting rec)) _ (and-right (not (error03 rec)) _ t)
 
   only-17 : (not (error09 row rec) && error17 row rec) ≡ true
   only-17 = and-right (not (error05 rec)) (not (error09 row rec) && error17 row rec) rest-17
@@ -215,11 +229,11 @@ module _ (state : List ℕ) (row : Option (List ℕ)) (rec : List ℕ) (t : judg
       let m : not (isLiveRow row) ≡ false = rw a at n in
       not-false (isLiveRow row) m
 
-dead-17 : (state : List ℕ) (row : Option (List ℕ)) (rec : List ℕ) → isLiveRow row ≡ false → judged17 state row rec ≡ false
-dead-17 state row rec d = go (judged17 state row rec) refl
+dead-17 : (setting : Setting) (row : Option (List ℕ)) (rec : List ℕ) → isLiveRow row ≡ false → judged17 setting row rec ≡ false
+dead-17 setting row rec d = go (judged17 setting row rec) refl
   where
-    go : (b : Bool) → judged17 state row rec ≡ b → judged17 state row rec ≡ false
-    go true e = cc (live-17 state row rec e)
+    go : (b : Bool) → judged17 setting row rec ≡ b → judged17 setting row rec ≡ false
+    go true e = cc (live-17 setting row rec e)
     go false e = e
 
 -- ---- a deleted row
@@ -228,60 +242,55 @@ none-dead : isLiveRow none ≡ false
 unfolding isLiveRow
 none-dead = refl
 
-module _ (state : List ℕ) (year : ℕ) (list : List ℕ) (r : List ℕ) (rec : List ℕ) (d : isLive r ≡ false) where
+module _ (setting : Setting) (r : List ℕ) (rec : List ℕ) (d : isLive r ≡ false) where
   dead : isLiveRow (some r) ≡ false
   unfolding isLiveRow
   dead = d
 
-  dead-09 : judged09 state (some r) rec ≡ judged09 state none rec
+  dead-09 : judged09 setting (some r) rec ≡ judged09 setting none rec
   unfolding judged09 error09
   dead-09 = rw (dead, none-dead)
 
-  dead-warnings : warnings list (some r) rec ≡ warnings list none rec
+  dead-warnings : warnings (setting .list) (some r) rec ≡ warnings (setting .list) none rec
   unfolding warnings warning52 isRenamed
   dead-warnings = rw d
 
-  dead-errors : errors state year list (some r) rec ≡ errors state year list none rec
+  dead-errors : errors setting (some r) rec ≡ errors setting none rec
   dead-errors =
-      errors-same state year list (some r) none rec dead-09
-      (dead-17 state (some r) rec dead ∙ sym (dead-17 state none rec none-dead))
+      errors-same setting (some r) none rec dead-09
+      (dead-17 setting (some r) rec dead ∙ sym (dead-17 setting none rec none-dead))
 
-  dead-codes : codes state year list (some r) rec ≡ codes state year list none rec
+  dead-codes : codes setting (some r) rec ≡ codes setting none rec
   unfolding codes isAccepted
   dead-codes = rw (dead-errors, dead-warnings)
 
   -- a deleted row is judged as no row
-  pub deleted-as-none : judgement state year list (some r) rec ≡ judgement state year list none rec
+  pub deleted-as-none : judgement setting (some r) rec ≡ judgement setting none rec
   deleted-as-none =
-      judgement-same state year list (some r) none rec dead-codes (dead-17 state (some r) rec dead) (dead-17 state none rec none-dead)
+      judgement-same setting (some r) none rec dead-codes (dead-17 setting (some r) rec dead) (dead-17 setting none rec none-dead)
 
 -- ---- type A
 
-module _ (state : List ℕ) (year : ℕ) (list : List ℕ) (rec : List ℕ) (a : isType A rec ≡ true) where
-  added-09 : (row : Option (List ℕ)) → judged09 state row rec ≡ false
+module _ (setting : Setting) (rec : List ℕ) (a : isType A rec ≡ true) where
+  added-09 : (row : Option (List ℕ)) → judged09 setting row rec ≡ false
   unfolding judged09 error09
   added-09 row = rw (a, and-false, and-false)
 
-  added-17 : (row : Option (List ℕ)) → judged17 state row rec ≡ false
+  added-17 : (row : Option (List ℕ)) → judged17 setting row rec ≡ false
   unfolding judged17 error17
   added-17 row = rw (a, and-false, and-false, and-false, and-false)
 
   -- no row makes an error of type A
-  pub added-errors-same : (r1 r2 : Option (List ℕ)) → errors state year list r1 rec ≡ errors state year list r2 rec
-  added-errors-same r1 r2 = errors-same state year list r1 r2 rec (added-09 r1 ∙ sym (added-09 r2)) (added-17 r1 ∙ sym (added-17 r2))
+  pub added-errors-same : (r1 r2 : Option (List ℕ)) → errors setting r1 rec ≡ errors setting r2 rec
+  added-errors-same r1 r2 = errors-same setting r1 r2 rec (added-09 r1 ∙ sym (added-09 r2)) (added-17 r1 ∙ sym (added-17 r2))
 
-  pub added-accepted-same : (r1 r2 : Option (List ℕ)) → isAccepted state year list r1 rec ≡ isAccepted state year list r2 rec
+  pub added-accepted-same : (r1 r2 : Option (List ℕ)) → isAccepted setting r1 rec ≡ isAccepted setting r2 rec
   unfolding isAccepted
   added-accepted-same r1 r2 = ap isEmpty (added-errors-same r1 r2)
 
 -- ---- 17 and the four stored characters
 
--- c is among the codes
-abbrev pub hasCode : ℕ → List ℕ → Bool
-hasCode c [] = false
-hasCode c (k ∷ ks) = eqb k c || hasCode c ks
-
-has-front : (c k : ℕ) (b : Bool) (cs : List ℕ) → hasCode c (code k b ++ cs) ≡ (eqb k c && b || hasCode c cs)
+pub has-front : (c k : ℕ) (b : Bool) (cs : List ℕ) → hasCode c (code k b ++ cs) ≡ (eqb k c && b || hasCode c cs)
 has-front c k true cs = rw (and-true (eqb k c))
 has-front c k false cs = rw (and-false (eqb k c))
 
@@ -295,50 +304,50 @@ unfolding isOtherName
 stored-row none rec t = absurd (false≢true t)
 stored-row (some r) rec t = (r, refl)
 
-module _ (state : List ℕ) (year : ℕ) (list : List ℕ) (row : Option (List ℕ)) (rec : List ℕ) where
-  errors-17 : hasCode 17 (errors state year list row rec) ≡ judged17 state row rec
+module _ (setting : Setting) (row : Option (List ℕ)) (rec : List ℕ) where
+  errors-17 : hasCode 17 (errors setting row rec) ≡ judged17 setting row rec
   unfolding errors
-  errors-17 = simp (has-front, has-only) (or-false (judged17 state row rec))
+  errors-17 = simp (has-front, has-only) (or-false (judged17 setting row rec))
 
-  warnings-17 : hasCode 17 (warnings list row rec) ≡ false
+  warnings-17 : hasCode 17 (warnings (setting .list) row rec) ≡ false
   unfolding warnings
   warnings-17 = simp (has-front, has-only)
 
   -- 17 is among the codes exactly where it is judged to hold
-  pub code-17 : hasCode 17 (judgement state year list row rec .codes) ≡ judged17 state row rec
+  pub code-17 : hasCode 17 (judgement setting row rec .codes) ≡ judged17 setting row rec
   unfolding judgement codes
-  code-17 = go (isAccepted state year list row rec) refl
+  code-17 = go (isAccepted setting row rec) refl
     where
-      go : (b : Bool) → isAccepted state year list row rec ≡ b
-          → hasCode 17 (cond b (warnings list row rec) (errors state year list row rec)) ≡ judged17 state row rec
-      go true e = warnings-17 ∙ sym (accepted-none state year list row rec e .no17)
+      go : (b : Bool) → isAccepted setting row rec ≡ b
+          → hasCode 17 (cond b (warnings (setting .list) row rec) (errors setting row rec)) ≡ judged17 setting row rec
+      go true e = warnings-17 ∙ sym (accepted-none setting row rec e .no17)
       go false e = errors-17
 
-  name-of : (r : List ℕ) → row ≡ some r → judged17 state row rec ≡ true
-      → judgement state year list row rec .name ≡ some (columns 31 34 r)
+  name-of : (r : List ℕ) → row ≡ some r → judged17 setting row rec ≡ true
+      → judgement setting row rec .name ≡ some (columns 31 34 r)
   unfolding judgement
   name-of r e t = rw t (ap storedName e)
 
   -- with 17 there is a row, and the name is its columns 31–34
-  pub name-17 : judged17 state row rec ≡ true
-      → (r : List ℕ) × (row ≡ some r) × (judgement state year list row rec .name ≡ some (columns 31 34 r))
+  pub name-17 : judged17 setting row rec ≡ true
+      → (r : List ℕ) × (row ≡ some r) × (judgement setting row rec .name ≡ some (columns 31 34 r))
   name-17 t =
-      let s = stored-row row rec (other-name state row rec t) in
+      let s = stored-row row rec (other-name setting row rec t) in
       (s .0, s .1, name-of (s .0) (s .1) t)
 
   -- without 17 there is no name
-  pub no-name : judged17 state row rec ≡ false → judgement state year list row rec .name ≡ none
+  pub no-name : judged17 setting row rec ≡ false → judgement setting row rec .name ≡ none
   unfolding judgement
   no-name f = rw f
 
-  pub named-17 : (bytes : List ℕ) → judgement state year list row rec .name ≡ some bytes → judged17 state row rec ≡ true
-  named-17 bytes e = go (judged17 state row rec) refl
+  pub named-17 : (bytes : List ℕ) → judgement setting row rec .name ≡ some bytes → judged17 setting row rec ≡ true
+  named-17 bytes e = go (judged17 setting row rec) refl
     where
-      go : (b : Bool) → judged17 state row rec ≡ b → judged17 state row rec ≡ true
+      go : (b : Bool) → judged17 setting row rec ≡ b → judged17 setting row rec ≡ true
       go true t = t
       go false f = cc (no-name f)
 
-  pub name-is : (bytes : List ℕ) → judgement state year list row rec .name ≡ some bytes
+  pub name-is : (bytes : List ℕ) → judgement setting row rec .name ≡ some bytes
       → (r : List ℕ) × (row ≡ some r) × (bytes ≡ columns 31 34 r)
   name-is bytes e =
       let n = name-17 (named-17 bytes e) in

@@ -6,55 +6,49 @@ use mathlib.Core.List.{List}
 use mathlib.Core.Bool.{Bool, true, false, cond}
 use mathlib.Core.Option.{Option, none, some}
 use lib.ListN.{length}
-use Rattle.layout.specs.Characters.{A, B, C, D, L, M, R, S, T}
-use Rattle.layout.specs.Fields.{columns}
+use Rattle.text.specs.Characters.{A, B, C, D, L, M, R, S, T}
+use Rattle.text.specs.Fields.{columns}
 use Rattle.layout.specs.Locals.{isLocalList}
-use Rattle.layout.specs.Row.{isLive, isSoundRow}
-use Rattle.onecase.specs.Record.{recordKey, isType}
-use Rattle.onecase.specs.Errors.{isLiveRow}
+use Rattle.casemaster.specs.Row.{isLive, isSoundRow}
+use Rattle.layout.specs.Record.{recordKey, isType}
+use Rattle.judging.specs.Errors.{isLiveRow}
 use Rattle.onecase.specs.Verdict.{isAccepted}
 use Rattle.onecase.specs.Changes.{freshRow, recertified, renamed, reidentified, deleted, relocated, amended, excluded, paid, transferred, readdressed}
 use Rattle.onecase.specs.Machine.{changed, added, applied, next}
-use Rattle.onecase.proofs.BoolLaws.{either}
+use Rattle.text.proofs.BoolLaws.{either}
 use Rattle.onecase.proofs.JudgementLaws.{NoError, accepted-none}
 use Rattle.onecase.proofs.ChangesLaws
 use Rattle.onecase.proofs.ChangesLaws.{Kept}
 use Rattle.onecase.proofs.SoundLaws.{SoundAt, columnsOf, sound-columns}
 use Rattle.onecase.proofs.SoundChangesLaws
 use Rattle.onecase.proofs.AcceptedLaws.{live-row}
+use Rattle.casemaster.proofs.RowsLaws.{Each, each-some, IsWide}
+use Rattle.judging.specs.Setting.{Setting}
 
 -- ---- a row stays, and only type A makes one
 
-pub row-stays : (state : List ℕ) (year : ℕ) (list r rec : List ℕ)
-    → (new : List ℕ) × (next state year list (some r) rec ≡ some new)
+pub row-stays : (setting : Setting) (r rec : List ℕ)
+    → (new : List ℕ) × (next setting (some r) rec ≡ some new)
 unfolding next applied
-row-stays state year list r rec = go (isAccepted state year list (some r) rec) (isType A rec)
+row-stays setting r rec = go (isAccepted setting (some r) rec) (isType A rec)
   where
-    go : (b a : Bool) → (new : List ℕ) × (cond b (cond a (some (added list rec (some r))) (some (changed rec r))) (some r) ≡ some new)
-    go true true = (added list rec (some r), refl)
+    go : (b a : Bool) → (new : List ℕ) × (cond b (cond a (some (added (setting .list) rec (some r))) (some (changed rec r))) (some r) ≡ some new)
+    go true true = (added (setting .list) rec (some r), refl)
     go true false = (changed rec r, refl)
     go false a = (r, refl)
 
-pub only-add-makes : (state : List ℕ) (year : ℕ) (list rec new : List ℕ)
-    → next state year list none rec ≡ some new → isType A rec ≡ true
+pub only-add-makes : (setting : Setting) (rec new : List ℕ)
+    → next setting none rec ≡ some new → isType A rec ≡ true
 unfolding next applied
-only-add-makes state year list rec new e = go (isAccepted state year list none rec) (isType A rec) refl e
+only-add-makes setting rec new e = go (isAccepted setting none rec) (isType A rec) refl e
   where
-    go : (b a : Bool) → isType A rec ≡ a → cond b (cond a (some (added list rec none)) none) none ≡ some new → isType A rec ≡ true
+    go : (b a : Bool) → isType A rec ≡ a → cond b (cond a (some (added (setting .list) rec none)) none) none ≡ some new → isType A rec ≡ true
     go true true t e = t
     go true false t e = cc
     go false true t e = t
     go false false t e = cc
 
 -- ---- what holds of each change holds of the step
-
--- of a row, where there is one
-abbrev pub Each : (List ℕ → Type 0) → Option (List ℕ) → Type 0
-Each P none = Unit {0}
-Each P (some r) = P r
-
-pub each-some : (P : List ℕ → Type 0) (row : Option (List ℕ)) (r : List ℕ) → Each P row → row ≡ some r → P r
-each-some P row r h e = rw e at h
 
 -- of what a record of any type but A does to a row
 record EachChange (P : List ℕ → Type 0) (rec row : List ℕ) : Type 0 where
@@ -82,38 +76,35 @@ each-change P rec row h =
     (h .of-readdressed))))))))
 
 -- with no error: a fresh row, a live row certified again, or a live row changed
-record EachStep (P : List ℕ → Type 0) (state : List ℕ) (year : ℕ) (list : List ℕ) (row : Option (List ℕ)) (rec : List ℕ) : Type 0 where
-  of-fresh : NoError state year list row rec → isType A rec ≡ true → P (freshRow list rec)
-  of-recertified : (r : List ℕ) → row ≡ some r → NoError state year list row rec → isType A rec ≡ true → isLive r ≡ true
-      → P (recertified list rec r)
-  of-changed : (r : List ℕ) → row ≡ some r → NoError state year list row rec → isLive r ≡ true → P (changed rec r)
+record EachStep (P : List ℕ → Type 0) (setting : Setting) (row : Option (List ℕ)) (rec : List ℕ) : Type 0 where
+  of-fresh : NoError setting row rec → isType A rec ≡ true → P (freshRow (setting .list) rec)
+  of-recertified : (r : List ℕ) → row ≡ some r → NoError setting row rec → isType A rec ≡ true → isLive r ≡ true
+      → P (recertified (setting .list) rec r)
+  of-changed : (r : List ℕ) → row ≡ some r → NoError setting row rec → isLive r ≡ true → P (changed rec r)
 
-each-step : (P : List ℕ → Type 0) (state : List ℕ) (year : ℕ) (list : List ℕ) (row : Option (List ℕ)) (rec : List ℕ)
-    → Each P row → EachStep P state year list row rec → Each P (next state year list row rec)
+each-step : (P : List ℕ → Type 0) (setting : Setting) (row : Option (List ℕ)) (rec : List ℕ)
+    → Each P row → EachStep P setting row rec → Each P (next setting row rec)
 unfolding next applied added isLiveRow
-each-step P state year list none rec h s = go (isAccepted state year list none rec) (isType A rec) refl refl
+each-step P setting none rec h s = go (isAccepted setting none rec) (isType A rec) refl refl
   where
-    go : (b a : Bool) → isAccepted state year list none rec ≡ b → isType A rec ≡ a
-        → Each P (cond b (cond a (some (added list rec none)) none) none)
-    go true true e t = s .of-fresh (accepted-none state year list none rec e) t
+    go : (b a : Bool) → isAccepted setting none rec ≡ b → isType A rec ≡ a
+        → Each P (cond b (cond a (some (added (setting .list) rec none)) none) none)
+    go true true e t = s .of-fresh (accepted-none setting none rec e) t
     go true false e t = tt
     go false a e t = tt
-each-step P state year list (some r) rec h s = go (isAccepted state year list (some r) rec) (isType A rec) refl refl
+each-step P setting (some r) rec h s = go (isAccepted setting (some r) rec) (isType A rec) refl refl
   where
-    go : (b a : Bool) → isAccepted state year list (some r) rec ≡ b → isType A rec ≡ a
-        → Each P (cond b (cond a (some (added list rec (some r))) (some (changed rec r))) (some r))
+    go : (b a : Bool) → isAccepted setting (some r) rec ≡ b → isType A rec ≡ a
+        → Each P (cond b (cond a (some (added (setting .list) rec (some r))) (some (changed rec r))) (some r))
     go true true e t =
-        let n = accepted-none state year list (some r) rec e in
-        either P (isLive r) (recertified list rec r) (freshRow list rec) (λ v. s .of-recertified r refl n t v) (s .of-fresh n t)
+        let n = accepted-none setting (some r) rec e in
+        either P (isLive r) (recertified (setting .list) rec r) (freshRow (setting .list) rec) (λ v. s .of-recertified r refl n t v) (s .of-fresh n t)
     go true false e t =
-        let n = accepted-none state year list (some r) rec e in
+        let n = accepted-none setting (some r) rec e in
         s .of-changed r refl n (live-row n t)
     go false a e t = h
 
 -- ---- width, key and soundness
-
-abbrev pub IsWide : List ℕ → Type 0
-IsWide r = length r ≡ 200
 
 -- 200 bytes with the record's key
 pub record Keyed (rec r : List ℕ) : Type 0 where
@@ -146,8 +137,8 @@ module _ (rec row : List ℕ) (e : length rec ≡ 245) (w : length row ≡ 200) 
         of-readdressed = ChangesLaws.readdressed-kept rec e row w;
       }
 
-  changed-sound : {state : List ℕ} {year : ℕ} {list : List ℕ} {held : Option (List ℕ)} → NoError state year list held rec
-      → isLocalList list ≡ true → isLive row ≡ true → isSoundRow row ≡ true → isSoundRow (changed rec row) ≡ true
+  changed-sound : {setting : Setting} {held : Option (List ℕ)} → NoError setting held rec
+      → isLocalList (setting .list) ≡ true → isLive row ≡ true → isSoundRow row ≡ true → isSoundRow (changed rec row) ≡ true
   changed-sound n l v t =
       let s : SoundAt (columnsOf row) = sound-columns row t in
       each-change (λ (r : List ℕ). isSoundRow r ≡ true) rec row
@@ -163,13 +154,13 @@ module _ (rec row : List ℕ) (e : length rec ≡ 245) (w : length row ≡ 200) 
         of-readdressed = SoundChangesLaws.readdressed-sound rec e row w s;
       }
 
-module _ (state : List ℕ) (year : ℕ) (list : List ℕ) (row : Option (List ℕ)) (rec : List ℕ) (e : length rec ≡ 245) where
-  pub next-wide : Each IsWide row → Each IsWide (next state year list row rec)
+module _ (setting : Setting) (row : Option (List ℕ)) (rec : List ℕ) (e : length rec ≡ 245) where
+  pub next-wide : Each IsWide row → Each IsWide (next setting row rec)
   next-wide h =
-      each-step IsWide state year list row rec h
+      each-step IsWide setting row rec h
       record {
-        of-fresh = λ n a. ChangesLaws.fresh-wide rec e list;
-        of-recertified = λ r g n a v. ChangesLaws.recertified-kept rec e r (each-some IsWide row r h g) list .wide;
+        of-fresh = λ n a. ChangesLaws.fresh-wide rec e (setting .list);
+        of-recertified = λ r g n a v. ChangesLaws.recertified-kept rec e r (each-some IsWide row r h g) (setting .list) .wide;
         of-changed = λ r g n v. changed-kept rec r e (each-some IsWide row r h g) .wide;
       }
 
@@ -177,14 +168,14 @@ module _ (state : List ℕ) (year : ℕ) (list : List ℕ) (row : Option (List �
   keyed : (r new : List ℕ) → Keyed rec r → Kept r new → Keyed rec new
   keyed r new h k = record { wide = k .wide; key = k .key ∙ h .key }
 
-  pub next-keyed : Each (Keyed rec) row → Each (Keyed rec) (next state year list row rec)
+  pub next-keyed : Each (Keyed rec) row → Each (Keyed rec) (next setting row rec)
   next-keyed h =
-      each-step (Keyed rec) state year list row rec h
+      each-step (Keyed rec) setting row rec h
       record {
-        of-fresh = λ n a. record { wide = ChangesLaws.fresh-wide rec e list; key = ChangesLaws.fresh-key rec e list };
+        of-fresh = λ n a. record { wide = ChangesLaws.fresh-wide rec e (setting .list); key = ChangesLaws.fresh-key rec e (setting .list) };
         of-recertified = λ r g n a v.
             let k = each-some (Keyed rec) row r h g in
-            keyed r (recertified list rec r) k (ChangesLaws.recertified-kept rec e r (k .wide) list);
+            keyed r (recertified (setting .list) rec r) k (ChangesLaws.recertified-kept rec e r (k .wide) (setting .list));
         of-changed = λ r g n v.
             let k = each-some (Keyed rec) row r h g in
             keyed r (changed rec r) k (changed-kept rec r e (k .wide));
@@ -194,19 +185,19 @@ module _ (state : List ℕ) (year : ℕ) (list : List ℕ) (row : Option (List �
   good : (r new : List ℕ) → GoodRow rec r → Kept r new → isSoundRow new ≡ true → GoodRow rec new
   good r new h k t = record { wide = k .wide; key = k .key ∙ h .key; sound = t }
 
-  pub next-good : isLocalList list ≡ true → Good rec row → Good rec (next state year list row rec)
+  pub next-good : isLocalList (setting .list) ≡ true → Good rec row → Good rec (next setting row rec)
   next-good l h =
-      each-step (GoodRow rec) state year list row rec h
+      each-step (GoodRow rec) setting row rec h
       record {
         of-fresh = λ n a.
             record {
-              wide = ChangesLaws.fresh-wide rec e list;
-              key = ChangesLaws.fresh-key rec e list;
+              wide = ChangesLaws.fresh-wide rec e (setting .list);
+              key = ChangesLaws.fresh-key rec e (setting .list);
               sound = SoundChangesLaws.fresh-sound n e l a;
             };
         of-recertified = λ r g n a v.
             let k = each-some (GoodRow rec) row r h g in
-            good r (recertified list rec r) k (ChangesLaws.recertified-kept rec e r (k .wide) list)
+            good r (recertified (setting .list) rec r) k (ChangesLaws.recertified-kept rec e r (k .wide) (setting .list))
             (SoundChangesLaws.recertified-sound n e r (k .wide) (sound-columns r (k .sound)) v l a);
         of-changed = λ r g n v.
             let k = each-some (GoodRow rec) row r h g in
@@ -214,27 +205,27 @@ module _ (state : List ℕ) (year : ℕ) (list : List ℕ) (row : Option (List �
       }
 
 -- the same of the two rows named
-module _ (state : List ℕ) (year : ℕ) (list r rec new : List ℕ) (e : length rec ≡ 245) (g : next state year list (some r) rec ≡ some new)
+module _ (setting : Setting) (r rec new : List ℕ) (e : length rec ≡ 245) (g : next setting (some r) rec ≡ some new)
     (w : length r ≡ 200) where
   pub width-kept : length new ≡ 200
-  width-kept = each-some IsWide (next state year list (some r) rec) new (next-wide state year list (some r) rec e w) g
+  width-kept = each-some IsWide (next setting (some r) rec) new (next-wide setting (some r) rec e w) g
 
   pub key-kept : columns 1 12 r ≡ recordKey rec → columns 1 12 new ≡ recordKey rec
   key-kept k =
-      each-some (Keyed rec) (next state year list (some r) rec) new
-      (next-keyed state year list (some r) rec e (record { wide = w; key = k })) g .key
+      each-some (Keyed rec) (next setting (some r) rec) new
+      (next-keyed setting (some r) rec e (record { wide = w; key = k })) g .key
 
-  pub sound-kept : isLocalList list ≡ true → columns 1 12 r ≡ recordKey rec → isSoundRow r ≡ true → isSoundRow new ≡ true
+  pub sound-kept : isLocalList (setting .list) ≡ true → columns 1 12 r ≡ recordKey rec → isSoundRow r ≡ true → isSoundRow new ≡ true
   sound-kept l k s =
-      each-some (GoodRow rec) (next state year list (some r) rec) new
-      (next-good state year list (some r) rec e l (record { wide = w; key = k; sound = s })) g .sound
+      each-some (GoodRow rec) (next setting (some r) rec) new
+      (next-good setting (some r) rec e l (record { wide = w; key = k; sound = s })) g .sound
 
-module _ (state : List ℕ) (year : ℕ) (list rec new : List ℕ) (e : length rec ≡ 245) (g : next state year list none rec ≡ some new) where
+module _ (setting : Setting) (rec new : List ℕ) (e : length rec ≡ 245) (g : next setting none rec ≡ some new) where
   pub width-made : length new ≡ 200
-  width-made = each-some IsWide (next state year list none rec) new (next-wide state year list none rec e tt) g
+  width-made = each-some IsWide (next setting none rec) new (next-wide setting none rec e tt) g
 
   pub key-made : columns 1 12 new ≡ recordKey rec
-  key-made = each-some (Keyed rec) (next state year list none rec) new (next-keyed state year list none rec e tt) g .key
+  key-made = each-some (Keyed rec) (next setting none rec) new (next-keyed setting none rec e tt) g .key
 
-  pub sound-made : isLocalList list ≡ true → isSoundRow new ≡ true
-  sound-made l = each-some (GoodRow rec) (next state year list none rec) new (next-good state year list none rec e l tt) g .sound
+  pub sound-made : isLocalList (setting .list) ≡ true → isSoundRow new ≡ true
+  sound-made l = each-some (GoodRow rec) (next setting none rec) new (next-good setting none rec e l tt) g .sound

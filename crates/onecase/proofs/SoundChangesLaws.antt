@@ -6,21 +6,22 @@ use mathlib.Core.Bool.{Bool, true, false, not, cond, _||_, or-true}
 use mathlib.Core.Option.{Option}
 use lib.Dec.{eqb, lit≤}
 use lib.ListN.{length, getD}
-use Rattle.layout.specs.Characters.{isDigit, space, A, B, D, L, M, S}
-use Rattle.layout.specs.Fields.{columns, isBlank, isZero, allDigits, spaces}
+use Rattle.text.specs.Characters.{isDigit, space, A, B, D, L, M, S}
+use Rattle.text.specs.Fields.{columns, isBlank, isZero, allDigits, spaces}
 use Rattle.layout.specs.Locals.{isLocalList}
-use Rattle.layout.specs.Row.{isLive, isSoundRow}
+use Rattle.casemaster.specs.Row.{isLive, isSoundRow}
 use Rattle.layout.specs.ChartA1.{localCode, lastName, arrearage, processYear}
-use Rattle.layout.proofs.FieldsLaws.{digits-all}
-use Rattle.onecase.specs.Record.{isType}
-use Rattle.onecase.specs.Errors.{noLocalCode}
+use Rattle.text.proofs.FieldsLaws.{digits-all}
+use Rattle.layout.specs.Record.{isType}
+use Rattle.judging.specs.Errors.{zeroLocalCode}
 use Rattle.onecase.specs.Changes.{addedLocalCode, freshRow, recertified, renamed, reidentified, deleted, relocated, amended, excluded, paid, transferred, readdressed}
 use Rattle.onecase.proofs.JudgementLaws.{NoError}
-use Rattle.onecase.proofs.ColumnsLaws.{columns-of-columns}
+use Rattle.text.proofs.ColumnsLaws.{columns-of-columns}
 use Rattle.onecase.proofs.DigitsLaws.{digits-part}
 use Rattle.onecase.proofs.ChangesLaws
 use Rattle.onecase.proofs.AcceptedLaws
 use Rattle.onecase.proofs.SoundLaws.{SoundAt, columnsOf, written-sound, free-sound}
+use Rattle.judging.specs.Setting.{Setting}
 
 -- the first four characters of the last name sent
 name-front : (rec : List ℕ) → columns 1 4 (lastName rec) ≡ columns 30 33 rec
@@ -82,7 +83,7 @@ unfolding isLive
 amended-status row live true = refl
 amended-status row live false = live
 
-module _ {state : List ℕ} {year : ℕ} {list : List ℕ} {held : Option (List ℕ)} {rec : List ℕ} (n : NoError state year list held rec)
+module _ {setting : Setting} {held : Option (List ℕ)} {rec : List ℕ} (n : NoError setting held rec)
     (e : length rec ≡ 245) where
   -- the arrearage sent, eight digits
   sent-digits : (isType A rec || isType M rec || isType S rec) ≡ true → allDigits (columns 1 8 (arrearage rec)) ≡ true
@@ -105,14 +106,14 @@ module _ {state : List ℕ} {year : ℕ} {list : List ℕ} {held : Option (List 
           filler-blank = s .filler-blank;
         })
 
-    pub relocated-sound : isLocalList list ≡ true → isType L rec ≡ true → isSoundRow (relocated rec row) ≡ true
+    pub relocated-sound : isLocalList (setting .list) ≡ true → isType L rec ≡ true → isSoundRow (relocated rec row) ≡ true
     relocated-sound l t =
         rw (ChangesLaws.relocated-is rec row)
         (written-sound (ChangesLaws.relocatedPuts rec) row (ChangesLaws.relocated-fit rec e) w refl
         record {
           key-sound = s .key-sound;
           local-digits =
-              digits-part 1 3 (cond (isBlank (localCode rec)) noLocalCode (localCode rec)) (AcceptedLaws.relocated-digits n l t);
+              digits-part 1 3 (cond (isBlank (localCode rec)) zeroLocalCode (localCode rec)) (AcceptedLaws.relocated-digits n l t);
           name-right = s .name-right;
           name-letter = s .name-letter;
           arrearage-digits = s .arrearage-digits;
@@ -155,14 +156,14 @@ module _ {state : List ℕ} {year : ℕ} {list : List ℕ} {held : Option (List 
             filler-blank = s .filler-blank;
           })
 
-      pub recertified-sound : isLocalList list ≡ true → isType A rec ≡ true → isSoundRow (recertified list rec row) ≡ true
+      pub recertified-sound : isLocalList (setting .list) ≡ true → isType A rec ≡ true → isSoundRow (recertified (setting .list) rec row) ≡ true
       unfolding isLive
       recertified-sound l a =
-          rw (ChangesLaws.recertified-is list rec row)
-          (written-sound (ChangesLaws.recertifiedPuts list rec) row (ChangesLaws.recertified-fit rec e list) w refl
+          rw (ChangesLaws.recertified-is (setting .list) rec row)
+          (written-sound (ChangesLaws.recertifiedPuts (setting .list) rec) row (ChangesLaws.recertified-fit rec e (setting .list)) w refl
           record {
             key-sound = s .key-sound;
-            local-digits = digits-part 1 3 (addedLocalCode list rec) (AcceptedLaws.added-digits list rec l);
+            local-digits = digits-part 1 3 (addedLocalCode (setting .list) rec) (AcceptedLaws.added-digits (setting .list) rec l);
             name-right = rw (name-front rec) (AcceptedLaws.name-right n);
             name-letter = rw (name-front rec) (AcceptedLaws.name-letter n (rw a));
             arrearage-digits = sent-digits (rw a);
@@ -172,14 +173,14 @@ module _ {state : List ℕ} {year : ℕ} {list : List ℕ} {held : Option (List 
             filler-blank = s .filler-blank;
           })
 
-  pub fresh-sound : isLocalList list ≡ true → isType A rec ≡ true → isSoundRow (freshRow list rec) ≡ true
+  pub fresh-sound : isLocalList (setting .list) ≡ true → isType A rec ≡ true → isSoundRow (freshRow (setting .list) rec) ≡ true
   unfolding allDigits isDigit isBlank
   fresh-sound l a =
-      rw (ChangesLaws.fresh-is list rec)
-      (written-sound (ChangesLaws.freshPuts list rec) (spaces 200) (ChangesLaws.fresh-fit rec e list) refl refl
+      rw (ChangesLaws.fresh-is (setting .list) rec)
+      (written-sound (ChangesLaws.freshPuts (setting .list) rec) (spaces 200) (ChangesLaws.fresh-fit rec e (setting .list)) refl refl
       record {
         key-sound = rw (ChangesLaws.key-whole rec e) (AcceptedLaws.key-sound n e);
-        local-digits = digits-part 1 3 (addedLocalCode list rec) (AcceptedLaws.added-digits list rec l);
+        local-digits = digits-part 1 3 (addedLocalCode (setting .list) rec) (AcceptedLaws.added-digits (setting .list) rec l);
         name-right = rw (name-front rec) (AcceptedLaws.name-right n);
         name-letter = rw (name-front rec) (AcceptedLaws.name-letter n (rw a));
         arrearage-digits = sent-digits (rw a);

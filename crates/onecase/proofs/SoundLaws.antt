@@ -7,15 +7,15 @@ use mathlib.Core.List.{List}
 use mathlib.Core.Bool.{Bool, true, cond, _&&_}
 use lib.Dec.{eqb, lit≤}
 use lib.ListN.{length, getD}
-use Rattle.layout.specs.Characters.{space, D}
-use Rattle.layout.specs.Fields.{columns, isBlank, isZero, allDigits}
+use Rattle.text.specs.Characters.{space, D}
+use Rattle.text.specs.Fields.{columns, isBlank, isZero, allDigits}
 use Rattle.layout.specs.Name.{isName, hasLetter}
 use Rattle.layout.specs.Key.{isSoundKey}
-use Rattle.layout.specs.Row.{isLive, isDeleted, isStatusSound, areFieldsSound, isSoundRow}
-use Rattle.layout.proofs.FieldsLaws.{and-left, and-right}
-use Rattle.onecase.proofs.BoolLaws.{and-both}
+use Rattle.casemaster.specs.Row.{isLive, isDeleted, isStatusSound, areFieldsSound, isSoundRow}
+use Rattle.text.proofs.FieldsLaws.{and-left, and-right}
+use Rattle.text.proofs.BoolLaws.{and-both}
 use Rattle.onecase.proofs.DigitsLaws.{digits-append}
-use Rattle.onecase.proofs.ColumnsLaws.{columns-split, Put, written, AllFit, isClear, read, columns-written, isFree, columns-free}
+use Rattle.text.proofs.ColumnsLaws.{columns-split, Put, written, AllFit, isClear, read, columns-written, isFree, columns-free}
 
 -- ---- the columns that soundness reads
 

@@ -1,13 +1,13 @@
 -- The rows that an A leaves, from the steps in which they are written. Assumes nothing.
 use Prim.Native.Nat.{ℕ}
-use mathlib.Core.Path.{_≡_, refl}
+use mathlib.Core.Path.{_≡_}
 use mathlib.Core.List.{List}
-use Rattle.layout.specs.Fields.{placed, isBlank, spaces}
+use Rattle.text.specs.Fields.{placed, isBlank, spaces}
 use Rattle.layout.specs.ChartA1.{caseId, lastName, firstName, arrearage, dateIssued}
-use Rattle.onecase.specs.Record.{recordKey}
+use Rattle.layout.specs.Record.{recordKey}
 use Rattle.onecase.specs.Changes.{zeros, address, exclusionByte, addedLocalCode, placedUnless, freshRow, recertified}
 
-pub fresh-steps : (list rec set local key a b c d e f g h i r : List ℕ)
+pub fresh-steps : (list rec set key a b c d e f g h i r : List ℕ)
     → set ≡ exclusionByte rec
     → a ≡ placed 195 195 set (spaces 200)
     → b ≡ placed 187 194 (dateIssued rec) a
@@ -17,16 +17,15 @@ pub fresh-steps : (list rec set local key a b c d e f g h i r : List ℕ)
     → f ≡ placed 51 65 (firstName rec) e
     → g ≡ placed 31 50 (lastName rec) f
     → h ≡ placed 16 30 (caseId rec) g
-    → local ≡ addedLocalCode list rec
-    → i ≡ placed 13 15 local h
+    → i ≡ placed 13 15 (addedLocalCode list rec) h
     → key ≡ recordKey rec
     → r ≡ placed 1 12 key i
     → r ≡ freshRow list rec
 unfolding freshRow
-fresh-steps list rec set local key a b c d e f g h i r es ea eb ec ed ee ef eg eh el ei ek er =
-    rw (er, ek, ei, el, eh, eg, ef, ee, ed, ec, eb, ea, es)
+fresh-steps list rec set key a b c d e f g h i r es ea eb ec ed ee ef eg eh ei ek er =
+    rw (er, ek, ei, eh, eg, ef, ee, ed, ec, eb, ea, es)
 
-pub recertified-steps : (list rec row set local a b c d e f g r : List ℕ)
+pub recertified-steps : (list rec row set a b c d e f g r : List ℕ)
     → set ≡ exclusionByte rec
     → a ≡ placed 195 195 set row
     → b ≡ placedUnless (isBlank (dateIssued rec)) 187 194 (dateIssued rec) a
@@ -35,8 +34,7 @@ pub recertified-steps : (list rec row set local a b c d e f g r : List ℕ)
     → e ≡ placed 51 65 (firstName rec) d
     → f ≡ placed 31 50 (lastName rec) e
     → g ≡ placedUnless (isBlank (caseId rec)) 16 30 (caseId rec) f
-    → local ≡ addedLocalCode list rec
-    → r ≡ placed 13 15 local g
+    → r ≡ placed 13 15 (addedLocalCode list rec) g
     → r ≡ recertified list rec row
 unfolding recertified
-recertified-steps list rec row set local a b c d e f g r es ea eb ec ed ee ef eg el er = rw (er, el, eg, ef, ee, ed, ec, eb, ea, es)
+recertified-steps list rec row set a b c d e f g r es ea eb ec ed ee ef eg er = rw (er, eg, ef, ee, ed, ec, eb, ea, es)

@@ -3,29 +3,26 @@
 use Prim.Native.Nat.{ℕ}
 use mathlib.Core.Path.{_≡_, refl}
 use lib.ListN.{length}
-use Rattle.layout.specs.Characters.{isLetter, isDigit}
-use Rattle.layout.specs.Fields.{isBlank, isZero, allDigits, areDigits, number, digitField, sameBytes, isOneOf}
+use Rattle.text.specs.Characters.{isLetter, isDigit}
+use Rattle.text.specs.Fields.{isBlank, isZero, allDigits, areDigits, number, digitField, sameBytes, isOneOf}
 use Rattle.layout.specs.States.{stateTable, isState}
 use Rattle.layout.specs.Ssn.{wrongSsn}
 use Rattle.layout.specs.Name.{isNameByte, isNameRest, isName, hasLetter}
 use Rattle.layout.specs.Calendar.{isLeap, daysIn, isDay, isDate}
 use Rattle.layout.specs.ProcessYear.{inWindow}
 use Rattle.layout.specs.Exclusions.{exclusionNames, isSeparator, wordsFrom, readOnto, exclusionsOf}
-use Rattle.layout.specs.Blocks.{blocks}
+use Rattle.text.specs.Blocks.{blocks}
 use Rattle.layout.specs.Locals.{codesOfList, isListed}
 use Rattle.layout.specs.Key.{isCaseType, isSoundKey}
-use Rattle.layout.specs.Row.{isLive, isStatusSound, areFieldsSound, isSoundRow}
-use Rattle.onecase.specs.Record.{isKnownType}
-use Rattle.onecase.specs.Errors.{error01, error02, error03, error04, error05, error06, error07, error08, isLiveRow, error09}
-use Rattle.onecase.specs.Errors.{isLocalCode, error10, error11, error12, error13, wrongPart, error14, error15, error16}
-use Rattle.onecase.specs.Errors.{isOtherName, error17, error18, isWrongKey, judged09, judged17, errors}
-use Rattle.onecase.specs.Warnings.{warning51, isRenamed, warning52, warnings}
+use Rattle.casemaster.specs.Row.{isLive, isStatusSound, areFieldsSound, isSoundRow}
+use Rattle.casemaster.specs.Rows.{rowWith}
+use Rattle.layout.specs.Record.{isKnownType}
+use Rattle.judging.specs.Errors.{error01, error02, error03, error04, error05, error06, error07, error08, isLiveRow, error09, isLocalCode, error10, error11, error12, error13, wrongPart, error14, error15, error16, isOtherName, error17, error18, isWrongKey, judged09, judged17, errors}
+use Rattle.judging.specs.Warnings.{warning51, isRenamed, warning52, warnings}
 use Rattle.onecase.specs.Verdict.{isAccepted, codes, judgement}
 use Rattle.onecase.specs.Changes.{exclusionByte, addedLocalCode, freshRow, amended}
 use Rattle.onecase.specs.Machine.{changed, added, applied, next}
-use Rattle.onecase.specs.Table.{LI, O-NE, O·NE, blank, threeWords, oneWord, RETPAS, ProvedTable}
-use Rattle.onecase.specs.Table.{base, ofSsn, ofName, ofAmount, ofCaseType, ofYear, ofDate, ofExclusions, verdict, after, gets, passes}
-use Rattle.onecase.specs.Table.{liveRow, owing, deletedRow, afterM, afterL, afterA, afterAmounts}
+use Rattle.onecase.specs.Table.{LI, O-NE, O·NE, blank, threeWords, oneWord, RETPAS, ProvedTable, base, ofSsn, ofName, ofAmount, ofCaseType, ofYear, ofDate, ofExclusions, verdict, after, gets, passes, liveRow, owing, deletedRow, afterM, afterL, afterA, afterAmounts, tanf, nonTanf}
 
 pub proved-table : ProvedTable
 unfolding
@@ -37,7 +34,7 @@ unfolding
     warning51 isRenamed warning52 warnings isAccepted codes judgement
     exclusionByte addedLocalCode freshRow amended changed added applied next
     base ofSsn ofName ofAmount ofCaseType ofYear ofDate ofExclusions verdict after gets passes
-    liveRow owing deletedRow afterM afterL afterA afterAmounts
+    liveRow owing deletedRow afterM afterL afterA afterAmounts rowWith tanf nonTanf
 proved-table =
     record {
       a = (refl, refl);
@@ -48,7 +45,7 @@ proved-table =
       f = (refl, refl, refl, refl, refl, refl);
       g = (refl, refl, refl, refl);
       h = (refl, refl, refl, refl, refl, refl, refl, refl, refl, refl, refl, refl);
-      i = refl;
+      i = (refl, refl, refl, refl, refl, refl, refl);
       j = (refl, refl, refl);
     }
 

@@ -4,13 +4,13 @@ use mathlib.Core.List.{List, [], _∷_}
 use mathlib.Core.Bool.{Bool, not, cond}
 use mathlib.Core.Option.{Option, none, some}
 use lib.ListN.{replicate}
-use Rattle.layout.specs.Characters.{zeroDigit, D}
-use Rattle.layout.specs.Fields.{columns, placed, isBlank, isZero, spaces}
+use Rattle.text.specs.Characters.{zeroDigit, D}
+use Rattle.text.specs.Fields.{columns, placed, isBlank, isZero, spaces}
 use Rattle.layout.specs.Exclusions.{exclusionsOf}
 use Rattle.layout.specs.Locals.{isListed}
 use Rattle.layout.specs.ChartA1.{localCode, caseId, lastName, firstName, arrearage, transferState, transferLocalCode, processYear, dateIssued, exclusions}
-use Rattle.onecase.specs.Record.{recordKey}
-use Rattle.onecase.specs.Errors.{noLocalCode}
+use Rattle.layout.specs.Record.{recordKey}
+use Rattle.judging.specs.Errors.{zeroLocalCode}
 
 abbrev pub zeros : ℕ → List ℕ
 zeros n = replicate n zeroDigit
@@ -29,7 +29,7 @@ exclusionByte rec = setByte (exclusionsOf (exclusions rec)) ∷ []
 
 -- A, local code in both cases: as sent if listed, else 000
 unfoldable pub addedLocalCode : List ℕ → List ℕ → List ℕ
-addedLocalCode list rec = cond (isListed (localCode rec) list) (localCode rec) noLocalCode
+addedLocalCode list rec = cond (isListed (localCode rec) list) (localCode rec) zeroLocalCode
 
 -- f in columns first to last, unless the condition holds
 abbrev pub placedUnless : Bool → ℕ → ℕ → List ℕ → List ℕ → List ℕ
@@ -79,7 +79,7 @@ deleted row = placed 196 196 (D ∷ []) (placed 66 73 (zeros 8) row)
 
 -- L: local code, blank becoming 000
 unfoldable pub relocated : List ℕ → List ℕ → List ℕ
-relocated rec row = placed 13 15 (cond (isBlank (localCode rec)) noLocalCode (localCode rec)) row
+relocated rec row = placed 13 15 (cond (isBlank (localCode rec)) zeroLocalCode (localCode rec)) row
 
 -- M: arrearage; zero also deletes
 unfoldable pub amended : List ℕ → List ℕ → List ℕ

@@ -1,8 +1,5 @@
-pub mod Record
-pub mod Errors
-pub mod Parts
-pub mod Warnings
-pub mod Verdict
 pub mod Changes
+pub mod Copies
 pub mod Machine
 pub mod Table
+pub mod Verdict

@@ -5,13 +5,15 @@ use mathlib.Core.Path.{_≡_}
 use mathlib.Core.List.{List}
 use mathlib.Core.Bool.{cond}
 use mathlib.Core.Option.{Option, none, some}
-use Rattle.layout.specs.Characters.{A, B, C, D, L, M, R, S, T}
-use Rattle.layout.specs.Row.{isLive}
-use Rattle.onecase.specs.Record.{isType, rowIf}
+use Rattle.text.specs.Characters.{A, B, C, D, L, M, R, S, T}
+use Rattle.casemaster.specs.Row.{isLive}
+use Rattle.layout.specs.Record.{isType}
 use Rattle.onecase.specs.Verdict.{isAccepted, judgement, meaning, saysAccepted}
 use Rattle.onecase.specs.Changes.{freshRow, recertified, renamed, reidentified, deleted, relocated, amended, excluded, paid, transferred, readdressed}
 use Rattle.onecase.specs.declared.case.Case.{Case}
 use Rattle.onecase.specs.declared.case.Step.{Step}
+use Rattle.judging.specs.State.{rowIf}
+use Rattle.judging.specs.Setting.{Setting}
 
 -- a record of any type but A on its row
 unfoldable pub changed : List ℕ → List ℕ → List ℕ
@@ -41,15 +43,15 @@ unfoldable pub applied : List ℕ → Option (List ℕ) → List ℕ → Option 
 applied list row rec = cond (isType A rec) (some (added list rec row)) (changedRow rec row)
 
 -- the row after the step, where row is none or has the record's key: an error changes nothing
-unfoldable pub next : List ℕ → ℕ → List ℕ → Option (List ℕ) → List ℕ → Option (List ℕ)
-next state year list row rec = cond (isAccepted state year list row rec) (applied list row rec) row
+unfoldable pub next : Setting → Option (List ℕ) → List ℕ → Option (List ℕ)
+next setting row rec = cond (isAccepted setting row rec) (applied (setting .list) row rec) row
 
 -- the state that the code's value stands for
 abbrev pub rowOf : Case → Option (List ℕ)
 rowOf c = rowIf (c .held) (c .row)
 
 -- an answer of the step: the new state, the verdict, and that accepted is said exactly where no error holds
-pub record IsStep (state : List ℕ) (year : ℕ) (list : List ℕ) (row : Option (List ℕ)) (rec : List ℕ) (answer : Step) : Type 0 where
-  pub row-is : rowOf (answer .case) ≡ next state year list row rec
-  pub verdict-is : meaning (answer .verdict) ≡ judgement state year list row rec
-  pub accepted-is : saysAccepted (answer .verdict) ≡ isAccepted state year list row rec
+pub record IsStep (setting : Setting) (row : Option (List ℕ)) (rec : List ℕ) (answer : Step) : Type 0 where
+  pub row-is : rowOf (answer .case) ≡ next setting row rec
+  pub verdict-is : meaning (answer .verdict) ≡ judgement setting row rec
+  pub accepted-is : saysAccepted (answer .verdict) ≡ isAccepted setting row rec

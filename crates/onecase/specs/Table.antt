@@ -6,18 +6,20 @@ use mathlib.Core.List.{List, [], _∷_, _++_}
 use mathlib.Core.Bool.{true, false}
 use mathlib.Core.Option.{Option, none, some}
 use lib.ListN.{length}
-use Rattle.layout.specs.Characters.{isLetter, space, hyphen, comma, A, D, E, F, H, I, J, L, M, N, O, P, R, S, T, X}
-use Rattle.layout.specs.Fields.{placed, digitField, spaces, sameBytes}
+use Rattle.text.specs.Characters.{isLetter, space, hyphen, comma, A, D, E, F, H, I, J, L, M, N, O, P, R, S, T, X}
+use Rattle.text.specs.Fields.{placed, digitField, spaces, sameBytes}
 use Rattle.layout.specs.Ssn.{wrongSsn}
 use Rattle.layout.specs.Name.{isName}
 use Rattle.layout.specs.Calendar.{isDate}
 use Rattle.layout.specs.ProcessYear.{inWindow}
 use Rattle.layout.specs.Exclusions.{exclusionsOf}
-use Rattle.layout.specs.Row.{rowKey, rowArrearage, rowExclusions, rowStatus, isLive, isSoundRow}
-use Rattle.onecase.specs.Record.{recordKey}
+use Rattle.casemaster.specs.Row.{rowKey, rowArrearage, rowExclusions, rowStatus, isLive, isSoundRow}
+use Rattle.casemaster.specs.Rows.{rowWith}
+use Rattle.layout.specs.Record.{recordKey}
 use Rattle.onecase.specs.Verdict.{Judgement, judgement}
 use Rattle.onecase.specs.Changes.{zeros}
 use Rattle.onecase.specs.Machine.{next}
+use Rattle.judging.specs.Setting.{settingOf}
 
 -- ---- the records
 
@@ -86,10 +88,10 @@ liveRow =
 
 -- the verdict on a record, and the row after it
 unfoldable pub verdict : Option (List ℕ) → List ℕ → Judgement
-verdict row rec = judgement ohio 2007 [] row rec
+verdict row rec = judgement (settingOf ohio 2007 []) row rec
 
 unfoldable pub after : Option (List ℕ) → List ℕ → Option (List ℕ)
-after row rec = next ohio 2007 [] row rec
+after row rec = next (settingOf ohio 2007 []) row rec
 
 -- the codes of a verdict, no other, and no stored name
 unfoldable pub gets : List ℕ → Judgement
@@ -102,6 +104,11 @@ passes = gets []
 abbrev pub seen : (List ℕ → List ℕ) → Option (List ℕ) → List ℕ
 seen field none = []
 seen field (some row) = field row
+
+-- the rows of a master with that row alone, or with none
+abbrev pub rowsIn : Option (List ℕ) → List (List ℕ)
+rowsIn none = []
+rowsIn (some row) = row ∷ []
 
 -- ---- the names and words of lines (c) and (d)
 
@@ -127,6 +134,14 @@ oneWord = comma ∷ comma ∷ T ∷ A ∷ X ∷ []
 
 abbrev pub RETPAS : List ℕ
 RETPAS = R ∷ E ∷ T ∷ P ∷ A ∷ S ∷ []
+
+-- ---- the records of line (i)
+
+unfoldable pub tanf : List ℕ
+tanf = ofCaseType A (base A)
+
+unfoldable pub nonTanf : List ℕ
+nonTanf = ofCaseType N (base A)
 
 -- ---- the rows of lines (h) and (j)
 
@@ -222,8 +237,15 @@ pub record ProvedTable : Type 0 where
       × (verdict afterL (ofAmount 25 (base A)) ≡ passes)
       × (afterA ≡ some (owing 25))
       × (isLive (owing 25) ≡ true)
-  -- A and N are two keys: records that differ in column 74 alone
-  pub i : sameBytes (recordKey (ofCaseType A (base A))) (recordKey (ofCaseType N (base A))) ≡ false
+  -- A and N are two keys: of two records that differ in column 74 alone, each leaves a row under its own key, and none under the other's
+  pub i :
+      (sameBytes (recordKey tanf) (recordKey nonTanf) ≡ false)
+      × (seen rowKey (after none tanf) ≡ recordKey tanf)
+      × (seen rowKey (after none nonTanf) ≡ recordKey nonTanf)
+      × (rowWith (recordKey tanf) (rowsIn (after none tanf)) ≡ after none tanf)
+      × (rowWith (recordKey nonTanf) (rowsIn (after none nonTanf)) ≡ after none nonTanf)
+      × (rowWith (recordKey nonTanf) (rowsIn (after none tanf)) ≡ none)
+      × (rowWith (recordKey tanf) (rowsIn (after none nonTanf)) ≡ none)
   -- M 100 then M 200 on a key, and turned round: different rows
   pub j :
       (afterAmounts 100 200 ≡ some (owing 200))

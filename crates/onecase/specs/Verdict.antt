@@ -4,14 +4,15 @@ use mathlib.Core.Path.{_≡_}
 use mathlib.Core.List.{List, [], _∷_}
 use mathlib.Core.Bool.{Bool, true, false, cond}
 use mathlib.Core.Option.{Option, none, some}
-use lib.Dec.{leb}
-use Rattle.layout.specs.Fields.{columns}
+use lib.Dec.{eqb, leb}
+use Rattle.text.specs.Fields.{columns, any}
 use Rattle.layout.specs.Codes.{codesOfNumber}
-use Rattle.onecase.specs.Errors.{errors, judged17}
-use Rattle.onecase.specs.Warnings.{warnings}
+use Rattle.judging.specs.Errors.{errors, judged17}
+use Rattle.judging.specs.Warnings.{warnings}
 use Rattle.onecase.specs.declared.verdict.FourBytes.{FourBytes}
 use Rattle.onecase.specs.declared.verdict.Verdict.{Verdict}
 use Rattle.onecase.specs.declared.verdict.Verdict.the-variants.{Accepted, Rejected, RejectedWithName}
+use Rattle.judging.specs.Setting.{Setting}
 
 pub record Judgement : Type 0 where
   -- the set of codes, rising
@@ -24,22 +25,22 @@ isEmpty [] = true
 isEmpty (c ∷ cs) = false
 
 -- no error holds
-unfoldable pub isAccepted : List ℕ → ℕ → List ℕ → Option (List ℕ) → List ℕ → Bool
-isAccepted state year list row rec = isEmpty (errors state year list row rec)
+unfoldable pub isAccepted : Setting → Option (List ℕ) → List ℕ → Bool
+isAccepted setting row rec = isEmpty (errors setting row rec)
 
 -- all errors that hold; warnings come only without errors, and join the set
-unfoldable pub codes : List ℕ → ℕ → List ℕ → Option (List ℕ) → List ℕ → List ℕ
-codes state year list row rec =
-    cond (isAccepted state year list row rec) (warnings list row rec) (errors state year list row rec)
+unfoldable pub codes : Setting → Option (List ℕ) → List ℕ → List ℕ
+codes setting row rec =
+    cond (isAccepted setting row rec) (warnings (setting .list) row rec) (errors setting row rec)
 
 -- the first four stored characters of the last name
 abbrev pub storedName : Option (List ℕ) → Option (List ℕ)
 storedName none = none
 storedName (some row) = some (columns 31 34 row)
 
-unfoldable pub judgement : List ℕ → ℕ → List ℕ → Option (List ℕ) → List ℕ → Judgement
-judgement state year list row rec =
-    record { codes = codes state year list row rec; name = cond (judged17 state row rec) (storedName row) none }
+unfoldable pub judgement : Setting → Option (List ℕ) → List ℕ → Judgement
+judgement setting row rec =
+    record { codes = codes setting row rec; name = cond (judged17 setting row rec) (storedName row) none }
 
 -- errors are 01 to 18, warnings 51 and 52
 abbrev pub isError : ℕ → Bool
@@ -48,13 +49,17 @@ isError c = leb c 18
 abbrev pub isWarning : ℕ → Bool
 isWarning c = leb 51 c
 
+-- a code is in the set
+abbrev pub hasCode : ℕ → List ℕ → Bool
+hasCode c codes = any (λ (k : ℕ). eqb k c) codes
+
 -- rejected: an error is in the set
 unfoldable pub isRejected : Judgement → Bool
-isRejected verdict = Rattle.layout.specs.Fields.some isError (verdict .codes)
+isRejected verdict = any isError (verdict .codes)
 
 -- warned: a warning is in the set
 unfoldable pub isWarned : Judgement → Bool
-isWarned verdict = Rattle.layout.specs.Fields.some isWarning (verdict .codes)
+isWarned verdict = any isWarning (verdict .codes)
 
 -- four bytes as a field
 abbrev pub fourBytes : FourBytes → List ℕ
@@ -76,3 +81,7 @@ saysAccepted (RejectedWithName set n) = false
 pub record IsRejection (set : ℕ) (named : Bool) (row : List ℕ) (v : Verdict) : Type 0 where
   pub means : meaning v ≡ record { codes = codesOfNumber set; name = cond named (some (columns 31 34 row)) none }
   pub rejects : saysAccepted v ≡ false
+
+-- no codes and no name
+abbrev pub noJudgement : Judgement
+noJudgement = record { codes = []; name = none }

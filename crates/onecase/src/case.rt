@@ -1,15 +1,17 @@
 // The machine: its state by value, and a step per record that hands the new state back.
 use crate::changes;
-use crate::judge;
 use crate::verdict;
 use crate::verdict::Verdict;
-use crate::warnings;
-use layout::row;
+use casemaster::row;
+use judging::judge;
+use judging::warnings;
+use layout::record;
 ghost use mathlib.Core.Path.{_≡_};
 ghost use mathlib.Core.Option.{none};
 ghost use Rattle.onecase.specs.Machine.{applied, next, rowOf, IsStep};
 ghost use Rattle.onecase.specs.Verdict.{IsRejection};
-ghost use Rattle.onecase.specs.Record.{rowIf, isHeld};
+ghost use Rattle.judging.specs.State.{rowIf, isHeld};
+ghost use Rattle.judging.specs.Setting.{settingOf};
 
 // One row or none: where no row is held, the bytes stand for nothing.
 pub struct Case {
@@ -23,12 +25,20 @@ pub struct Step {
     pub verdict: Verdict,
 }
 
+// The machine's state without a row.
+pub fn no_case() -> Case
+    ensures { λ r. ⌜ rowOf r ≡ none ⌝ }
+{
+    let row = [0x40u8; 200];
+    Case { held: false, row }
+}
+
 // The row that a record without an error leaves.
 fn applied_row(held: bool, row: [u8; 200], rec: &[u8; 245], list: &[u8]) -> Case
     ensures { λ r. ⌜ rowOf r ≡ applied (now (list .entry)) (rowIf held row) (now (rec .entry)) ⌝ }
 {
     let t = rec[72];
-    if t == 0xC1 {
+    if t == record::ADD {
         if held & row::is_live(&row) {
             let next = changes::recertified_row(row, rec, list);
             return Case {
@@ -66,7 +76,7 @@ fn step_row(
     year: u64,
     list: &[u8],
 ) -> Step
-    ensures { λ r. ⌜ IsStep (now (state .entry)) year (now (list .entry)) (rowIf held row) (now (rec .entry)) r ⌝ }
+    ensures { λ r. ⌜ IsStep (settingOf (now (state .entry)) year (now (list .entry))) (rowIf held row) (now (rec .entry)) r ⌝ }
 {
     let judged = judge::judge(rec, held, &row, state, year, list);
     let set = judged.set;
@@ -86,10 +96,10 @@ fn step_row(
 
 // Whether a record makes a row where there is none: an A without an error. Nothing is written for it.
 pub fn makes_row(rec: &[u8; 245], state: &[u8], year: u64, list: &[u8]) -> bool
-    ensures { λ r. ⌜ r ≡ isHeld (next (now (state .entry)) year (now (list .entry)) none (now (rec .entry))) ⌝ }
+    ensures { λ r. ⌜ r ≡ isHeld (next (settingOf (now (state .entry)) year (now (list .entry))) none (now (rec .entry))) ⌝ }
 {
     let t = rec[72];
-    if t == 0xC1 {
+    if t == record::ADD {
         let row = [0x40u8; 200];
         let judged = judge::judge(rec, false, &row, state, year, list);
         judged.set == 0
@@ -101,7 +111,7 @@ pub fn makes_row(rec: &[u8; 245], state: &[u8], year: u64, list: &[u8]) -> bool
 impl Case {
     // One record: an error changes nothing.
     pub fn step(self, rec: &[u8; 245], state: &[u8], year: u64, list: &[u8]) -> Step
-        ensures { λ r. ⌜ IsStep (now (state .entry)) year (now (list .entry)) (rowOf self) (now (rec .entry)) r ⌝ }
+        ensures { λ r. ⌜ IsStep (settingOf (now (state .entry)) year (now (list .entry))) (rowOf self) (now (rec .entry)) r ⌝ }
     {
         let row = self.row;
         let held = self.held;

@@ -1,22 +1,23 @@
 // What a record without an error does to its row, type by type.
-use crate::record;
+use casemaster::row;
 use layout::chart_a1;
 use layout::exclusions;
 use layout::exclusions::Exclusions;
-use layout::fields;
-use layout::fields::Columns;
 use layout::locals;
-use layout::row;
+use layout::record;
+use text::fields;
+use text::fields::Columns;
 ghost use mathlib.Core.Path.{_≡_};
-ghost use Prim.Native.Nat.{_+_, _≤_};
+ghost use Prim.Native.Nat.{_+_};
 ghost use lib.ListN.{length};
-ghost use Rattle.layout.specs.Fields.{columns, placed, isBlank};
+ghost use Rattle.text.specs.Fields.{columns, placed, isBlank};
+ghost use Rattle.onecase.specs.Copies.{InRow, InRecord};
 ghost use Rattle.onecase.specs.Machine.{changed};
 ghost use Rattle.onecase.specs.Changes.{placedUnless, exclusionByte, addedLocalCode, freshRow, recertified, renamed, reidentified, deleted, relocated, amended, excluded, paid, transferred, readdressed};
 
 // The row with columns `from` of the record in its columns `to`, which are as many.
 fn copied(row: [u8; 200], to: Columns, rec: &[u8; 245], from: Columns) -> [u8; 200]
-    requires { ⌜ (1 ≤ to .first) × (to .first ≤ to .last + 1) × (to .last ≤ 200) × (1 ≤ from .first) × (from .first ≤ from .last + 1) × (from .last ≤ 245) × (to .last + from .first ≡ from .last + to .first) ⌝ }
+    requires { ⌜ InRow to × InRecord from × (to .last + from .first ≡ from .last + to .first) ⌝ }
     ensures { λ r. ⌜ r ≡ placed (to .first) (to .last) (columns (from .first) (from .last) (now (rec .entry))) row ⌝ }
 {
     let mut out = row;
@@ -26,7 +27,7 @@ fn copied(row: [u8; 200], to: Columns, rec: &[u8; 245], from: Columns) -> [u8; 2
 
 // The same, unless those columns of the record are blank.
 fn copied_unless_blank(row: [u8; 200], to: Columns, rec: &[u8; 245], from: Columns) -> [u8; 200]
-    requires { ⌜ (1 ≤ to .first) × (to .first ≤ to .last + 1) × (to .last ≤ 200) × (1 ≤ from .first) × (from .first ≤ from .last + 1) × (from .last ≤ 245) × (to .last + from .first ≡ from .last + to .first) ⌝ }
+    requires { ⌜ InRow to × InRecord from × (to .last + from .first ≡ from .last + to .first) ⌝ }
     ensures { λ r. ⌜ r ≡ placedUnless (isBlank (columns (from .first) (from .last) (now (rec .entry)))) (to .first) (to .last) (columns (from .first) (from .last) (now (rec .entry))) row ⌝ }
 {
     if fields::is_blank(fields::field(rec, from)) {
@@ -38,7 +39,7 @@ fn copied_unless_blank(row: [u8; 200], to: Columns, rec: &[u8; 245], from: Colum
 
 // The row with the bytes in its columns `to`, which are as many.
 fn written(row: [u8; 200], to: Columns, bytes: &[u8]) -> [u8; 200]
-    requires { ⌜ (1 ≤ to .first) × (to .first ≤ to .last + 1) × (to .last ≤ 200) × (to .last + 1 ≡ to .first + length (now bytes)) ⌝ }
+    requires { ⌜ InRow to × (to .last + 1 ≡ to .first + length (now bytes)) ⌝ }
     ensures { λ r. ⌜ r ≡ placed (to .first) (to .last) (now (bytes .entry)) row ⌝ }
 {
     let mut out = row;
@@ -56,15 +57,14 @@ fn exclusion_byte(rec: &[u8; 245]) -> [u8; 1]
     }
 }
 
-// The local code that an A stores: as sent if listed, else 000.
-fn added_local_code(rec: &[u8; 245], list: &[u8]) -> [u8; 3]
-    ensures { λ r. ⌜ r ≡ addedLocalCode (now (list .entry)) (now (rec .entry)) ⌝ }
+// The row with the local code that an A stores: as sent if listed, else 000.
+fn with_local_code(row: [u8; 200], rec: &[u8; 245], list: &[u8]) -> [u8; 200]
+    ensures { λ r. ⌜ r ≡ placed 13 15 (addedLocalCode (now (list .entry)) (now (rec .entry))) row ⌝ }
 {
-    let code = fields::field(rec, chart_a1::LOCAL_CODE);
-    if locals::listed(code, list) {
-        [rec[2], rec[3], rec[4]]
+    if locals::listed(fields::field(rec, chart_a1::LOCAL_CODE), list) {
+        copied(row, row::LOCAL_CODE, rec, chart_a1::LOCAL_CODE)
     } else {
-        [0xF0, 0xF0, 0xF0]
+        written(row, row::LOCAL_CODE, b"\xF0\xF0\xF0")
     }
 }
 
@@ -86,8 +86,7 @@ pub fn fresh_row(rec: &[u8; 245], list: &[u8]) -> [u8; 200]
     let f = copied(e, row::FIRST_NAME, rec, chart_a1::FIRST_NAME);
     let g = copied(f, row::LAST_NAME, rec, chart_a1::LAST_NAME);
     let h = copied(g, row::CASE_ID, rec, chart_a1::CASE_ID);
-    let local = added_local_code(rec, list);
-    let i = written(h, row::LOCAL_CODE, &local);
+    let i = with_local_code(h, rec, list);
     let key = record::record_key(rec);
     written(i, row::KEY, &key)
 }
@@ -104,8 +103,7 @@ pub fn recertified_row(row: [u8; 200], rec: &[u8; 245], list: &[u8]) -> [u8; 200
     let e = copied(d, row::FIRST_NAME, rec, chart_a1::FIRST_NAME);
     let f = copied(e, row::LAST_NAME, rec, chart_a1::LAST_NAME);
     let g = copied_unless_blank(f, row::CASE_ID, rec, chart_a1::CASE_ID);
-    let local = added_local_code(rec, list);
-    written(g, row::LOCAL_CODE, &local)
+    with_local_code(g, rec, list)
 }
 
 // B: both names.
@@ -196,14 +194,14 @@ pub fn changed_row(row: [u8; 200], rec: &[u8; 245]) -> [u8; 200]
 {
     let t = rec[72];
     match t {
-        0xC2 => renamed_row(row, rec),
-        0xC3 => reidentified_row(row, rec),
-        0xC4 => deleted_row(row),
-        0xD3 => relocated_row(row, rec),
-        0xD4 => amended_row(row, rec),
-        0xD9 => excluded_row(row, rec),
-        0xE2 => paid_row(row, rec),
-        0xE3 => transferred_row(row, rec),
+        record::RENAME => renamed_row(row, rec),
+        record::CASE_ID => reidentified_row(row, rec),
+        record::DELETE => deleted_row(row),
+        record::LOCAL_CODE => relocated_row(row, rec),
+        record::MODIFY => amended_row(row, rec),
+        record::EXCLUDE => excluded_row(row, rec),
+        record::PAYMENT => paid_row(row, rec),
+        record::TRANSFER => transferred_row(row, rec),
         _ => readdressed_row(row, rec),
     }
 }

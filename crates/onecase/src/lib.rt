@@ -1,8 +1,4 @@
-// The one-case machine: one record judged against one row or none, and what it leaves.
+// The one-case machine: the verdict on a record, what it does to one row or none, and the step.
 pub mod case;
 pub mod changes;
-pub mod errors;
-pub mod judge;
-pub mod record;
 pub mod verdict;
-pub mod warnings;

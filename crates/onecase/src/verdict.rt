@@ -1,6 +1,6 @@
 // The verdict on a record.
 ghost use mathlib.Core.Path.{_≡_};
-ghost use Rattle.layout.specs.Fields.{columns};
+ghost use Rattle.text.specs.Fields.{columns};
 ghost use Rattle.onecase.specs.Verdict.{fourBytes};
 
 // The four stored characters that go with error 17.

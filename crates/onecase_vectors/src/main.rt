@@ -1,10 +1,9 @@
 // Vectors of the one-case machine, worked by hand from the papers. The file stdin has them, a record to a line, and the file stdout the
 // same lines with the verdict and the row behind each record. src/run.rt says how a line is read.
-mod ebcdic;
 mod print;
 mod record;
 mod run;
-mod text;
+mod scan;
 
 fn main() {
     let mut buf = io::large_buffer();

@@ -1,18 +1,16 @@
 // What the lines are made of: verdicts and rows as ASCII text.
 ghost use Prim.Native.Nat.{_≤_};
 ghost use lib.ListN.{length};
-use crate::ebcdic;
-use layout::fields;
-use layout::fields::Columns;
-use layout::row;
-use libc::STDOUT_FILENO;
+use casemaster::row;
 use onecase::case::Case;
 use onecase::verdict::FourBytes;
 use onecase::verdict::Verdict;
-
-pub fn text(s: &[u8]) {
-    io::write_all(STDOUT_FILENO, s);
-}
+use text::fields;
+use text::fields::Columns;
+use vector_text::ebcdic::read;
+use vector_text::print::byte;
+use vector_text::print::number;
+use vector_text::print::text;
 
 // A code as two digits, where it is in the set.
 fn code(holds: bool, c: u64) {
@@ -21,7 +19,7 @@ fn code(holds: bool, c: u64) {
         if c < 10 {
             text(b"0");
         }
-        io::print_decimal(STDOUT_FILENO, c);
+        number(c);
     }
 }
 
@@ -42,7 +40,7 @@ fn codes(set: u64) {
 fn four(n: FourBytes) {
     let bytes = [n.a, n.b, n.c, n.d];
     let mut ascii = [b' '; 4];
-    ebcdic::read(&bytes, &mut ascii);
+    read(&bytes, &mut ascii);
     text(b" [");
     text(&ascii);
     text(b"]");
@@ -85,7 +83,7 @@ fn trimmed_length(s: &[u8]) -> usize
 fn trimmed(s: &[u8]) {
     let used = trimmed_length(s);
     let mut ascii = [b' '; 64];
-    let n = ebcdic::read(&s[0..used], &mut ascii);
+    let n = read(&s[0..used], &mut ascii);
     text(&ascii[..n]);
 }
 
@@ -94,11 +92,6 @@ fn field(row: &[u8; 200], c: Columns)
 {
     text(b"/");
     trimmed(fields::field(row, c));
-}
-
-// A byte as two hexadecimal digits.
-fn byte(b: u8) {
-    io::print_hex(STDOUT_FILENO, b as u64, 2);
 }
 
 // The fields from the arrearage to the date issued.

@@ -1,16 +1,15 @@
 // Records and rows from texts. A record's text is its type and then fields, each the column that it starts at, counted from 1, and
 // in brackets what stands there: `A 30[SMYTH] 65[00000024]`. What it doesn't name is as in the base record: OH, SSN 123456789,
 // SMITH JOHN, 25, N, else blank.
-use crate::ebcdic;
-use crate::text;
-use layout::fields;
-use layout::fields::Columns;
+use crate::scan;
 use onecase::case::Case;
+use text::fields;
+use text::fields::Columns;
 
 // Writes a text in EBCDIC from a column on; one that doesn't fit is left out.
 fn write(columns: &mut [u8], first: usize, text: &[u8]) {
     let mut field = [0x40u8; 64];
-    let n = ebcdic::write(text, &mut field);
+    let n = vector_text::ebcdic::write(text, &mut field);
     if first < 1 {
         return;
     }
@@ -27,9 +26,9 @@ fn write(columns: &mut [u8], first: usize, text: &[u8]) {
 
 // Writes one field: `65[00000024`.
 fn write_field(columns: &mut [u8], field: &[u8]) {
-    let open = text::place(field, 0, b'[');
+    let open = scan::place(field, 0, b'[');
     if open < field.len() {
-        let first = text::number(&field[0..open]) as usize;
+        let first = scan::number(&field[0..open]) as usize;
         let start = open + 1;
         write(columns, first, &field[start..]);
     }
@@ -39,7 +38,7 @@ fn write_field(columns: &mut [u8], field: &[u8]) {
 fn fill(columns: &mut [u8], text: &[u8]) {
     let mut at = 0;
     while at < text.len() {
-        let end = text::place(text, at, b']');
+        let end = scan::place(text, at, b']');
         write_field(columns, &text[at..end]);
         if end == text.len() {
             return;

@@ -6,13 +6,13 @@
 //   A FIELDS           a record of type A on that row
 //   +A FIELDS          a record of type A on what the record before left
 // A record's line with a question mark shows the whole row behind it.
-use crate::ebcdic;
 use crate::print;
 use crate::record;
-use crate::text;
+use crate::scan;
 use onecase::case::Case;
 use onecase::case::Step;
 use onecase::verdict::Verdict;
+use vector_text::ebcdic::write;
 
 struct Control {
     state: [u8; 2],
@@ -44,10 +44,10 @@ fn before(stand: Stand, goes_on: bool) -> Case {
 
 // The answer behind a record's line.
 fn show(verdict: Verdict, after: Case, text: &[u8]) {
-    print::text(b" -> ");
+    vector_text::print::text(b" -> ");
     print::verdict(verdict);
-    print::text(b", ");
-    let question = text::place(text, 0, b'?');
+    vector_text::print::text(b", ");
+    let question = scan::place(text, 0, b'?');
     print::case(after, question < text.len());
 }
 
@@ -80,16 +80,16 @@ fn started(stand: Stand, start: Case) -> Stand {
 fn state_of(text: &[u8]) -> [u8; 2] {
     let mut state = [0x40u8; 2];
     if text.len() > 8 {
-        ebcdic::write(&text[8..], &mut state);
+        write(&text[8..], &mut state);
     }
     state
 }
 
 fn controlled(stand: Stand, text: &[u8]) -> Stand {
-    let comma = text::place(text, 0, b',');
+    let comma = scan::place(text, 0, b',');
     let control = Control {
         state: state_of(text),
-        year: text::number(text),
+        year: scan::number(text),
         listed: comma == text.len(),
     };
     let start = stand.start;
@@ -106,7 +106,7 @@ fn line(stand: Stand, base: [u8; 245], text: &[u8]) -> Stand {
     if text.len() == 0 {
         return stand;
     }
-    print::text(text);
+    vector_text::print::text(text);
     let kind = text[0];
     match kind {
         b'#' => stand,
@@ -146,9 +146,9 @@ pub fn lines(text: &[u8]) {
     let mut stand = beginning();
     let mut at = 0;
     while at < text.len() {
-        let end = text::place(text, at, b'\n');
+        let end = scan::place(text, at, b'\n');
         stand = line(stand, base, &text[at..end]);
-        print::text(b"\n");
+        vector_text::print::text(b"\n");
         if end == text.len() {
             return;
         }

@@ -1,9 +1,9 @@
--- `fantanolive_apply` meets its contract. Assumes nothing.
+-- `fantanolive_apply`: each answer of `apply` is written as the number and the result that its outcome stands for. Assumes nothing.
 use borrow.Author.Needs.{needs}
-use Rattle.batch.specs.Apply.{callOf}
 use Rattle.fantanolive.proofs.CallsLaws.{apply-left}
 use Rattle.fantanolive.proofs.fantanolive_apply.Statement.{statement}
 use Rattle.fantanolive.proofs.fantanolive_apply.Tie as tie
+use Rattle.batch.specs.Call.{callOf}
 
 apply-requires : tie.Need-apply-requires
 apply-requires c κs = search needs

@@ -1,4 +1,4 @@
--- `fantanolive_find` meets its contract. Assumes nothing.
+-- `fantanolive_find`: each answer of `find` is written as the number and the place that it stands for. Assumes nothing.
 use borrow.Author.Needs.{needs}
 use Rattle.fantanolive.proofs.CallsLaws.{find-left}
 use Rattle.fantanolive.proofs.fantanolive_find.Statement.{statement}

@@ -1,4 +1,4 @@
--- `fantanolive_reconcile` meets its contract. Assumes nothing.
+-- `fantanolive_reconcile`: each answer of `reconcile` is written as the number and the count that its outcome stands for. Assumes nothing.
 use borrow.Author.Needs.{needs}
 use Rattle.fantanolive.proofs.CallsLaws.{reconcile-left}
 use Rattle.fantanolive.proofs.fantanolive_reconcile.Statement.{statement}

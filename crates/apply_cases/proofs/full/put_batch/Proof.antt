@@ -1,15 +1,10 @@
+-- `full::put_batch`: the loop counts to 100, so that no number or place grows beyond its type. Assumes nothing.
 use borrow.Author.Needs.{needs}
-use native.Mathlib.Omega.{arith}
 use mathlib.Core.Path.{_≡_}
-use Prim.Native.Nat.{ℕ, _+_, _-_, _*_, _≤_, _<_}
+use Prim.Native.Nat.{_-_, _≤_}
 use lib.ListN.{length}
 use Rattle.apply_cases.proofs.full.put_batch.Statement.{statement}
 use Rattle.apply_cases.proofs.full.put_batch.Tie as tie
-use Rattle.apply_cases.proofs.full.put_batch.Reads as reads
-use Rattle.apply_cases.proofs.full.put_batch.Lts as lts
-use Rattle.apply_cases.proofs.records.control.Reads as control-reads
-use Rattle.apply_cases.proofs.records.detail.Reads as detail-reads
-use Rattle.apply_samples.proofs.columns.place.Reads as place-reads
 
 abbrev Inv-loop : tie.InvT-loop
 Inv-loop batch₀ kind ssn name dollars i₀ t9 t10 batch i = (i ≤ 100) × (length batch ≡ length batch₀)
@@ -17,71 +12,54 @@ Inv-loop batch₀ kind ssn name dollars i₀ t9 t10 batch i = (i ≤ 100) × (le
 abbrev μ-loop : tie.MeasureT-loop
 μ-loop batch₀ kind ssn name dollars i₀ t9 t10 batch i = 100 - i
 
--- src/full.rt:24:5
 loop-holds : tie.Need-loop-holds Inv-loop μ-loop
 loop-holds c = search needs
 
--- src/full.rt:25:41
 add-detail : tie.Need-add-detail Inv-loop μ-loop
 add-detail c = search needs
 
--- src/full.rt:25:63
 slice-aggregate-detail : tie.Need-slice-aggregate-detail Inv-loop μ-loop
 slice-aggregate-detail c = search needs
 
--- src/full.rt:25:19
 detail-requires : tie.Need-detail-requires Inv-loop μ-loop
 detail-requires c κs = search needs
 
--- src/full.rt:26:22
 mul-place : tie.Need-mul-place Inv-loop μ-loop
 mul-place c = search needs
 
--- src/full.rt:26:31
 slice-aggregate-place : tie.Need-slice-aggregate-place Inv-loop μ-loop
 slice-aggregate-place c = search needs
 
--- src/full.rt:26:9
 place-requires : tie.Need-place-requires Inv-loop μ-loop
 place-requires c κs = search needs
 
--- src/full.rt:27:9
 add-i : tie.Need-add-i Inv-loop μ-loop
 add-i c = search needs
 
--- src/full.rt:24:5
 loop-less : tie.Need-loop-less Inv-loop μ-loop
 loop-less c = search needs
 
--- src/full.rt:24:5
 loop-again : tie.Need-loop-again Inv-loop μ-loop
 loop-again c = search needs
 
--- src/full.rt:29:33
 slice-aggregate-control : tie.Need-slice-aggregate-control Inv-loop μ-loop
 slice-aggregate-control c = search needs
 
--- src/full.rt:29:54
 mul-control : tie.Need-mul-control Inv-loop μ-loop
 mul-control c = search needs
 
--- src/full.rt:29:16
 control-requires : tie.Need-control-requires Inv-loop μ-loop
 control-requires c κs = search needs
 
--- src/full.rt:30:25
 slice-aggregate-place-2 : tie.Need-slice-aggregate-place-2 Inv-loop μ-loop
 slice-aggregate-place-2 c = search needs
 
--- src/full.rt:30:5
 place-requires-2 : tie.Need-place-requires-2 Inv-loop μ-loop
 place-requires-2 c κs = search needs
 
--- src/full.rt:20:1
 same-length : tie.Need-same-length Inv-loop μ-loop
 same-length c = search needs
 
--- src/full.rt:20:1
 returns : tie.Need-returns Inv-loop μ-loop
 returns c = search needs
 

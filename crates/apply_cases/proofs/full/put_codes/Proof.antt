@@ -1,13 +1,10 @@
+-- `full::put_codes`: the loop counts to 1,000, so that no column grows beyond its type. Assumes nothing.
 use borrow.Author.Needs.{needs}
-use native.Mathlib.Omega.{arith}
 use mathlib.Core.Path.{_≡_}
-use Prim.Native.Nat.{ℕ, _+_, _-_, _*_, _≤_, _<_}
+use Prim.Native.Nat.{_-_, _≤_}
 use lib.ListN.{length}
 use Rattle.apply_cases.proofs.full.put_codes.Statement.{statement}
 use Rattle.apply_cases.proofs.full.put_codes.Tie as tie
-use Rattle.apply_cases.proofs.full.put_codes.Reads as reads
-use Rattle.apply_cases.proofs.full.put_codes.Lts as lts
-use Rattle.apply_samples.proofs.columns.put_number.Reads as put-number-reads
 
 abbrev Inv-loop : tie.InvT-loop
 Inv-loop list₀ i₀ list i = (i ≤ 1000) × (length list ≡ length list₀)
@@ -15,47 +12,36 @@ Inv-loop list₀ i₀ list i = (i ≤ 1000) × (length list ≡ length list₀)
 abbrev μ-loop : tie.MeasureT-loop
 μ-loop list₀ i₀ list i = 1000 - i
 
--- src/full.rt:36:5
 loop-holds : tie.Need-loop-holds Inv-loop μ-loop
 loop-holds c = search needs
 
--- src/full.rt:37:26
 mul-put-number : tie.Need-mul-put-number Inv-loop μ-loop
 mul-put-number c = search needs
 
--- src/full.rt:37:26
 add-put-number : tie.Need-add-put-number Inv-loop μ-loop
 add-put-number c = search needs
 
--- src/full.rt:37:37
 mul-put-number-2 : tie.Need-mul-put-number-2 Inv-loop μ-loop
 mul-put-number-2 c = search needs
 
--- src/full.rt:37:37
 add-put-number-2 : tie.Need-add-put-number-2 Inv-loop μ-loop
 add-put-number-2 c = search needs
 
--- src/full.rt:37:9
 put-number-requires : tie.Need-put-number-requires Inv-loop μ-loop
 put-number-requires c κs = search needs
 
--- src/full.rt:38:9
 add-i : tie.Need-add-i Inv-loop μ-loop
 add-i c = search needs
 
--- src/full.rt:36:5
 loop-less : tie.Need-loop-less Inv-loop μ-loop
 loop-less c = search needs
 
--- src/full.rt:36:5
 loop-again : tie.Need-loop-again Inv-loop μ-loop
 loop-again c = search needs
 
--- src/full.rt:34:1
 same-length : tie.Need-same-length Inv-loop μ-loop
 same-length c = search needs
 
--- src/full.rt:34:1
 returns : tie.Need-returns Inv-loop μ-loop
 returns c = search needs
 

@@ -1,14 +1,10 @@
+-- `full::put_rows`: the loop counts to 200, so that no number or place grows beyond its type. Assumes nothing.
 use borrow.Author.Needs.{needs}
-use native.Mathlib.Omega.{arith}
 use mathlib.Core.Path.{_≡_}
-use Prim.Native.Nat.{ℕ, _+_, _-_, _*_, _≤_, _<_}
+use Prim.Native.Nat.{_-_, _≤_}
 use lib.ListN.{length}
 use Rattle.apply_cases.proofs.full.put_rows.Statement.{statement}
 use Rattle.apply_cases.proofs.full.put_rows.Tie as tie
-use Rattle.apply_cases.proofs.full.put_rows.Reads as reads
-use Rattle.apply_cases.proofs.full.put_rows.Lts as lts
-use Rattle.apply_cases.proofs.records.row.Reads as row-reads
-use Rattle.apply_samples.proofs.columns.place.Reads as place-reads
 
 abbrev Inv-loop : tie.InvT-loop
 Inv-loop master₀ i₀ master i = (i ≤ 200) × (length master ≡ length master₀)
@@ -16,47 +12,36 @@ Inv-loop master₀ i₀ master i = (i ≤ 200) × (length master ≡ length mast
 abbrev μ-loop : tie.MeasureT-loop
 μ-loop master₀ i₀ master i = 200 - i
 
--- src/full.rt:12:5
 loop-holds : tie.Need-loop-holds Inv-loop μ-loop
 loop-holds c = search needs
 
--- src/full.rt:13:32
 add-row : tie.Need-add-row Inv-loop μ-loop
 add-row c = search needs
 
--- src/full.rt:13:19
 row-requires : tie.Need-row-requires Inv-loop μ-loop
 row-requires c κs = search needs
 
--- src/full.rt:14:23
 mul-place : tie.Need-mul-place Inv-loop μ-loop
 mul-place c = search needs
 
--- src/full.rt:14:32
 slice-aggregate-place : tie.Need-slice-aggregate-place Inv-loop μ-loop
 slice-aggregate-place c = search needs
 
--- src/full.rt:14:9
 place-requires : tie.Need-place-requires Inv-loop μ-loop
 place-requires c κs = search needs
 
--- src/full.rt:15:9
 add-i : tie.Need-add-i Inv-loop μ-loop
 add-i c = search needs
 
--- src/full.rt:12:5
 loop-less : tie.Need-loop-less Inv-loop μ-loop
 loop-less c = search needs
 
--- src/full.rt:12:5
 loop-again : tie.Need-loop-again Inv-loop μ-loop
 loop-again c = search needs
 
--- src/full.rt:10:1
 same-length : tie.Need-same-length Inv-loop μ-loop
 same-length c = search needs
 
--- src/full.rt:10:1
 returns : tie.Need-returns Inv-loop μ-loop
 returns c = search needs
 

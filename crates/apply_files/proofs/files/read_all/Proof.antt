@@ -1,4 +1,4 @@
--- `files::read_all` is safe and ends. The loop's invariant: what was read lies within the buffer, which keeps its length. The measure is how much of it is left.
+-- `files::read_all`: the loop keeps what was read within the buffer, whose length stays. The measure is how much of it is left.
 -- Assumes nothing.
 use mathlib.Core.Path.{_≡_}
 use Prim.Native.Nat.{_-_, _≤_}

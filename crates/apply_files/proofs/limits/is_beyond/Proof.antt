@@ -1,4 +1,4 @@
--- `limits::is_beyond` meets its contract. Assumes nothing.
+-- `limits::is_beyond`: by whether the file is there, as in the definition. Assumes nothing.
 use borrow.Author.Needs.{needs}
 use Rattle.apply_files.proofs.limits.is_beyond.Statement.{statement}
 use Rattle.apply_files.proofs.limits.is_beyond.Tie as tie

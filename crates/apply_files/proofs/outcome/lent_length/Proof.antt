@@ -1,4 +1,4 @@
--- `outcome::lent_length` meets its contract. Assumes nothing.
+-- `outcome::lent_length`: by whether the length is a multiple of 200, as in the definition. Assumes nothing.
 use borrow.Author.Tests.{eq-eqb, ne-eqb}
 use Rattle.apply_files.specs.Run.{lentLength}
 use Rattle.apply_files.proofs.outcome.lent_length.Statement.{statement}

@@ -1,4 +1,4 @@
--- `outcome::outcome_of` meets its contract. Assumes nothing.
+-- `outcome::outcome_of`: what isn't refused is handed on as the files' bytes, and a master.bin that passes fits the 200 rows. Assumes nothing.
 use mathlib.Core.Path.{_≡_, sym, _∙_}
 use native.Mathlib.Omega.{arith}
 use lib.ListN.{length}

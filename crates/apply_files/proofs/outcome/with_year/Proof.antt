@@ -1,11 +1,11 @@
--- `outcome::with_year` meets its contract. Assumes nothing.
+-- `outcome::with_year`: the call changes the part that it is lent, and the rest of the buffer stays behind it. Assumes nothing.
 use mathlib.Core.Path.{_≡_}
 use Prim.Native.Nat.{_-_, _≤_}
 use native.Mathlib.Omega.{arith}
 use borrow.Author.Needs.{needs}
 use denote.Ref.{now}
 use Rattle.apply_files.specs.Run.{lentLength}
-use Rattle.apply_files.proofs.RunLaws.{lent-bound, rest-behind}
+use Rattle.apply_files.proofs.RunLaws.{lent-bound, with-rest}
 use Rattle.apply_files.proofs.outcome.with_year.Statement.{statement}
 use Rattle.apply_files.proofs.outcome.with_year.Tie as tie
 
@@ -39,7 +39,7 @@ returns : tie.Need-returns
 returns c =
     let e = c .before .before .before .before .before .before .before .before .before .before .lent-length .result in
     let z : e - 0 ≡ lentLength (c .before .before .before .before .before .before .before .before .before .before .before .before .before .before .before .before .args .n) = omega (arith, c .before .before .before .before .before .before .before .before .before .before .lent-length .ensures) in
-    rest-behind (c .before .before .before .before .before .before .apply .result) (now (c .before .before .before .before .before .before .before .before .before .before .before .before .before .before .before .before .args .master)) (c .before .before .before .before .before .before .apply .last .0) (e - 0) (c .before .before .before .before .before .before .before .before .before .before .before .before .before .before .before .before .args .n) (now (c .before .before .before .before .before .before .before .before .before .before .before .before .before .before .before .before .args .batch)) (now (c .before .before .before .before .before .before .before .before .before .before .before .before .before .before .before .before .args .locals))
+    with-rest (c .before .before .before .before .before .before .apply .result) (now (c .before .before .before .before .before .before .before .before .before .before .before .before .before .before .before .before .args .master)) (c .before .before .before .before .before .before .apply .last .0) (e - 0) (c .before .before .before .before .before .before .before .before .before .before .before .before .before .before .before .before .args .n) (now (c .before .before .before .before .before .before .before .before .before .before .before .before .before .before .before .before .args .batch)) (now (c .before .before .before .before .before .before .before .before .before .before .before .before .before .before .before .before .args .locals))
     (c .before .before .before .before .before .before .before .before .before .before .before .before .before .before .before .before .args .year) (now (c .before .before .before .before .before .before .before .before .before .before .before .before .before .before .before .before .args .verdicts)) (now (c .before .before .before .before .before .before .before .before .before .before .before .before .before .before .before .before .args .rejects)) (c .before .before .before .before .before .before .apply .last .1 .1 .1 .1 .1 .0) (c .before .before .before .before .before .before .apply .last .1 .1 .1 .1 .1 .1 .0) z
     (c .before .before .before .before .before .before .apply .ensures .is)
 

@@ -1,4 +1,4 @@
--- `outcome::with_year_text` meets its contract. Assumes nothing.
+-- `outcome::with_year_text`: by what year.txt holds, as in the definition. Assumes nothing.
 use borrow.Author.Needs.{needs}
 use Rattle.apply_files.proofs.outcome.with_year_text.Statement.{statement}
 use Rattle.apply_files.proofs.outcome.with_year_text.Tie as tie

@@ -1,4 +1,4 @@
--- `year::are_digits` meets its contract. Assumes nothing.
+-- `year::are_digits`: the four tests joined are the test of every byte. Assumes nothing.
 use mathlib.Core.Bool.{and-true}
 use borrow.Author.Needs.{needs}
 use Rattle.apply_files.proofs.year.are_digits.Statement.{statement}

@@ -1,4 +1,4 @@
--- `year::year_of` meets its contract. Assumes nothing.
+-- `year::year_of`: a text of length four is its four bytes, and any other is refused by its length. Assumes nothing.
 use mathlib.Core.Option.{some}
 use mathlib.Core.Path.{sym, ap, _∙_}
 use borrow.Author.Needs.{needs}

@@ -1,13 +1,9 @@
+-- `columns::put_number`: the loop goes down from the last column, and a digit is below ten. Assumes nothing.
 use borrow.Author.Needs.{needs}
-use native.Mathlib.Omega.{arith}
 use mathlib.Core.Path.{_≡_}
-use Prim.Native.Nat.{ℕ, _+_, _-_, _*_, _≤_, _<_}
 use lib.ListN.{length}
 use Rattle.apply_samples.proofs.columns.put_number.Statement.{statement}
 use Rattle.apply_samples.proofs.columns.put_number.Tie as tie
-use Rattle.apply_samples.proofs.columns.put_number.Reads as reads
-use Rattle.apply_samples.proofs.columns.put_number.Lts as lts
-use Rattle.apply_samples.proofs.columns.put_byte.Reads as put-byte-reads
 
 abbrev Inv-loop : tie.InvT-loop
 Inv-loop out₀ first last n column₀ left₀ out column left = length out ≡ length out₀
@@ -15,47 +11,36 @@ Inv-loop out₀ first last n column₀ left₀ out column left = length out ≡ 
 abbrev μ-loop : tie.MeasureT-loop
 μ-loop out₀ first last n column₀ left₀ out column left = column
 
--- src/columns.rt:52:5
 loop-holds : tie.Need-loop-holds Inv-loop μ-loop
 loop-holds c = search needs
 
--- src/columns.rt:54:13
 same-length : tie.Need-same-length Inv-loop μ-loop
 same-length c = search needs
 
--- src/columns.rt:54:13
 returns : tie.Need-returns Inv-loop μ-loop
 returns c = search needs
 
--- src/columns.rt:56:41
 cast-put-byte : tie.Need-cast-put-byte Inv-loop μ-loop
 cast-put-byte c = search needs
 
--- src/columns.rt:56:34
 add-put-byte : tie.Need-add-put-byte Inv-loop μ-loop
 add-put-byte c = search needs
 
--- src/columns.rt:56:9
 put-byte-requires : tie.Need-put-byte-requires Inv-loop μ-loop
 put-byte-requires c κs = search needs
 
--- src/columns.rt:58:9
 sub-column : tie.Need-sub-column Inv-loop μ-loop
 sub-column c = search needs
 
--- src/columns.rt:52:5
 loop-less : tie.Need-loop-less Inv-loop μ-loop
 loop-less c = search needs
 
--- src/columns.rt:52:5
 loop-again : tie.Need-loop-again Inv-loop μ-loop
 loop-again c = search needs
 
--- src/columns.rt:49:1
 same-length-2 : tie.Need-same-length-2 Inv-loop μ-loop
 same-length-2 c = search needs
 
--- src/columns.rt:49:1
 returns-2 : tie.Need-returns-2 Inv-loop μ-loop
 returns-2 c = search needs
 

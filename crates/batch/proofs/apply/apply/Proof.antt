@@ -1,10 +1,11 @@
--- `apply::apply` meets its contract. Assumes nothing.
+-- `apply::apply`: a refusal's number is answered with every buffer untouched, and where there is none `run` carries the batch out. Assumes
+-- nothing.
 use mathlib.Core.Path.{sym, _∙_}
 use borrow.Author.Needs.{needs}
-use Rattle.batch.specs.Apply.{callOf}
 use Rattle.batch.proofs.ApplyLaws.{outcome-refused, outcome-done}
 use Rattle.batch.proofs.apply.apply.Statement.{statement}
 use Rattle.batch.proofs.apply.apply.Tie as tie
+use Rattle.batch.specs.Call.{callOf}
 
 first-refusal-requires : tie.Need-first-refusal-requires
 first-refusal-requires c κs = search needs

@@ -1,8 +1,8 @@
--- `apply::finish` meets its contract. Assumes nothing.
+-- `apply::finish`: the control record is copied behind the reject records, and the sums of two counts stay in 64 bits. Assumes nothing.
 use mathlib.Core.Path.{refl, ap, _∙_}
 use Prim.Native.Nat.{_*_}
 use borrow.Author.Needs.{needs}
-use Rattle.layout.specs.Blocks.{spliced}
+use Rattle.text.specs.Blocks.{spliced}
 use Rattle.batch.proofs.apply.finish.Statement.{statement}
 use Rattle.batch.proofs.apply.finish.Tie as tie
 

@@ -1,22 +1,23 @@
--- `apply::run` meets its contract. Assumes nothing.
+-- `apply::run`: the control record's first columns are the submitting state, so what `work` and `finish` leave is the outcome. Assumes
+-- nothing.
 use mathlib.Core.List.{List}
 use mathlib.Core.Path.{_≡_, ap, _∙_}
-use Prim.Native.Nat.{ℕ, _-_, _*_}
+use Prim.Native.Nat.{ℕ, _*_}
 use native.Mathlib.Omega.{arith}
 use lib.ListN.{length}
 use borrow.Author.Needs.{needs}
 use denote.Ref.{now}
-use Rattle.batch.specs.Apply.{callOf}
 use Rattle.batch.specs.Counts.{controlRecord}
 use Rattle.batch.specs.Tally.{countsIn}
-use Rattle.batch.specs.Totals.{controlOf, submittingState}
-use Rattle.layout.specs.Blocks.{spliced}
-use Rattle.layout.specs.Fields.{columns}
+use Rattle.text.specs.Blocks.{spliced}
+use Rattle.text.specs.Fields.{columns}
 use Rattle.batch.proofs.ApplyLaws.{ran, state-two}
 use Rattle.batch.proofs.KnownLaws.{known}
 use Rattle.batch.proofs.PassedLaws.{passed}
 use Rattle.batch.proofs.apply.run.Statement.{statement}
 use Rattle.batch.proofs.apply.run.Tie as tie
+use Rattle.layout.specs.Batch.{controlOf, submittingState}
+use Rattle.batch.specs.Call.{callOf}
 
 sub-d : tie.Need-sub-d
 sub-d c =

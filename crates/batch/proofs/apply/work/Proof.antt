@@ -1,12 +1,12 @@
 -- `apply::work` meets its contract. Assumes nothing.
 use mathlib.Core.Path.{_∙_}
 use native.Mathlib.Omega.{arith}
-use Rattle.batch.specs.Apply.{callOf}
 use Rattle.batch.proofs.PassedLaws.{passed}
 use Rattle.batch.proofs.KnownLaws.{known}
 use Rattle.batch.proofs.WorkedLaws.{ordered, rows-room, walk-ready, all-usable, marked, all-worked}
 use Rattle.batch.proofs.apply.work.Statement.{statement}
 use Rattle.batch.proofs.apply.work.Tie as tie
+use Rattle.batch.specs.Call.{callOf}
 
 sub-d : tie.Need-sub-d
 sub-d c =
@@ -25,7 +25,7 @@ new-rows-requires c κs =
     let a = c .before .before .before .before .before .before .before .before .before .before .before .before .args in
     let g = callOf (a .m .now) (a .n) (a .batch .now) (a .list .now) (a .year) (a .verdicts .now) (a .rejects .now) in
     let k = known g (passed g (c .before .before .before .before .before .before .before .before .before .before .before .before .pre .0)) in
-    (ordered g k (a .state .now) (c .before .before .before .before .before .before .before .before .before .before .before .before .pre .1) _ _ (c .before .before .before .before .order-details .ensures), k .rows-in, k .sound, k .list, omega (arith, k .batch-in))
+    (ordered g k (a .state .now) (c .before .before .before .before .before .before .before .before .before .before .before .before .pre .1) _ _ (c .before .before .before .before .order-details .ensures), ((k .rows-in, k .sound), (k .list, omega (arith, k .batch-in))))
 
 add-rows : tie.Need-add-rows
 add-rows c =

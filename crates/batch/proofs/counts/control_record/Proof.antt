@@ -1,9 +1,9 @@
--- `counts::control_record` meets its contract. Assumes nothing.
+-- `counts::control_record`: the fields are put into a blank record one behind the other. Assumes nothing.
 use mathlib.Core.Path.{refl}
 use borrow.Author.Needs.{needs}
 use Rattle.batch.specs.Tally.{countsIn}
 use Rattle.batch.proofs.CountsLaws.{control-written}
-use Rattle.batch.proofs.ColumnsWritten.{written-all}
+use Rattle.text.proofs.ColumnsWritten.{written-all}
 use Rattle.batch.proofs.counts.control_record.Statement.{statement}
 use Rattle.batch.proofs.counts.control_record.Tie as tie
 

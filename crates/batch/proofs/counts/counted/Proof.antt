@@ -1,8 +1,8 @@
--- `counts::counted` meets its contract. Assumes nothing.
+-- `counts::counted`: each count grows by 1 or 0 under the test of the definition, so none passes n + 1. Assumes nothing.
 use mathlib.Core.Bool.{Bool·not-not}
 use borrow.Author.Needs.{needs}
 use Rattle.batch.specs.Tally.{oneDetail}
-use Rattle.batch.proofs.CountsLaws.{one-fits, one-most}
+use Rattle.batch.proofs.CountsLaws.{one-fits, count-most}
 use Rattle.batch.proofs.counts.counted.Statement.{statement}
 use Rattle.batch.proofs.counts.counted.Tie as tie
 
@@ -68,13 +68,13 @@ returns c =
     let e7 = c .before .one-if7 .ensures in (
       rw (e1 .0, e2 .0, e3 .0, e4 .0, e5 .0, e6 .0, e7 .0, Bool·not-not (a .accepted)),
       record {
-        a = one-most _ _ _ (p .a) (e1 .1);
-        b = one-most _ _ _ (p .b) (e2 .1);
-        c = one-most _ _ _ (p .c) (e3 .1);
-        d = one-most _ _ _ (p .d) (e4 .1);
-        e = one-most _ _ _ (p .e) (e5 .1);
-        f = one-most _ _ _ (p .f) (e6 .1);
-        g = one-most _ _ _ (p .g) (e7 .1);
+        a = count-most _ _ _ (p .a) (e1 .1);
+        b = count-most _ _ _ (p .b) (e2 .1);
+        c = count-most _ _ _ (p .c) (e3 .1);
+        d = count-most _ _ _ (p .d) (e4 .1);
+        e = count-most _ _ _ (p .e) (e5 .1);
+        f = count-most _ _ _ (p .f) (e6 .1);
+        g = count-most _ _ _ (p .g) (e7 .1);
       },
     )
 

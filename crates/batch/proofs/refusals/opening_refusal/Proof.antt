@@ -1,10 +1,10 @@
--- `refusals::opening_refusal` meets its contract. Assumes nothing.
+-- `refusals::opening_refusal`: the two comparisons of the year are refusal 1, the list's test is refusal 2. Assumes nothing.
 use mathlib.Core.Path.{sym, _∙_}
 use borrow.Author.Needs.{needs}
 use borrow.Author.Tests.{lt-ltb, le-ltb}
-use Rattle.batch.specs.Apply.{refusal1, refusal2}
 use Rattle.batch.proofs.refusals.opening_refusal.Statement.{statement}
 use Rattle.batch.proofs.refusals.opening_refusal.Tie as tie
+use Rattle.batch.specs.Refusals.{refusal1, refusal2}
 
 returns : tie.Need-returns
 unfolding refusal1

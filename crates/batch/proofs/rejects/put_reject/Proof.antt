@@ -1,4 +1,4 @@
--- `rejects::put_reject` meets its contract. Assumes nothing.
+-- `rejects::put_reject`: an empty set has no record, and another appends its record as one block more. Assumes nothing.
 use mathlib.Core.List.{List, [], _∷_, append-nil}
 use mathlib.Core.Path.{_≡_, refl}
 use Prim.Native.Nat.{_^_, ℕ, _+_, _<_}
@@ -6,10 +6,10 @@ use native.Mathlib.Nat.{le-refl}
 use native.Mathlib.Omega.{arith}
 use borrow.Author.Needs.{needs}
 use Rattle.batch.specs.Rejects.{ifAny, rejectRecord}
-use Rattle.layout.specs.Blocks.{blocks}
+use Rattle.text.specs.Blocks.{blocks}
 use Rattle.onecase.specs.Verdict.{meaning}
 use Rattle.batch.proofs.RejectsLaws.{codes-in, four-in, none-any, some-any, length-reject}
-use Rattle.layout.proofs.BlocksLaws.{holds-append}
+use Rattle.text.proofs.BlocksLaws.{holds-append}
 use Rattle.batch.proofs.rejects.put_reject.Statement.{statement}
 use Rattle.batch.proofs.rejects.put_reject.Tie as tie
 

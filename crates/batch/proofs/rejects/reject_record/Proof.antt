@@ -1,12 +1,12 @@
--- `rejects::reject_record` meets its contract. Assumes nothing.
+-- `rejects::reject_record`: the detail's columns are kept and the three fields are put in one behind the other. Assumes nothing.
 use mathlib.Core.Path.{_≡_, sym, ap, _∙_}
 use borrow.Author.Needs.{needs}
 use denote.Ref.{now}
 use Rattle.layout.specs.Codes.{sixLowest}
-use Rattle.layout.specs.Fields.{placed}
+use Rattle.text.specs.Fields.{placed}
 use Rattle.onecase.specs.Verdict.{meaning}
 use Rattle.batch.proofs.RejectsLaws.{codes-in, four-in, spliced-all, reject-written}
-use Rattle.batch.proofs.ColumnsWritten.{written-all}
+use Rattle.text.proofs.ColumnsWritten.{written-all}
 use Rattle.batch.proofs.rejects.reject_record.Statement.{statement}
 use Rattle.batch.proofs.rejects.reject_record.Tie as tie
 

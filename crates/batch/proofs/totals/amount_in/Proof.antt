@@ -1,12 +1,12 @@
--- `totals::amount_in` meets its contract. Assumes nothing.
+-- `totals::amount_in`: a field of eight digits has the number that the digits write. Assumes nothing.
 use mathlib.Core.Path.{_≡_, sym, ap, _∙_}
 use native.Mathlib.Omega.{arith}
 use lib.Dec.{eqb}
 use borrow.Author.Needs.{needs}
 use Rattle.batch.specs.Totals.{amountIn}
-use Rattle.layout.specs.Fields.{columns, areDigits}
-use Rattle.onecase.specs.Record.{caseTypeOf}
-use Rattle.layout.proofs.FieldsLaws.{and-right, digits-width, digits-all}
+use Rattle.text.specs.Fields.{columns, areDigits}
+use Rattle.layout.specs.Record.{caseTypeOf}
+use Rattle.text.proofs.FieldsLaws.{and-right, digits-width, digits-all}
 use Rattle.batch.proofs.totals.amount_in.Statement.{statement}
 use Rattle.batch.proofs.totals.amount_in.Tie as tie
 

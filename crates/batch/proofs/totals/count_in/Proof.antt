@@ -1,4 +1,4 @@
--- `totals::count_in` meets its contract. Assumes nothing.
+-- `totals::count_in`: byte 73 is column 74, the case type. Assumes nothing.
 use borrow.Author.Needs.{needs}
 use borrow.Author.Tests.{eq-eqb, ne-eqb}
 use Rattle.batch.proofs.totals.count_in.Statement.{statement}

@@ -1,4 +1,4 @@
--- `totals::has_amount` meets its contract. Assumes nothing.
+-- `totals::has_amount`: byte 72 is column 73, the type. Assumes nothing.
 use mathlib.Core.Path.{refl}
 use borrow.Author.Needs.{needs}
 use Rattle.batch.proofs.totals.has_amount.Statement.{statement}

@@ -1,4 +1,4 @@
--- `totals::is_control` meets its contract. Assumes nothing.
+-- `totals::is_control`: the four tests are those of the definition; digits in all forty columns are digits in each field. Assumes nothing.
 use borrow.Author.Needs.{needs}
 use Rattle.batch.specs.Totals.{isControl}
 use Rattle.batch.proofs.totals.is_control.Statement.{statement}

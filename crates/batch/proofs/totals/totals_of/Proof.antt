@@ -1,10 +1,9 @@
--- `totals::totals_of` meets its contract. The loop's invariant: what was added up and the details from i on make the whole.
--- Assumes nothing.
+-- `totals::totals_of`: what was added up, with what the details from i on add, is the whole. Assumes nothing.
 use Prim.Native.Nat.{_-_, _*_}
 use native.Mathlib.Omega.{arith}
 use borrow.Author.Needs.{needs}
 use denote.Ref.{now}
-use Rattle.layout.proofs.BlocksLaws.{part-width}
+use Rattle.text.proofs.BlocksLaws.{part-width}
 use Rattle.batch.proofs.TotalsLaws.{AreSoFar, totals-room, totals-next, totals-end}
 use Rattle.batch.proofs.totals.totals_of.Statement.{statement}
 use Rattle.batch.proofs.totals.totals_of.Tie as tie

@@ -1,7 +1,7 @@
--- `totals::with_detail` meets its contract. Assumes nothing.
+-- `totals::with_detail`: each total has room for one detail more, by `FitsOneMore`. Assumes nothing.
 use native.Mathlib.Omega.{arith}
 use borrow.Author.Needs.{needs}
-use Rattle.layout.specs.Characters.{A, N}
+use Rattle.text.specs.Characters.{A, N}
 use Rattle.batch.proofs.TotalsLaws.{count-small, amount-small}
 use Rattle.batch.proofs.totals.with_detail.Statement.{statement}
 use Rattle.batch.proofs.totals.with_detail.Tie as tie

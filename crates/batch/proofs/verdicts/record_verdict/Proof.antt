@@ -1,4 +1,5 @@
--- `verdicts::record_verdict` meets its contract. Assumes nothing.
+-- `verdicts::record_verdict`: number, reject record and counts are each written by one call, whose promises are the parts of `Recorded`.
+-- Assumes nothing.
 use mathlib.Core.Path.{refl, ap, _∙_, subst}
 use Prim.Native.Nat.{ℕ, _<_, _^_}
 use lib.ListN.{set}

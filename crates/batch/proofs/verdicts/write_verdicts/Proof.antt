@@ -1,9 +1,8 @@
--- `verdicts::write_verdicts` meets its contract. The invariant is `Writing`: what stands in the buffers and what is left to write make the whole.
--- Assumes nothing.
+-- `verdicts::write_verdicts`: what stands in the buffers and what the details from i on add make the whole (`Writing`). Assumes nothing.
 use Prim.Native.Nat.{_-_, _*_}
 use native.Mathlib.Omega.{arith}
 use borrow.Author.Needs.{needs}
-use Rattle.layout.proofs.BlocksLaws.{part-width}
+use Rattle.text.proofs.BlocksLaws.{part-width}
 use Rattle.batch.proofs.WritingLaws.{Writing, writing-start, writing-next, writing-few, writing-counted, writing-done}
 use Rattle.batch.proofs.verdicts.write_verdicts.Statement.{statement}
 use Rattle.batch.proofs.verdicts.write_verdicts.Tie as tie

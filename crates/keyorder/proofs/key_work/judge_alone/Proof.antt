@@ -1,4 +1,4 @@
--- `key_work::judge_alone` meets its contract. The invariant: the details at positions p up to q are judged. Assumes nothing.
+-- `key_work::judge_alone`. The invariant: the details at positions p up to q are judged. Assumes nothing.
 use native.Mathlib.Omega.{arith}
 use Prim.Native.Nat.{ℕ, _-_, _≤_}
 use mathlib.Core.Path.{_≡_, subst}
@@ -9,9 +9,10 @@ use Rattle.keyorder.specs.KeyWork.{Marked, JudgedRun}
 use Rattle.keyorder.proofs.KeyWorkLaws.{usable-at, judged-length, judged-usable, judged-none, judged-next}
 use Rattle.keyorder.proofs.key_work.judge_alone.Statement.{statement}
 use Rattle.keyorder.proofs.key_work.judge_alone.Tie as tie
+use Rattle.judging.specs.Setting.{settingOf}
 
 abbrev Inv-loop : tie.InvT-loop
-Inv-loop batch numbers₀ p e state year list q₀ numbers q = (p ≤ q) × (q ≤ e) × JudgedRun state year list batch p (q - p) numbers₀ numbers
+Inv-loop batch numbers₀ p e state year list q₀ numbers q = (p ≤ q) × (q ≤ e) × JudgedRun (settingOf state year list) batch p (q - p) numbers₀ numbers
 
 abbrev μ-loop : tie.MeasureT-loop
 μ-loop batch numbers₀ p e state year list q₀ numbers q = e - q
@@ -19,7 +20,7 @@ abbrev μ-loop : tie.MeasureT-loop
 loop-holds : tie.Need-loop-holds Inv-loop μ-loop
 loop-holds c =
     let a = c .before .before .before .before .args in
-    (search needs, c .before .before .before .before .pre .0, judged-none (a .state .now) (a .year) (a .list .now) (a .batch .now) (a .p) (a .numbers .now))
+    (search needs, c .before .before .before .before .pre .0, judged-none (settingOf (a .state .now) (a .year) (a .list .now)) (a .batch .now) (a .p) (a .numbers .now))
 
 no-case-requires : tie.Need-no-case-requires Inv-loop μ-loop
 no-case-requires c κs = search needs
@@ -29,7 +30,7 @@ work-detail-requires c κs =
     let a = c .before .before .before .before .before .before .before .before .args in
     let l = c .before .before .before .loop in
     usable-at (a .batch .now) (l .numbers) (a .e)
-    (judged-usable (a .state .now) (a .year) (a .list .now) (a .batch .now) (a .p) (l .q - a .p) (a .numbers .now) (l .numbers)
+    (judged-usable (settingOf (a .state .now) (a .year) (a .list .now)) (a .batch .now) (a .p) (l .q - a .p) (a .numbers .now) (l .numbers)
     (l .inv .2) (a .e) (c .before .before .before .before .before .before .before .before .pre .1))
     (l .q) (c .before .before .loop-test .taken)
 
@@ -44,11 +45,11 @@ loop-again c =
     let a = c .before .before .before .before .before .before .before .before .before .before .before .args in
     let l = c .before .before .before .before .before .before .loop in
     let d = c .before .before .work-detail in
-    let m = subst (λ (z : Option (List ℕ)). Marked (a .state .now) (a .year) (a .list .now) (a .batch .now) (l .q) z (l .numbers) (d .last .1 .1 .0))
+    let m = subst (λ (z : Option (List ℕ)). Marked (settingOf (a .state .now) (a .year) (a .list .now)) (a .batch .now) (l .q) z (l .numbers) (d .last .1 .1 .0))
     (c .before .before .before .before .no-case .ensures) (d .ensures .1) in (
       omega (arith, l .inv .0),
       omega (arith, c .before .before .before .before .before .loop-test .taken),
-      judged-next (a .state .now) (a .year) (a .list .now) (a .batch .now) (a .p) (l .q) (a .numbers .now) (l .numbers) (d .last .1 .1 .0)
+      judged-next (settingOf (a .state .now) (a .year) (a .list .now)) (a .batch .now) (a .p) (l .q) (a .numbers .now) (l .numbers) (d .last .1 .1 .0)
           (l .inv .0) (l .inv .2) m,
     )
 
@@ -56,7 +57,7 @@ same-length : tie.Need-same-length Inv-loop μ-loop
 same-length c =
     let a = c .before .before .before .before .before .before .args in
     let l = c .before .loop in
-    judged-length (a .state .now) (a .year) (a .list .now) (a .batch .now) (a .p) (l .q - a .p) (a .numbers .now) (l .numbers) (l .inv .2)
+    judged-length (settingOf (a .state .now) (a .year) (a .list .now)) (a .batch .now) (a .p) (l .q - a .p) (a .numbers .now) (l .numbers) (l .inv .2)
 
 returns : tie.Need-returns Inv-loop μ-loop
 returns c =

@@ -1,12 +1,12 @@
--- `key_work::key_end` meets its contract. The invariant: the details at positions p up to e have one key. Assumes nothing.
+-- `key_work::key_end`. The invariant: the details at positions p up to e have one key. Assumes nothing.
 use native.Mathlib.Omega.{arith}
 use Prim.Native.Nat.{ℕ, _-_, _≤_, _<_}
 use mathlib.Core.Path.{_≡_, sym, _∙_}
 use mathlib.Core.Logic.{inl, inr}
 use borrow.Author.Needs.{needs}
 use borrow.Author.Tests.{not-true, not-false}
-use Rattle.layout.proofs.SameLaws.{same-eq}
-use Rattle.onecase.specs.Record.{recordKey}
+use Rattle.text.proofs.SameLaws.{same-eq}
+use Rattle.layout.specs.Record.{recordKey}
 use Rattle.keyorder.specs.KeyWork.{recordIn}
 use Rattle.keyorder.proofs.KeyWorkLaws.{usable-at, same-first, same-more}
 use Rattle.keyorder.proofs.key_work.key_end.Statement.{statement}
@@ -31,12 +31,12 @@ same-key-in-requires c κs =
     let a = c .before .before .before .before .args in
     let u = usable-at (a .batch .now) (a .numbers .now) (a .own) (c .before .before .before .before .pre .1) (a .p) (c .before .before .before .before .pre .0) in
     let v = usable-at (a .batch .now) (a .numbers .now) (a .own) (c .before .before .before .before .pre .1) (c .before .loop .e) (c .loop-test .taken) in
-    (u .0, u .2, v .0, v .2)
+    ((u .0, u .2), (v .0, v .2))
 
 returns : tie.Need-returns Inv-loop μ-loop
 returns c =
     let l = c .before .before .before .loop in
-    record { behind = l .inv .0; within = l .inv .1; same = l .inv .2; other = inr (sym (c .before .same-key-in .ensures) ∙ not-true _ (c .if1 .taken)) }
+    record { later = l .inv .0; within = l .inv .1; same = l .inv .2; other = inr (sym (c .before .same-key-in .ensures) ∙ not-true _ (c .if1 .taken)) }
 
 add-e-2 : tie.Need-add-e-2 Inv-loop μ-loop
 add-e-2 c = search needs
@@ -57,7 +57,7 @@ loop-again c =
 returns-2 : tie.Need-returns-2 Inv-loop μ-loop
 returns-2 c =
     let l = c .before .loop in
-    record { behind = l .inv .0; within = l .inv .1; same = l .inv .2; other = inl (omega (arith, l .inv .1, c .loop-test .left)) }
+    record { later = l .inv .0; within = l .inv .1; same = l .inv .2; other = inl (omega (arith, l .inv .1, c .loop-test .left)) }
 
 pub key-end-spec : {M : Type 1} → statement M
 key-end-spec =

@@ -1,11 +1,11 @@
--- `key_work::key_in` meets its contract. Assumes nothing.
+-- `key_work::key_in`: the key is read at the place that the number's index names. Assumes nothing.
 use mathlib.Core.Path.{ap, _∙_}
 use Prim.Native.Nat.{ℕ}
 use borrow.Author.Needs.{needs}
-use Rattle.onecase.specs.Record.{recordKey}
-use Rattle.keyorder.specs.KeyWork.{recordAt}
+use Rattle.layout.specs.Record.{recordKey}
 use Rattle.keyorder.proofs.key_work.key_in.Statement.{statement}
 use Rattle.keyorder.proofs.key_work.key_in.Tie as tie
+use Rattle.layout.specs.Batch.{recordAt}
 
 mul-index-in : tie.Need-mul-index-in
 mul-index-in c = search needs

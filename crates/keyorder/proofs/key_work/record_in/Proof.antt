@@ -1,9 +1,9 @@
--- `key_work::record_in` meets its contract. Assumes nothing.
+-- `key_work::record_in`: the record is read at the place that the number's index names. Assumes nothing.
 use mathlib.Core.Path.{ap, _∙_}
 use borrow.Author.Needs.{needs}
-use Rattle.keyorder.specs.KeyWork.{recordAt}
 use Rattle.keyorder.proofs.key_work.record_in.Statement.{statement}
 use Rattle.keyorder.proofs.key_work.record_in.Tie as tie
+use Rattle.layout.specs.Batch.{recordAt}
 
 mul-index-in : tie.Need-mul-index-in
 mul-index-in c = search needs

@@ -1,4 +1,4 @@
--- `key_work::same_key_in` meets its contract. Assumes nothing.
+-- `key_work::same_key_in`: both keys are read at the places that the numbers' indexes name. Assumes nothing.
 use borrow.Author.Needs.{needs}
 use Rattle.keyorder.proofs.key_work.same_key_in.Statement.{statement}
 use Rattle.keyorder.proofs.key_work.same_key_in.Tie as tie

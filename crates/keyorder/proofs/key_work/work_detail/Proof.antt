@@ -1,11 +1,12 @@
--- `key_work::work_detail` meets its contract. Assumes nothing.
+-- `key_work::work_detail`: the number written holds the index that stood there, and that of no other number. Assumes nothing.
 use mathlib.Core.Path.{ap, _∙_}
 use borrow.Author.Needs.{needs}
 use Rattle.onecase.specs.Machine.{rowOf}
-use Rattle.keyorder.specs.KeyWork.{recordAt}
 use Rattle.keyorder.proofs.KeyWorkLaws.{next-here, marked-of}
 use Rattle.keyorder.proofs.key_work.work_detail.Statement.{statement}
 use Rattle.keyorder.proofs.key_work.work_detail.Tie as tie
+use Rattle.layout.specs.Batch.{recordAt}
+use Rattle.judging.specs.Setting.{settingOf}
 
 mul-index-in : tie.Need-mul-index-in
 mul-index-in c = search needs
@@ -53,8 +54,8 @@ returns c =
     let r = c .before .before .before .before .before .before .record-at .ensures ∙ ap (recordAt (a .batch .now)) (i .0) in
     let s = c .before .before .before .before .step .ensures in
     let x = c .before .index-in2 .ensures in (
-      next-here (a .state .now) (a .year) (a .list .now) (a .batch .now) (rowOf (a .case)) _ _ _ (s .row-is) r,
-      marked-of (a .state .now) (a .year) (a .list .now) (a .batch .now) (a .p) (rowOf (a .case)) (a .numbers .now) _ _ _ _ _
+      next-here (settingOf (a .state .now) (a .year) (a .list .now)) (a .batch .now) (rowOf (a .case)) _ _ _ (s .row-is) r,
+      marked-of (settingOf (a .state .now) (a .year) (a .list .now)) (a .batch .now) (a .p) (rowOf (a .case)) (a .numbers .now) _ _ _ _ _
           (i .0) r (x .0) (x .1) (s .verdict-is) (c .with-verdict .ensures),
     )
 

@@ -1,4 +1,4 @@
--- `key_work::work_key` meets its contract. The invariant: the details at positions p up to q are worked. Assumes nothing.
+-- `key_work::work_key`. The invariant: the details at positions p up to q are worked. Assumes nothing.
 use native.Mathlib.Omega.{arith}
 use Prim.Native.Nat.{_-_, _≤_}
 use mathlib.Core.Path.{_≡_}
@@ -8,9 +8,10 @@ use Rattle.keyorder.specs.KeyWork.{KeyRun}
 use Rattle.keyorder.proofs.KeyWorkLaws.{usable-at, run-length, run-usable, run-none, run-next}
 use Rattle.keyorder.proofs.key_work.work_key.Statement.{statement}
 use Rattle.keyorder.proofs.key_work.work_key.Tie as tie
+use Rattle.judging.specs.Setting.{settingOf}
 
 abbrev Inv-loop : tie.InvT-loop
-Inv-loop batch numbers₀ p e state year list c₀ q₀ numbers c q = (p ≤ q) × (q ≤ e) × KeyRun state year list batch p (q - p) (rowOf c₀) numbers₀ (rowOf c) numbers
+Inv-loop batch numbers₀ p e state year list c₀ q₀ numbers c q = (p ≤ q) × (q ≤ e) × KeyRun (settingOf state year list) batch p (q - p) (rowOf c₀) numbers₀ (rowOf c) numbers
 
 abbrev μ-loop : tie.MeasureT-loop
 μ-loop batch numbers₀ p e state year list c₀ q₀ numbers c q = e - q
@@ -18,14 +19,14 @@ abbrev μ-loop : tie.MeasureT-loop
 loop-holds : tie.Need-loop-holds Inv-loop μ-loop
 loop-holds c =
     let a = c .before .before .before .before .args in
-    (search needs, c .before .before .before .before .pre .0, run-none (a .state .now) (a .year) (a .list .now) (a .batch .now) (a .p) (rowOf (a .case)) (a .numbers .now))
+    (search needs, c .before .before .before .before .pre .0, run-none (settingOf (a .state .now) (a .year) (a .list .now)) (a .batch .now) (a .p) (rowOf (a .case)) (a .numbers .now))
 
 work-detail-requires : tie.Need-work-detail-requires Inv-loop μ-loop
 work-detail-requires c κs =
     let a = c .before .before .before .before .before .before .before .args in
     let l = c .before .before .loop in
     usable-at (a .batch .now) (l .numbers) (a .e)
-    (run-usable (a .state .now) (a .year) (a .list .now) (a .batch .now) (a .p) (l .q - a .p) (rowOf (a .case)) (a .numbers .now) (rowOf (l .c)) (l .numbers)
+    (run-usable (settingOf (a .state .now) (a .year) (a .list .now)) (a .batch .now) (a .p) (l .q - a .p) (rowOf (a .case)) (a .numbers .now) (rowOf (l .c)) (l .numbers)
     (l .inv .2) (a .e) (c .before .before .before .before .before .before .before .pre .1))
     (l .q) (c .before .loop-test .taken)
 
@@ -42,7 +43,7 @@ loop-again c =
     let d = c .before .before .work-detail in (
       omega (arith, l .inv .0),
       omega (arith, c .before .before .before .before .loop-test .taken),
-      run-next (a .state .now) (a .year) (a .list .now) (a .batch .now) (a .p) (l .q) (rowOf (a .case)) (a .numbers .now) (rowOf (l .c)) (l .numbers)
+      run-next (settingOf (a .state .now) (a .year) (a .list .now)) (a .batch .now) (a .p) (l .q) (rowOf (a .case)) (a .numbers .now) (rowOf (l .c)) (l .numbers)
           (rowOf (d .result)) (d .last .1 .1 .0) (l .inv .0) (l .inv .2) (d .ensures .1) (d .ensures .0),
     )
 
@@ -50,7 +51,7 @@ same-length : tie.Need-same-length Inv-loop μ-loop
 same-length c =
     let a = c .before .before .before .before .before .before .args in
     let l = c .before .loop in
-    run-length (a .state .now) (a .year) (a .list .now) (a .batch .now) (a .p) (l .q - a .p) (rowOf (a .case)) (a .numbers .now) (rowOf (l .c)) (l .numbers) (l .inv .2)
+    run-length (settingOf (a .state .now) (a .year) (a .list .now)) (a .batch .now) (a .p) (l .q - a .p) (rowOf (a .case)) (a .numbers .now) (rowOf (l .c)) (l .numbers) (l .inv .2)
 
 returns : tie.Need-returns Inv-loop μ-loop
 returns c =

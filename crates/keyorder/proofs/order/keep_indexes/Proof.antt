@@ -1,4 +1,5 @@
--- `order::keep_indexes` meets its contract. The invariant: the first i numbers are stripped, the rest is kept. Assumes nothing.
+-- `order::keep_indexes`. The invariant: the first i numbers are stripped, the rest is kept; as the ranks don't fall, the own ones come first.
+-- Assumes nothing.
 use mathlib.Core.Path.{_≡_, refl, _∙_}
 use Prim.Native.Nat.{_-_, _*_, _%_, _^_, _≤_}
 use native.Mathlib.Omega.{arith}

@@ -1,4 +1,4 @@
--- `order::number_details` meets its contract. The invariant: the numbers of the first i details stand, the rest is kept.
+-- `order::number_details`. The invariant: the numbers of the first i details stand, the rest is kept.
 -- Assumes nothing.
 use mathlib.Core.List.{List}
 use mathlib.Core.Path.{_≡_, refl, sym, ap, _∙_}
@@ -7,9 +7,9 @@ use native.Mathlib.Omega.{arith}
 use lib.ListN.{length, length-set}
 use borrow.Author.Needs.{needs}
 use denote.Ref.{now}
-use Rattle.layout.specs.Blocks.{blocks}
-use Rattle.layout.proofs.BlocksLaws.{blocks-get}
-use Rattle.onecase.specs.Record.{recordKey}
+use Rattle.text.specs.Blocks.{blocks}
+use Rattle.text.proofs.BlocksLaws.{blocks-get}
+use Rattle.layout.specs.Record.{recordKey}
 use Rattle.keyorder.specs.Order.{rankOf}
 use Rattle.keyorder.specs.Numbers.{numberWith, Numbered}
 use Rattle.keyorder.proofs.NumbersLaws.{numbered-none, numbered-next, numbered-all}
@@ -28,8 +28,8 @@ is-state-requires c κs = search needs
 loop-holds : tie.Need-loop-holds Inv-loop μ-loop
 loop-holds c = (search needs, refl, numbered-none _ _ _)
 
-number-at-requires : tie.Need-number-at-requires Inv-loop μ-loop
-number-at-requires c κs =
+rank-and-index-requires : tie.Need-rank-and-index-requires Inv-loop μ-loop
+rank-and-index-requires c κs =
     (omega (arith, c .loop-test .taken, c .before .before .before .before .before .before .pre .0), omega (arith, c .loop-test .taken, c .before .before .before .before .before .before .pre .2), c .before .before .is-state .ensures)
 
 mul-numbers : tie.Need-mul-numbers Inv-loop μ-loop
@@ -51,7 +51,7 @@ loop-again c =
     let t = c .before .loop-test .taken in
     let e = sym (blocks-get 245 (a .d) (now (a .batch)) (l .i) t) in
     let r = ap (λ (z : List ℕ). numberWith (rankOf (now (a .state)) (recordKey z)) (l .i)) e in
-    (omega (arith, t), length-set (l .numbers) (l .i) (c .number-at .result) ∙ l .inv .1, numbered-next _ _ _ (l .i) (l .numbers) _ (l .inv .2) (omega (arith, t, l .inv .1, c .before .before .before .before .before .before .before .pre .1)) (c .number-at .ensures ∙ r))
+    (omega (arith, t), length-set (l .numbers) (l .i) (c .rank-and-index .result) ∙ l .inv .1, numbered-next _ _ _ (l .i) (l .numbers) _ (l .inv .2) (omega (arith, t, l .inv .1, c .before .before .before .before .before .before .before .pre .1)) (c .rank-and-index .ensures ∙ r))
 
 same-length : tie.Need-same-length Inv-loop μ-loop
 same-length c = c .before .loop .inv .1
@@ -67,7 +67,7 @@ number-details-spec =
     μ-loop
     is-state-requires
     loop-holds
-    number-at-requires
+    rank-and-index-requires
     mul-numbers
     slice-write-numbers
     add-i

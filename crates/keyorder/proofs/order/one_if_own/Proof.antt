@@ -1,4 +1,4 @@
--- `order::one_if_own` meets its contract. Assumes nothing.
+-- `order::one_if_own`: the number above the index's 24 bits is the rank, which the test compares. Assumes nothing.
 use borrow.Author.Tests.{lt-ltb, le-ltb}
 use Rattle.keyorder.proofs.order.one_if_own.Statement.{statement}
 use Rattle.keyorder.proofs.order.one_if_own.Tie as tie

@@ -1,8 +1,8 @@
--- `order::order_details` meets its contract. Assumes nothing.
+-- `order::order_details`: in rising numbers the ranks don't fall, and the indexes rise within a rank. Assumes nothing.
 use borrow.Author.Needs.{needs}
 use denote.Ref.{now}
-use Rattle.layout.specs.Blocks.{blocks}
-use Rattle.layout.proofs.BlocksLaws.{length-blocks}
+use Rattle.text.specs.Blocks.{blocks}
+use Rattle.text.proofs.BlocksLaws.{length-blocks}
 use Rattle.keyorder.proofs.OrderLaws.{second-rises, second-ordered}
 use Rattle.keyorder.proofs.order.order_details.Statement.{statement}
 use Rattle.keyorder.proofs.order.order_details.Tie as tie

@@ -1,4 +1,4 @@
--- `packed::character_of` meets its contract. Assumes nothing.
+-- `packed::character_of`: five bits are below 32, so no sum leaves a byte; 0 and 20 are the space and the hyphen. Assumes nothing.
 use borrow.Author.Tests.{eq-eqb, ne-eqb}
 use Prim.Native.Nat.{_%_}
 use borrow.Author.Needs.{needs}

@@ -1,4 +1,4 @@
--- `packed::verdict_in` meets its contract. Assumes nothing.
+-- `packed::verdict_in`: a judgement's set is errors alone, in the low part, or warnings alone, in the high part. Assumes nothing.
 use Rattle.keyorder.proofs.PackedLaws.{with-name, with-errors, without-errors}
 use borrow.Author.Needs.{needs}
 use Rattle.keyorder.proofs.packed.verdict_in.Statement.{statement}

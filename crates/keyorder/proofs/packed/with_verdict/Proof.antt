@@ -1,4 +1,5 @@
--- `packed::with_verdict` meets its contract. Assumes nothing.
+-- `packed::with_verdict`: the low part is below 2 ^ 19, the index below 2 ^ 24 and the high part below 2 ^ 21, so none runs into another.
+-- Assumes nothing.
 use mir.Syntax.{w64}
 use mir.Val.{Fits}
 use borrow.Author.Needs.{needs}

@@ -1,4 +1,4 @@
--- `rank::is_own_key` meets its contract. Assumes nothing.
+-- `rank::is_own_key`: where the key's state is the submitting state, the table's answer for the one is that for the other. Assumes nothing.
 use mathlib.Core.Path.{sym, _∙_}
 use borrow.Author.Needs.{needs}
 use borrow.Author.Tests.{not-true, not-false}

@@ -1,4 +1,4 @@
--- `rank::rank_of` meets its contract. Assumes nothing.
+-- `rank::rank_of`: the SSN of an own key is nine digits, so twice its number and one is below 2 ^ 31. Assumes nothing.
 use mathlib.Core.Bool.{true, false}
 use mathlib.Core.Path.{_≡_, sym, _∙_}
 use Prim.Native.Nat.{_+_, _*_, _<_, _^_}
@@ -8,11 +8,12 @@ use lib.ListN.{getD}
 use borrow.Author.Needs.{needs}
 use borrow.Author.Tests.{not-true, not-false}
 use denote.Ref.{now}
-use Rattle.layout.proofs.FieldsLaws.{digits-all}
-use Rattle.keyorder.specs.Order.{isOwnKey, rankOf}
+use Rattle.text.proofs.FieldsLaws.{digits-all}
+use Rattle.keyorder.specs.Order.{rankOf}
 use Rattle.keyorder.proofs.RankLaws.{own-parts, own-rank, other-rank, rank-most, type-most}
 use Rattle.keyorder.proofs.rank.rank_of.Statement.{statement}
 use Rattle.keyorder.proofs.rank.rank_of.Tie as tie
+use Rattle.layout.specs.Key.{isOwnKey}
 
 is-own-key-requires : tie.Need-is-own-key-requires
 is-own-key-requires c κs = search needs

@@ -1,4 +1,4 @@
--- `rank::type_rank` meets its contract. Assumes nothing.
+-- `rank::type_rank`: the test compares the byte with N. Assumes nothing.
 use borrow.Author.Tests.{eq-eqb, ne-eqb}
 use Rattle.keyorder.proofs.rank.type_rank.Statement.{statement}
 use Rattle.keyorder.proofs.rank.type_rank.Tie as tie

@@ -1,4 +1,4 @@
--- `calendar::is_date` meets its contract. Assumes nothing.
+-- `calendar::is_date` meets its contract: the definition's tests on the numbers of year, month and day, once there are eight digits. Assumes nothing.
 use mathlib.Core.Bool.{true}
 use mathlib.Core.Path.{_≡_, sym, _∙_}
 use Prim.Native.Nat.{_≤_}
@@ -6,8 +6,8 @@ use lib.Dec.{lit<, lit≤}
 use borrow.Author.Needs.{needs}
 use borrow.Author.Tests.{not-true, not-false}
 use Rattle.layout.specs.Calendar.{isDate}
-use Rattle.layout.specs.Fields.{areDigits}
-use Rattle.layout.proofs.FieldsLaws.{digits-inside, digits-columns}
+use Rattle.text.specs.Fields.{areDigits}
+use Rattle.text.proofs.FieldsLaws.{digits-inside, digits-columns}
 use Rattle.layout.proofs.calendar.is_date.Statement.{statement}
 use Rattle.layout.proofs.calendar.is_date.Tie as tie
 

@@ -1,4 +1,4 @@
--- `calendar::is_day` meets its contract. Assumes nothing.
+-- `calendar::is_day` meets its contract: the same bounds as the definition, the last day by `days_in`. Assumes nothing.
 use borrow.Author.Needs.{needs}
 use Rattle.layout.specs.Calendar.{isDay}
 use Rattle.layout.proofs.calendar.is_day.Statement.{statement}

@@ -1,4 +1,4 @@
--- `calendar::is_leap` meets its contract. Assumes nothing.
+-- `calendar::is_leap` meets its contract: the same test as the definition. Assumes nothing.
 use mathlib.Core.Path.{refl}
 use Rattle.layout.specs.Calendar.{isLeap}
 use Rattle.layout.proofs.calendar.is_leap.Statement.{statement}

@@ -1,11 +1,11 @@
--- `exclusions::ends_blank` meets its contract. Assumes nothing.
+-- `exclusions::ends_blank` meets its contract: true is answered only where `is_blank` says it of all that remains. Assumes nothing.
 use mathlib.Core.Path.{sym, ap, _∙_}
 use mathlib.Core.Bool.{false≢true}
 use Prim.Native.Nat.{_-_}
 use native.Mathlib.Omega.{arith}
 use lib.ListN.{length, drop, length-drop}
 use lib.Seq.{take-all}
-use Rattle.layout.specs.Fields.{isBlank}
+use Rattle.text.specs.Fields.{isBlank}
 use borrow.Author.Needs.{needs}
 use Rattle.layout.proofs.exclusions.ends_blank.Statement.{statement}
 use Rattle.layout.proofs.exclusions.ends_blank.Tie as tie

@@ -7,9 +7,9 @@ use native.Mathlib.Omega.{arith}
 use borrow.Author.Needs.{needs}
 use lib.ListN.{length, take, drop}
 use lib.Seq.{take-all}
-use Rattle.layout.specs.Blocks.{spliced}
+use Rattle.text.specs.Blocks.{spliced}
 use Rattle.layout.specs.Exclusions.{exclusionNames, namesShown, exclusionColumns}
-use Rattle.layout.proofs.SplicedLaws.{take-through}
+use Rattle.text.proofs.SplicedLaws.{take-through}
 use Rattle.layout.proofs.ExclusionsLaws.{shown-step, shown-end}
 use Rattle.layout.proofs.exclusions.exclusion_columns.Statement.{statement}
 use Rattle.layout.proofs.exclusions.exclusion_columns.Tie as tie

@@ -1,4 +1,4 @@
--- `exclusions::past_separator` meets its contract. Assumes nothing.
+-- `exclusions::past_separator` meets its contract: a separator ends a word and starts none; blank to the end leaves no word. Assumes nothing.
 use native.Mathlib.Omega.{arith}
 use Rattle.layout.proofs.ExclusionsLaws.{word-skip, blank-end}
 use borrow.Author.Needs.{needs}

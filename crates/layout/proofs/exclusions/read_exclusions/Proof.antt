@@ -9,7 +9,7 @@ use native.Mathlib.Omega.{arith}
 use borrow.Author.Needs.{needs}
 use lib.Bits.{bitOr}
 use lib.ListN.{length, getD, take, drop}
-use Rattle.layout.specs.Fields.{sameBytes}
+use Rattle.text.specs.Fields.{sameBytes}
 use Rattle.layout.specs.Exclusions.{exclusionNames, wordsFrom, placeAmong, readOnto, exclusionsOf}
 use Rattle.layout.proofs.ExclusionsLaws.{words-none, place-here, place-next, place-end, read-word, read-fails}
 use Rattle.layout.proofs.exclusions.read_exclusions.Statement.{statement}

@@ -1,4 +1,4 @@
--- `key::is_sound_behind` meets its contract. Assumes nothing.
+-- `key::is_sound_behind` meets its contract: the definition's two tests, on the fields that `field` hands on. Assumes nothing.
 use borrow.Author.Needs.{needs}
 use Rattle.layout.proofs.key.is_sound_behind.Statement.{statement}
 use Rattle.layout.proofs.key.is_sound_behind.Tie as tie

@@ -1,4 +1,4 @@
--- `key::is_sound_key` meets its contract. Assumes nothing.
+-- `key::is_sound_key` meets its contract: the definition's tests in turn, on the fields that `field` hands on; another length is unsound. Assumes nothing.
 use borrow.Author.Needs.{needs}
 use borrow.Author.Tests.{eq-eqb, ne-eqb}
 use Rattle.layout.specs.Key.{isSoundKey}

@@ -1,4 +1,4 @@
--- `key::is_sound_key_after` meets its contract. Assumes nothing.
+-- `key::is_sound_key_after` meets its contract: the state before is one of the table, so `is_state_after` answers for this one. Assumes nothing.
 use borrow.Author.Needs.{needs}
 use borrow.Author.Tests.{eq-eqb, ne-eqb}
 use Rattle.layout.specs.Key.{isSoundKey}

@@ -1,4 +1,4 @@
--- `locals::is_local_list` meets its contract. Assumes nothing.
+-- `locals::is_local_list` meets its contract: codes are digits where the whole list is, and they rise as `is_rising` says. Assumes nothing.
 use borrow.Author.Needs.{needs}
 use borrow.Author.Tests.{ne-eqb, not-true, not-false}
 use denote.Ref.{now}

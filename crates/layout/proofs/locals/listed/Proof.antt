@@ -5,7 +5,7 @@ use native.Mathlib.Omega.{arith}
 use lib.ListN.{length, drop}
 use borrow.Author.Needs.{needs}
 use denote.Ref.{now}
-use Rattle.layout.specs.Fields.{isOneOf}
+use Rattle.text.specs.Fields.{isOneOf}
 use Rattle.layout.specs.Locals.{isListed, codesOfList}
 use Rattle.layout.proofs.LocalsLaws.{one-of-step, one-of-end}
 use Rattle.layout.proofs.locals.listed.Statement.{statement}

@@ -3,15 +3,15 @@ use mathlib.Core.Path.{_≡_, sym, _∙_}
 use Prim.Native.Nat.{_-_, _≤_}
 use lib.ListN.{length, drop}
 use borrow.Author.Needs.{needs}
-use Rattle.layout.specs.Characters.{isLetter}
-use Rattle.layout.specs.Fields.{some}
+use Rattle.text.specs.Characters.{isLetter}
+use Rattle.text.specs.Fields.{any}
 use Rattle.layout.specs.Name.{hasLetter}
-use Rattle.layout.proofs.FieldsLaws.{some-pass, some-fail, some-end}
+use Rattle.text.proofs.FieldsLaws.{any-pass, any-fail, any-end}
 use Rattle.layout.proofs.name.has_letter.Statement.{statement}
 use Rattle.layout.proofs.name.has_letter.Tie as tie
 
 abbrev Inv-loop : tie.InvT-loop
-Inv-loop s i₀ i = (i ≤ length s) × (some isLetter s ≡ some isLetter (drop i s))
+Inv-loop s i₀ i = (i ≤ length s) × (any isLetter s ≡ any isLetter (drop i s))
 
 abbrev μ-loop : tie.MeasureT-loop
 μ-loop s i₀ i = length s - i
@@ -27,7 +27,7 @@ is-letter-requires c κs = search needs
 
 returns : tie.Need-returns Inv-loop μ-loop
 unfolding hasLetter
-returns c = sym (c .before .before .before .before .loop .inv .1 ∙ some-pass isLetter (c .before .before .before .before .before .before .args .s .now) (c .before .before .before .before .loop .i) (search needs) (sym (c .before .is-letter .ensures) ∙ c .if1 .taken))
+returns c = sym (c .before .before .before .before .loop .inv .1 ∙ any-pass isLetter (c .before .before .before .before .before .before .args .s .now) (c .before .before .before .before .loop .i) (search needs) (sym (c .before .is-letter .ensures) ∙ c .if1 .taken))
 
 add-i : tie.Need-add-i Inv-loop μ-loop
 add-i c = search needs
@@ -36,11 +36,11 @@ loop-less : tie.Need-loop-less Inv-loop μ-loop
 loop-less c = search needs
 
 loop-again : tie.Need-loop-again Inv-loop μ-loop
-loop-again c = (search needs, c .before .before .before .before .loop .inv .1 ∙ some-fail isLetter (c .before .before .before .before .before .before .args .s .now) (c .before .before .before .before .loop .i) (search needs) (sym (c .before .is-letter .ensures) ∙ c .if1 .left))
+loop-again c = (search needs, c .before .before .before .before .loop .inv .1 ∙ any-fail isLetter (c .before .before .before .before .before .before .args .s .now) (c .before .before .before .before .loop .i) (search needs) (sym (c .before .is-letter .ensures) ∙ c .if1 .left))
 
 returns-2 : tie.Need-returns-2 Inv-loop μ-loop
 unfolding hasLetter
-returns-2 c = sym (c .before .loop .inv .1 ∙ some-end isLetter (c .before .before .before .args .s .now) (c .before .loop .i) (search needs))
+returns-2 c = sym (c .before .loop .inv .1 ∙ any-end isLetter (c .before .before .before .args .s .now) (c .before .loop .i) (search needs))
 
 pub has-letter-spec : {M : Type 1} → statement M
 has-letter-spec =

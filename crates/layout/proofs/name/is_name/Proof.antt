@@ -7,7 +7,7 @@ use lib.ListN.{length-drop, length, getD, drop, take}
 use lib.Seq.{take-all}
 use borrow.Author.Needs.{needs}
 use borrow.Author.Tests.{not-true, not-false}
-use Rattle.layout.specs.Fields.{isBlank}
+use Rattle.text.specs.Fields.{isBlank}
 use Rattle.layout.specs.Name.{isNameByte, isNameRest, isName}
 use Rattle.layout.proofs.NameLaws.{name-none, name-fails, name-first, rest-pass, rest-stop, rest-end}
 use Rattle.layout.proofs.name.is_name.Statement.{statement}

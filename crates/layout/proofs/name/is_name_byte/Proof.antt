@@ -1,5 +1,4 @@
--- `name::is_name_byte` meets its contract. Assumes nothing.
-use Prim.Native.Nat.{_-_}
+-- `name::is_name_byte` meets its contract: a letter by `is_letter`, or the hyphen. Assumes nothing.
 use borrow.Author.Needs.{needs}
 use Rattle.layout.specs.Name.{isNameByte}
 use Rattle.layout.proofs.name.is_name_byte.Statement.{statement}

@@ -5,9 +5,9 @@ use Prim.Native.Nat.{_<_, _^_}
 use native.Mathlib.Omega.{arith}
 use borrow.Author.Needs.{needs}
 use borrow.Author.Tests.{not-true, not-false}
-use Rattle.layout.specs.Fields.{areDigits}
+use Rattle.text.specs.Fields.{areDigits}
 use Rattle.layout.specs.ProcessYear.{inWindow}
-use Rattle.layout.proofs.FieldsLaws.{digits-width, digits-all}
+use Rattle.text.proofs.FieldsLaws.{digits-width, digits-all}
 use Rattle.layout.proofs.process_year.in_window.Statement.{statement}
 use Rattle.layout.proofs.process_year.in_window.Tie as tie
 

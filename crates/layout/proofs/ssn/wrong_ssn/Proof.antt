@@ -1,12 +1,12 @@
--- `ssn::wrong_ssn` meets its contract. Assumes nothing.
+-- `ssn::wrong_ssn` meets its contract: the definition's tests on the numbers of area, group and serial, once there are nine digits. Assumes nothing.
 use mathlib.Core.Bool.{true}
 use mathlib.Core.Path.{_≡_, sym, _∙_}
 use lib.Dec.{lit<, lit≤}
 use borrow.Author.Needs.{needs}
 use borrow.Author.Tests.{not-true, not-false}
-use Rattle.layout.specs.Fields.{areDigits}
+use Rattle.text.specs.Fields.{areDigits}
 use Rattle.layout.specs.Ssn.{wrongSsn}
-use Rattle.layout.proofs.FieldsLaws.{digits-inside, digits-columns}
+use Rattle.text.proofs.FieldsLaws.{digits-inside, digits-columns}
 use Rattle.layout.proofs.ssn.wrong_ssn.Statement.{statement}
 use Rattle.layout.proofs.ssn.wrong_ssn.Tie as tie
 

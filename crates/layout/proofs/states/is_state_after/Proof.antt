@@ -2,7 +2,7 @@
 use mathlib.Core.Path.{sym, ap, _∙_}
 use borrow.Author.Needs.{needs}
 use Rattle.layout.specs.States.{isState}
-use Rattle.layout.proofs.SameLaws.{same-eq}
+use Rattle.text.proofs.SameLaws.{same-eq}
 use Rattle.layout.proofs.states.is_state_after.Statement.{statement}
 use Rattle.layout.proofs.states.is_state_after.Tie as tie
 

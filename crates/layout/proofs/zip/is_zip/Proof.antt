@@ -1,5 +1,4 @@
--- `zip::is_zip` meets its contract. Assumes nothing.
-use Prim.Native.Nat.{_-_}
+-- `zip::is_zip` meets its contract: the definition's tests on five digits and on the four behind them; another length is wrong. Assumes nothing.
 use borrow.Author.Needs.{needs}
 use borrow.Author.Tests.{eq-eqb, ne-eqb}
 use Rattle.layout.specs.Zip.{isZip}

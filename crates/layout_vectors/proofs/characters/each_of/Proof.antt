@@ -1,5 +1,4 @@
--- `characters::each_of` is safe and ends. The loop's invariant: b is a byte.
--- Assumes nothing.
+-- `characters::each_of`: the loop goes once over the 256 bytes. Assumes nothing.
 use Prim.Native.Nat.{_-_, _≤_}
 use borrow.Author.Needs.{needs}
 use Rattle.layout_vectors.proofs.characters.each_of.Statement.{statement}

@@ -1,5 +1,4 @@
--- `characters::judge_each` is safe and ends. The loop's invariant: i is within the bytes.
--- Assumes nothing.
+-- `characters::judge_each`: the loop keeps i within the bytes. Assumes nothing.
 use Prim.Native.Nat.{_-_, _≤_}
 use lib.ListN.{length}
 use borrow.Author.Needs.{needs}

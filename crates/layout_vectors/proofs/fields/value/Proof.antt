@@ -1,5 +1,4 @@
--- `fields::value` is safe and ends: the number is taken of digits alone, eighteen at most.
--- Assumes nothing.
+-- `fields::value`: the number is taken of digits alone, eighteen at most. Assumes nothing.
 use mathlib.Core.Path.{sym, _∙_}
 use native.Mathlib.Omega.{arith}
 use borrow.Author.Needs.{needs}

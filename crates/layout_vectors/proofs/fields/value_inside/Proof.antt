@@ -1,9 +1,8 @@
--- `fields::value_inside` is safe and ends: the number is taken of columns that are digits.
--- Assumes nothing.
+-- `fields::value_inside`: the number is taken of columns that are digits. Assumes nothing.
 use mathlib.Core.Path.{ap, sym, _∙_}
 use native.Mathlib.Omega.{arith}
 use borrow.Author.Needs.{needs}
-use Rattle.layout.specs.Fields.{allDigits}
+use Rattle.text.specs.Fields.{allDigits}
 use Rattle.layout_vectors.proofs.fields.value_inside.Statement.{statement}
 use Rattle.layout_vectors.proofs.fields.value_inside.Tie as tie
 

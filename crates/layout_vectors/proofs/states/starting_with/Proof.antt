@@ -1,5 +1,4 @@
--- `states::starting_with` is safe and ends. The loop's invariant: the letter is at most the one behind Z.
--- Assumes nothing.
+-- `states::starting_with`: the loop keeps the letter at most the one behind Z. Assumes nothing.
 use Prim.Native.Nat.{_-_, _≤_}
 use borrow.Author.Needs.{needs}
 use Rattle.layout_vectors.proofs.states.starting_with.Statement.{statement}

@@ -1,12 +1,12 @@
--- `case::applied_row` meets its contract. Assumes nothing.
+-- `case::applied_row` meets its contract: an A on a live row, an A on another or none, and each other type are the definition's three cases. Assumes nothing.
 use mathlib.Core.Bool.{Bool, _&&_}
 use mathlib.Core.Path.{sym, ap, _∙_}
 use borrow.Author.Needs.{needs}
 use borrow.Author.Tests.{eq-eqb, ne-eqb}
 use Rattle.onecase.specs.Machine.{applied}
-use Rattle.onecase.proofs.HeldLaws.{added-live, added-fresh, changed-held}
 use Rattle.onecase.proofs.case.applied_row.Statement.{statement}
 use Rattle.onecase.proofs.case.applied_row.Tie as tie
+use Rattle.onecase.proofs.AppliedLaws.{added-live, added-fresh, changed-held}
 
 element-copy-out-t : tie.Need-element-copy-out-t
 element-copy-out-t c = search needs

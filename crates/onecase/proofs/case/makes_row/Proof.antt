@@ -1,9 +1,10 @@
--- `case::makes_row` meets its contract. Assumes nothing.
+-- `case::makes_row` meets its contract: without a row an A alone can be accepted, and is where its set of errors is 0. Assumes nothing.
 use borrow.Author.Needs.{needs}
 use borrow.Author.Tests.{eq-eqb, ne-eqb}
-use Rattle.onecase.proofs.JudgeLaws.{add-makes, others-make-none}
 use Rattle.onecase.proofs.case.makes_row.Statement.{statement}
 use Rattle.onecase.proofs.case.makes_row.Tie as tie
+use Rattle.judging.specs.Setting.{settingOf}
+use Rattle.onecase.proofs.StepLaws.{add-makes, others-make-none}
 
 element-copy-out-t : tie.Need-element-copy-out-t
 element-copy-out-t c = search needs
@@ -14,12 +15,12 @@ judge-requires c κs = search needs
 returns : tie.Need-returns
 returns c =
     let a = c .before .before .before .before .before .before .before .args in
-    add-makes (a .state .now) (a .year) (a .list .now) (a .rec .now) _ (c .before .judge .ensures .0) (eq-eqb _ _ (c .before .before .before .if1 .taken))
+    add-makes (settingOf (a .state .now) (a .year) (a .list .now)) (a .rec .now) _ (c .before .judge .ensures .0) (eq-eqb _ _ (c .before .before .before .if1 .taken))
 
 returns-2 : tie.Need-returns-2
 returns-2 c =
     let a = c .before .before .before .before .args in
-    others-make-none (a .state .now) (a .year) (a .list .now) (a .rec .now) (ne-eqb _ _ (c .if1 .left))
+    others-make-none (settingOf (a .state .now) (a .year) (a .list .now)) (a .rec .now) (ne-eqb _ _ (c .if1 .left))
 
 pub makes-row-spec : {M : Type 1} → statement M
 makes-row-spec = tie.close (tie.spec element-copy-out-t judge-requires returns returns-2)

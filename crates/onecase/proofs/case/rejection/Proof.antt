@@ -1,4 +1,4 @@
--- `case::rejection` meets its contract. Assumes nothing.
+-- `case::rejection` meets its contract: each branch hands the set on, and with 17 the four bytes of the name. Assumes nothing.
 use mathlib.Core.Path.{refl}
 use borrow.Author.Needs.{needs}
 use Rattle.onecase.proofs.case.rejection.Statement.{statement}

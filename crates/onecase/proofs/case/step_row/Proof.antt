@@ -1,10 +1,11 @@
--- `case::step_row` meets its contract. Assumes nothing.
+-- `case::step_row` meets its contract: a set of errors that is 0 is none, and what follows is applied; else the state stays. Assumes nothing.
 use mathlib.Core.Path.{refl}
 use borrow.Author.Needs.{needs}
-use Rattle.onecase.specs.Record.{rowIf}
-use Rattle.onecase.proofs.JudgeLaws.{step-accepted, step-rejected}
 use Rattle.onecase.proofs.case.step_row.Statement.{statement}
 use Rattle.onecase.proofs.case.step_row.Tie as tie
+use Rattle.judging.specs.State.{rowIf}
+use Rattle.judging.specs.Setting.{settingOf}
+use Rattle.onecase.proofs.StepLaws.{step-accepted, step-rejected}
 
 judge-requires : tie.Need-judge-requires
 judge-requires c κs = search needs
@@ -18,7 +19,7 @@ applied-row-requires c κs = search needs
 returns : tie.Need-returns
 returns c =
     let a = c .before .before .before .before .before .before .before .before .args in
-    step-accepted (a .state .now) (a .year) (a .list .now) (rowIf (a .held) (a .t2)) (a .rec .now) _ _ _ (c .before .before .before .before .judge .ensures .0) (c .before .before .before .if1 .taken) (c .before .warned .ensures) (c .applied-row .ensures)
+    step-accepted (settingOf (a .state .now) (a .year) (a .list .now)) (rowIf (a .held) (a .t2)) (a .rec .now) _ _ _ (c .before .before .before .before .judge .ensures .0) (c .before .before .before .if1 .taken) (c .before .warned .ensures) (c .applied-row .ensures)
 
 rejection-requires : tie.Need-rejection-requires
 rejection-requires c κs = search needs
@@ -26,7 +27,7 @@ rejection-requires c κs = search needs
 returns-2 : tie.Need-returns-2
 returns-2 c =
     let a = c .before .before .before .before .before .before .args in
-    step-rejected (a .state .now) (a .year) (a .list .now) (rowIf (a .held) (a .t2)) (a .rec .now) _ _ _ _ (c .before .before .judge .ensures .0) (c .before .if1 .left) (c .before .before .judge .ensures .1) refl (c .rejection .ensures)
+    step-rejected (settingOf (a .state .now) (a .year) (a .list .now)) (rowIf (a .held) (a .t2)) (a .rec .now) _ _ _ _ (c .before .before .judge .ensures .0) (c .before .if1 .left) (c .before .before .judge .ensures .1) refl (c .rejection .ensures)
 
 pub step-row-spec : {M : Type 1} → statement M
 step-row-spec =

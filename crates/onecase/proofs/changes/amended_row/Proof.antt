@@ -1,7 +1,7 @@
--- `changes::amended_row` meets its contract. Assumes nothing.
+-- `changes::amended_row` meets its contract: the status is written where the amount is zero, as in the definition. Assumes nothing.
 use mathlib.Core.Path.{sym, ap, _∙_}
 use borrow.Author.Needs.{needs}
-use Rattle.layout.specs.Fields.{isZero}
+use Rattle.text.specs.Fields.{isZero}
 use Rattle.onecase.specs.Changes.{amended}
 use Rattle.onecase.proofs.changes.amended_row.Statement.{statement}
 use Rattle.onecase.proofs.changes.amended_row.Tie as tie

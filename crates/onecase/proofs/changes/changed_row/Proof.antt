@@ -1,4 +1,4 @@
--- `changes::changed_row` meets its contract. Assumes nothing.
+-- `changes::changed_row` meets its contract: each arm is its type's change, and the type of the last is none of the others. Assumes nothing.
 use borrow.Author.Needs.{needs}
 use borrow.Author.Tests.{ne-eqb}
 use Rattle.onecase.specs.Machine.{changed}

@@ -1,7 +1,7 @@
--- `changes::copied_unless_blank` meets its contract. Assumes nothing.
+-- `changes::copied_unless_blank` meets its contract: nothing is written where `is_blank` says so. Assumes nothing.
 use mathlib.Core.Path.{sym, ap, _∙_}
 use borrow.Author.Needs.{needs}
-use Rattle.layout.specs.Fields.{isBlank}
+use Rattle.text.specs.Fields.{isBlank}
 use Rattle.onecase.proofs.changes.copied_unless_blank.Statement.{statement}
 use Rattle.onecase.proofs.changes.copied_unless_blank.Tie as tie
 

@@ -1,4 +1,4 @@
--- `changes::deleted_row` meets its contract. Assumes nothing.
+-- `changes::deleted_row` meets its contract: the two writes of the definition, in its order. Assumes nothing.
 use borrow.Author.Needs.{needs}
 use Rattle.onecase.specs.Changes.{deleted}
 use Rattle.onecase.proofs.changes.deleted_row.Statement.{statement}

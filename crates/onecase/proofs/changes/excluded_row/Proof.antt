@@ -1,4 +1,4 @@
--- `changes::excluded_row` meets its contract. Assumes nothing.
+-- `changes::excluded_row` meets its contract: the one write of the definition. Assumes nothing.
 use borrow.Author.Needs.{needs}
 use Rattle.onecase.specs.Changes.{excluded}
 use Rattle.onecase.proofs.changes.excluded_row.Statement.{statement}

@@ -1,4 +1,4 @@
--- `changes::exclusion_byte` meets its contract. Assumes nothing.
+-- `changes::exclusion_byte` meets its contract: reading answers the set, or a failure, which stands for 0. Assumes nothing.
 use mathlib.Core.List.{[], _∷_}
 use mathlib.Core.Option.{Option}
 use mathlib.Core.Path.{sym, ap, _∙_}

@@ -1,4 +1,4 @@
--- `changes::fresh_row` meets its contract. Assumes nothing.
+-- `changes::fresh_row` meets its contract: the writes of the definition, in its order. Assumes nothing.
 use borrow.Author.Needs.{needs}
 use Rattle.onecase.proofs.StepsLaws.{fresh-steps}
 use Rattle.onecase.proofs.changes.fresh_row.Statement.{statement}
@@ -37,8 +37,11 @@ copied-requires-5 c κs = search needs
 copied-requires-6 : tie.Need-copied-requires-6
 copied-requires-6 c κs = search needs
 
-added-local-code-requires : tie.Need-added-local-code-requires
-added-local-code-requires c κs = search needs
+with-local-code-requires : tie.Need-with-local-code-requires
+with-local-code-requires c κs = search needs
+
+record-key-requires : tie.Need-record-key-requires
+record-key-requires c κs = search needs
 
 slice-aggregate-written-3 : tie.Need-slice-aggregate-written-3
 slice-aggregate-written-3 c = search needs
@@ -46,31 +49,21 @@ slice-aggregate-written-3 c = search needs
 written-requires-3 : tie.Need-written-requires-3
 written-requires-3 c κs = search needs
 
-record-key-requires : tie.Need-record-key-requires
-record-key-requires c κs = search needs
-
-slice-aggregate-written-4 : tie.Need-slice-aggregate-written-4
-slice-aggregate-written-4 c = search needs
-
-written-requires-4 : tie.Need-written-requires-4
-written-requires-4 c κs = search needs
-
 returns : tie.Need-returns
 returns c =
-    fresh-steps (c .before .before .before .before .before .before .before .before .before .before .before .before .before .before .before .before .before .before .before .args .list .now) (c .before .before .before .before .before .before .before .before .before .before .before .before .before .before .before .before .before .before .before .args .rec .now) _ _ _ _ _ _ _ _ _ _ _ _ _
-    (c .before .before .before .before .before .before .before .before .before .before .before .before .before .before .before .before .before .exclusion-byte .ensures)
-    (c .before .before .before .before .before .before .before .before .before .before .before .before .before .before .before .written .ensures)
-    (c .before .before .before .before .before .before .before .before .before .before .before .before .before .before .copied .ensures)
-    (c .before .before .before .before .before .before .before .before .before .before .before .before .before .copied2 .ensures)
-    (c .before .before .before .before .before .before .before .before .before .before .before .written2 .ensures)
-    (c .before .before .before .before .before .before .before .before .before .before .copied3 .ensures)
-    (c .before .before .before .before .before .before .before .before .before .copied4 .ensures)
-    (c .before .before .before .before .before .before .before .before .copied5 .ensures)
-    (c .before .before .before .before .before .before .before .copied6 .ensures)
-    (c .before .before .before .before .before .before .added-local-code .ensures)
-    (c .before .before .before .before .written3 .ensures)
+    fresh-steps (c .before .before .before .before .before .before .before .before .before .before .before .before .before .before .before .before .before .args .list .now) (c .before .before .before .before .before .before .before .before .before .before .before .before .before .before .before .before .before .args .rec .now) _ _ _ _ _ _ _ _ _ _ _ _
+    (c .before .before .before .before .before .before .before .before .before .before .before .before .before .before .before .exclusion-byte .ensures)
+    (c .before .before .before .before .before .before .before .before .before .before .before .before .before .written .ensures)
+    (c .before .before .before .before .before .before .before .before .before .before .before .before .copied .ensures)
+    (c .before .before .before .before .before .before .before .before .before .before .before .copied2 .ensures)
+    (c .before .before .before .before .before .before .before .before .before .written2 .ensures)
+    (c .before .before .before .before .before .before .before .before .copied3 .ensures)
+    (c .before .before .before .before .before .before .before .copied4 .ensures)
+    (c .before .before .before .before .before .before .copied5 .ensures)
+    (c .before .before .before .before .before .copied6 .ensures)
+    (c .before .before .before .before .with-local-code .ensures)
     (c .before .before .record-key .ensures)
-    (c .written4 .ensures)
+    (c .written3 .ensures)
 
 pub fresh-row-spec : {M : Type 1} → statement M
 fresh-row-spec =
@@ -87,10 +80,8 @@ fresh-row-spec =
     copied-requires-4
     copied-requires-5
     copied-requires-6
-    added-local-code-requires
+    with-local-code-requires
+    record-key-requires
     slice-aggregate-written-3
     written-requires-3
-    record-key-requires
-    slice-aggregate-written-4
-    written-requires-4
     returns)

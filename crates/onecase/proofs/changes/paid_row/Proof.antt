@@ -1,4 +1,4 @@
--- `changes::paid_row` meets its contract. Assumes nothing.
+-- `changes::paid_row` meets its contract: the two writes of the definition, in its order. Assumes nothing.
 use borrow.Author.Needs.{needs}
 use Rattle.onecase.specs.Changes.{paid}
 use Rattle.onecase.proofs.changes.paid_row.Statement.{statement}

@@ -1,4 +1,4 @@
--- `changes::readdressed_row` meets its contract. Assumes nothing.
+-- `changes::readdressed_row` meets its contract: the one write of the definition. Assumes nothing.
 use borrow.Author.Needs.{needs}
 use Rattle.onecase.specs.Changes.{readdressed}
 use Rattle.onecase.proofs.changes.readdressed_row.Statement.{statement}

@@ -1,4 +1,4 @@
--- `changes::recertified_row` meets its contract. Assumes nothing.
+-- `changes::recertified_row` meets its contract: the writes of the definition, in its order. Assumes nothing.
 use borrow.Author.Needs.{needs}
 use Rattle.onecase.proofs.StepsLaws.{recertified-steps}
 use Rattle.onecase.proofs.changes.recertified_row.Statement.{statement}
@@ -31,28 +31,21 @@ copied-requires-3 c κs = search needs
 copied-unless-blank-requires-3 : tie.Need-copied-unless-blank-requires-3
 copied-unless-blank-requires-3 c κs = search needs
 
-added-local-code-requires : tie.Need-added-local-code-requires
-added-local-code-requires c κs = search needs
-
-slice-aggregate-written-2 : tie.Need-slice-aggregate-written-2
-slice-aggregate-written-2 c = search needs
-
-written-requires-2 : tie.Need-written-requires-2
-written-requires-2 c κs = search needs
+with-local-code-requires : tie.Need-with-local-code-requires
+with-local-code-requires c κs = search needs
 
 returns : tie.Need-returns
 returns c =
-    recertified-steps (c .before .before .before .before .before .before .before .before .before .before .before .before .before .args .list .now) (c .before .before .before .before .before .before .before .before .before .before .before .before .before .args .rec .now) (c .before .before .before .before .before .before .before .before .before .before .before .before .before .args .row) _ _ _ _ _ _ _ _ _ _
-    (c .before .before .before .before .before .before .before .before .before .before .before .exclusion-byte .ensures)
-    (c .before .before .before .before .before .before .before .before .before .written .ensures)
-    (c .before .before .before .before .before .before .before .before .copied-unless-blank .ensures)
-    (c .before .before .before .before .before .before .before .copied-unless-blank2 .ensures)
-    (c .before .before .before .before .before .before .copied .ensures)
-    (c .before .before .before .before .before .copied2 .ensures)
-    (c .before .before .before .before .copied3 .ensures)
-    (c .before .before .before .copied-unless-blank3 .ensures)
-    (c .before .before .added-local-code .ensures)
-    (c .written2 .ensures)
+    recertified-steps (c .before .before .before .before .before .before .before .before .before .before .before .args .list .now) (c .before .before .before .before .before .before .before .before .before .before .before .args .rec .now) (c .before .before .before .before .before .before .before .before .before .before .before .args .row) _ _ _ _ _ _ _ _ _
+    (c .before .before .before .before .before .before .before .before .before .exclusion-byte .ensures)
+    (c .before .before .before .before .before .before .before .written .ensures)
+    (c .before .before .before .before .before .before .copied-unless-blank .ensures)
+    (c .before .before .before .before .before .copied-unless-blank2 .ensures)
+    (c .before .before .before .before .copied .ensures)
+    (c .before .before .before .copied2 .ensures)
+    (c .before .before .copied3 .ensures)
+    (c .before .copied-unless-blank3 .ensures)
+    (c .with-local-code .ensures)
 
 pub recertified-row-spec : {M : Type 1} → statement M
 recertified-row-spec =
@@ -67,7 +60,5 @@ recertified-row-spec =
     copied-requires-2
     copied-requires-3
     copied-unless-blank-requires-3
-    added-local-code-requires
-    slice-aggregate-written-2
-    written-requires-2
+    with-local-code-requires
     returns)

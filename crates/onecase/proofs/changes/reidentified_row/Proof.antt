@@ -1,4 +1,4 @@
--- `changes::reidentified_row` meets its contract. Assumes nothing.
+-- `changes::reidentified_row` meets its contract: the one write of the definition. Assumes nothing.
 use borrow.Author.Needs.{needs}
 use Rattle.onecase.specs.Changes.{reidentified}
 use Rattle.onecase.proofs.changes.reidentified_row.Statement.{statement}

@@ -1,7 +1,7 @@
--- `changes::relocated_row` meets its contract. Assumes nothing.
+-- `changes::relocated_row` meets its contract: each branch writes what the definition has for a blank code and for another. Assumes nothing.
 use mathlib.Core.Path.{sym, ap, _∙_}
 use borrow.Author.Needs.{needs}
-use Rattle.layout.specs.Fields.{isBlank}
+use Rattle.text.specs.Fields.{isBlank}
 use Rattle.onecase.specs.Changes.{relocated}
 use Rattle.onecase.proofs.changes.relocated_row.Statement.{statement}
 use Rattle.onecase.proofs.changes.relocated_row.Tie as tie

@@ -1,4 +1,4 @@
--- `changes::renamed_row` meets its contract. Assumes nothing.
+-- `changes::renamed_row` meets its contract: the two writes of the definition, in its order. Assumes nothing.
 use borrow.Author.Needs.{needs}
 use Rattle.onecase.specs.Changes.{renamed}
 use Rattle.onecase.proofs.changes.renamed_row.Statement.{statement}

@@ -1,4 +1,4 @@
--- `changes::transferred_row` meets its contract. Assumes nothing.
+-- `changes::transferred_row` meets its contract: the two writes of the definition, in its order. Assumes nothing.
 use borrow.Author.Needs.{needs}
 use Rattle.onecase.specs.Changes.{transferred}
 use Rattle.onecase.proofs.changes.transferred_row.Statement.{statement}

@@ -1,4 +1,4 @@
--- `verdict::stored_name` meets its contract. Assumes nothing.
+-- `verdict::stored_name` meets its contract: four bytes from index 30 on are columns 31 to 34. Assumes nothing.
 use mathlib.Core.Path.{_≡_}
 use native.Mathlib.Omega.{arith}
 use lib.ListN.{length}

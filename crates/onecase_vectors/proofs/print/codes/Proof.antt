@@ -1,6 +1,5 @@
--- `print::codes` is safe and ends. The loop's invariant: the code and what is left of the set come to no more than the set.
--- Assumes nothing.
-use Prim.Native.Nat.{_+_, _-_, _≤_}
+-- `print::codes`: the code and what is left of the set come to no more than the set, so that both fit. Assumes nothing.
+use Prim.Native.Nat.{_+_, _≤_}
 use borrow.Author.Needs.{needs}
 use Rattle.onecase_vectors.proofs.print.codes.Statement.{statement}
 use Rattle.onecase_vectors.proofs.print.codes.Tie as tie

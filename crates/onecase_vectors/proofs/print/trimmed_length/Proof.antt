@@ -1,6 +1,5 @@
--- `print::trimmed_length` meets its contract. The loop's invariant: n is within the bytes.
--- Assumes nothing.
-use Prim.Native.Nat.{_-_, _≤_}
+-- `print::trimmed_length`: the loop keeps n within the bytes. Assumes nothing.
+use Prim.Native.Nat.{_≤_}
 use lib.ListN.{length}
 use borrow.Author.Needs.{needs}
 use Rattle.onecase_vectors.proofs.print.trimmed_length.Statement.{statement}

@@ -1,5 +1,4 @@
--- `record::fill` is safe and ends. The loop's invariant: the next field starts within the text, and the columns keep their number.
--- Assumes nothing.
+-- `record::fill`: the loop keeps the next field's start within the text, and the columns keep their number. Assumes nothing.
 use mathlib.Core.Path.{_≡_}
 use Prim.Native.Nat.{_-_, _≤_}
 use lib.ListN.{length}

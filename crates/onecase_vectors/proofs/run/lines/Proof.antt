@@ -1,5 +1,4 @@
--- `run::lines` is safe and ends. The loop's invariant: the next line starts within the text.
--- Assumes nothing.
+-- `run::lines`: the loop keeps the next line's start within the text. Assumes nothing.
 use Prim.Native.Nat.{_-_, _≤_}
 use lib.ListN.{length}
 use borrow.Author.Needs.{needs}

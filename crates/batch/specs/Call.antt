@@ -1,0 +1,32 @@
+-- Document 01, "Applying a batch": all that is lent to the call. Assumes nothing.
+use Prim.Native.Nat.{ℕ}
+use mathlib.Core.List.{List}
+use Rattle.layout.specs.Batch.{submittingState}
+use Rattle.judging.specs.Setting.{Setting, settingOf}
+
+-- all that is lent to a call
+pub record Call : Type 0 where
+  pub master : List ℕ
+  pub rows : ℕ
+  pub batch : List ℕ
+  pub locals : List ℕ
+  pub year : ℕ
+  pub verdicts : List ℕ
+  pub rejects : List ℕ
+
+-- the call, from what is lent
+abbrev pub callOf : List ℕ → ℕ → List ℕ → List ℕ → ℕ → List ℕ → List ℕ → Call
+callOf master rows batch locals year verdicts rejects =
+    record {
+      master = master;
+      rows = rows;
+      batch = batch;
+      locals = locals;
+      year = year;
+      verdicts = verdicts;
+      rejects = rejects;
+    }
+
+-- the setting of its judgements: the control record's state, the year and the list
+abbrev pub callSetting : Call → Setting
+callSetting c = settingOf (submittingState (c .batch)) (c .year) (c .locals)

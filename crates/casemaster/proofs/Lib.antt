@@ -1,0 +1,5 @@
+pub mod HalvingLaws
+pub mod MovedLaws
+pub mod RefusalsLaws
+pub mod RowsLaws
+pub mod SearchLaws

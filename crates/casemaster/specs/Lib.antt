@@ -1,0 +1,5 @@
+pub mod Master
+pub mod Refusals
+pub mod Row
+pub mod Rows
+pub mod Search

@@ -1,0 +1,24 @@
+-- Document 01, "Applying a batch": the refusals 3 and 4, which every call over a master begins with. Assumes nothing.
+use Prim.Native.Nat.{ℕ, _/_, _%_}
+use mathlib.Core.List.{List}
+use mathlib.Core.Bool.{Bool, not, cond, _||_}
+use lib.Dec.{eqb, ltb}
+use lib.ListN.{length}
+use Rattle.layout.specs.Limits.{maxRows}
+use Rattle.casemaster.specs.Master.{rowsOf, areSoundRows}
+
+-- the number of a refusal where it holds, else of the first behind it
+abbrev pub orElse : Bool → ℕ → ℕ → ℕ
+orElse holds refusal behind = cond holds refusal behind
+
+-- 3: master length no multiple of 200, or row count above length ÷ 200 or 65,535
+unfoldable pub refusal3 : List ℕ → ℕ → Bool
+refusal3 master rows = not (eqb (length master % 200) 0) || ltb (length master / 200) rows || ltb maxRows rows
+
+-- 4: an unsound row or order
+unfoldable pub refusal4 : List ℕ → ℕ → Bool
+refusal4 master rows = not (areSoundRows (rowsOf rows master))
+
+-- the first of 3 and 4 that holds, else what comes behind
+unfoldable pub masterRefusal : List ℕ → ℕ → ℕ → ℕ
+masterRefusal master rows behind = orElse (refusal3 master rows) 3 (orElse (refusal4 master rows) 4 behind)

@@ -1,0 +1,1 @@
+// Theorems over whole calls; there is no code here.

@@ -1,0 +1,4 @@
+pub mod CodeSums
+pub mod HeldLaws
+pub mod JudgeLaws
+pub mod OwnKeyLaws

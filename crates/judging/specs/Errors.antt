@@ -1,0 +1,170 @@
+-- Document 01, "A record's errors": the codes 01 to 18, each as printed, and which are judged together.
+-- The row is the one with the record's key, or none. Assumes nothing.
+use Prim.Native.Nat.{ℕ}
+use mathlib.Core.List.{List, [], _∷_, _++_}
+use mathlib.Core.Bool.{Bool, true, false, not, cond, _&&_, _||_}
+use mathlib.Core.Option.{Option, none, some}
+use lib.Dec.{ltb}
+use Rattle.text.specs.Characters.{isLetter, zeroDigit, A, B, C, L, M, R, S, T, Z}
+use Rattle.text.specs.Fields.{columns, isBlank, areDigits, number, sameBytes}
+use Rattle.layout.specs.States.{isState}
+use Rattle.layout.specs.Ssn.{wrongSsn}
+use Rattle.layout.specs.Name.{isName, hasLetter}
+use Rattle.layout.specs.Zip.{isZip}
+use Rattle.layout.specs.Calendar.{isDate}
+use Rattle.layout.specs.ProcessYear.{inWindow}
+use Rattle.layout.specs.Exclusions.{exclusionsOf}
+use Rattle.layout.specs.Locals.{isListed}
+use Rattle.layout.specs.Key.{isCaseType}
+use Rattle.casemaster.specs.Row.{isLive}
+use Rattle.layout.specs.Record.{isType, isKnownType, caseTypeOf, firstInitial}
+use Rattle.judging.specs.Setting.{Setting}
+
+-- 01: state not in the table, or not the control record's
+unfoldable pub error01 : List ℕ → List ℕ → Bool
+error01 state rec = not (isState (columns 1 2 rec)) || not (sameBytes (columns 1 2 rec) state)
+
+-- 02: SSN (6–14) not nine digits, or all zero; or below area 900 with area 000 or 666, group 00 or serial 0000
+unfoldable pub error02 : List ℕ → Bool
+error02 rec = wrongSsn (columns 6 14 rec)
+
+-- 03: type (73) none of A B C D L M R S T Z
+unfoldable pub error03 : List ℕ → Bool
+error03 rec = not (isKnownType rec)
+
+-- 04: case type (74) neither A (TANF) nor N (Non-TANF)
+unfoldable pub error04 : List ℕ → Bool
+error04 rec = not (isCaseType (caseTypeOf rec))
+
+-- 05: 30–33 aren't one or more letters or hyphens with only spaces behind; for A and B also without a letter
+unfoldable pub error05 : List ℕ → Bool
+error05 rec = not (isName (columns 30 33 rec)) || (isType A rec || isType B rec) && not (hasLetter (columns 30 33 rec))
+
+-- 06 (A, B): 50 not a letter
+unfoldable pub error06 : List ℕ → Bool
+error06 rec = (isType A rec || isType B rec) && not (isLetter (firstInitial rec))
+
+-- 07 (A, M, S): 65–72 not eight digits
+unfoldable pub error07 : List ℕ → Bool
+error07 rec = (isType A rec || isType M rec || isType S rec) && not (areDigits 8 (columns 65 72 rec))
+
+-- 08 (A): digits, below 25
+unfoldable pub error08 : List ℕ → Bool
+error08 rec = isType A rec && (areDigits 8 (columns 65 72 rec) && ltb (number (columns 65 72 rec)) 25)
+
+-- a live row with this key
+unfoldable pub isLiveRow : Option (List ℕ) → Bool
+isLiveRow none = false
+isLiveRow (some row) = isLive row
+
+-- 09 (all but A): no live row with this key
+unfoldable pub error09 : Option (List ℕ) → List ℕ → Bool
+error09 row rec = not (isType A rec) && not (isLiveRow row)
+
+-- the local code 000
+abbrev pub zeroLocalCode : List ℕ
+zeroLocalCode = zeroDigit ∷ zeroDigit ∷ zeroDigit ∷ []
+
+-- a local code (3–5) that is spaces, 000 or listed
+unfoldable pub isLocalCode : List ℕ → List ℕ → Bool
+isLocalCode list rec = isBlank (columns 3 5 rec) || sameBytes (columns 3 5 rec) zeroLocalCode || isListed (columns 3 5 rec) list
+
+-- 10 (L): local code (3–5) neither spaces, 000 nor listed
+unfoldable pub error10 : List ℕ → List ℕ → Bool
+error10 list rec = isType L rec && not (isLocalCode list rec)
+
+-- 11 (C): case ID (15–29) all spaces
+unfoldable pub error11 : List ℕ → Bool
+error11 rec = isType C rec && isBlank (columns 15 29 rec)
+
+-- 12 (T): 75–76 not in the table
+unfoldable pub error12 : List ℕ → Bool
+error12 rec = isType T rec && not (isState (columns 75 76 rec))
+
+-- 13 (S): 80–83 not four digits Y with year − 7 ≤ Y ≤ year
+unfoldable pub error13 : ℕ → List ℕ → Bool
+error13 year rec = isType S rec && not (inWindow year (columns 80 83 rec))
+
+-- 14 (Z): both lines blank, city blank, state not in the table, or ZIP wrong
+unfoldable pub wrongAddress : List ℕ → Bool
+wrongAddress rec =
+    isBlank (columns 84 113 rec) && isBlank (columns 114 143 rec) || isBlank (columns 144 168 rec)
+    || not (isState (columns 169 170 rec)) || not (isZip (columns 171 179 rec))
+
+-- 14 (A): a state or ZIP that isn't blank and is wrong
+unfoldable pub wrongPart : List ℕ → Bool
+wrongPart rec =
+    not (isBlank (columns 169 170 rec)) && not (isState (columns 169 170 rec))
+    || not (isBlank (columns 171 179 rec)) && not (isZip (columns 171 179 rec))
+
+unfoldable pub error14 : List ℕ → Bool
+error14 rec = isType Z rec && wrongAddress rec || isType A rec && wrongPart rec
+
+-- 15 (A): 180–187 neither blank nor a Gregorian date CCYYMMDD of 1900–9999
+unfoldable pub error15 : List ℕ → Bool
+error15 rec = isType A rec && not (isBlank (columns 180 187 rec) || isDate (columns 180 187 rec))
+
+abbrev pub isNone : Option ℕ → Bool
+isNone none = true
+isNone (some set) = false
+
+-- 16 (A, R): a word of 188–227 isn't one of the eight
+unfoldable pub error16 : List ℕ → Bool
+error16 rec = (isType A rec || isType R rec) && isNone (exclusionsOf (columns 188 227 rec))
+
+-- columns 30–33 differ from the stored 31–34
+unfoldable pub isOtherName : Option (List ℕ) → List ℕ → Bool
+isOtherName none rec = false
+isOtherName (some row) rec = not (sameBytes (columns 30 33 rec) (columns 31 34 row))
+
+-- 17 (all but A, B): 30–33 differ from the stored 31–34
+unfoldable pub error17 : Option (List ℕ) → List ℕ → Bool
+error17 row rec = not (isType A rec || isType B rec) && isOtherName row rec
+
+-- 18: 228–244 not spaces
+unfoldable pub error18 : List ℕ → Bool
+error18 rec = not (isBlank (columns 228 244 rec))
+
+-- ---- which are judged
+
+-- with 03, only 01, 02, 04, 05, 18 are judged
+abbrev pub ifKnown : List ℕ → Bool → Bool
+ifKnown rec holds = not (error03 rec) && holds
+
+-- with 01, 02 or 04, 09 and 17 aren't
+unfoldable pub isWrongKey : Setting → List ℕ → Bool
+isWrongKey setting rec = error01 (setting .state) rec || error02 rec || error04 rec
+
+unfoldable pub judged09 : Setting → Option (List ℕ) → List ℕ → Bool
+judged09 setting row rec = ifKnown rec (not (isWrongKey setting rec) && error09 row rec)
+
+-- 17 isn't judged where 05 or 09 holds
+unfoldable pub judged17 : Setting → Option (List ℕ) → List ℕ → Bool
+judged17 setting row rec =
+    ifKnown rec (not (isWrongKey setting rec) && (not (error05 rec) && (not (error09 row rec) && error17 row rec)))
+
+-- a code where it holds
+abbrev pub code : ℕ → Bool → List ℕ
+code c holds = cond holds (c ∷ []) []
+
+-- all that hold, rising
+unfoldable pub errors : Setting → Option (List ℕ) → List ℕ → List ℕ
+errors setting row rec =
+    code 1 (error01 (setting .state) rec)
+    ++ (code 2 (error02 rec)
+    ++ (code 3 (error03 rec)
+    ++ (code 4 (error04 rec)
+    ++ (code 5 (error05 rec)
+    ++ (code 6 (ifKnown rec (error06 rec))
+    ++ (code 7 (ifKnown rec (error07 rec))
+    ++ (code 8 (ifKnown rec (error08 rec))
+    ++ (code 9 (judged09 setting row rec)
+    ++ (code 10 (ifKnown rec (error10 (setting .list) rec))
+    ++ (code 11 (ifKnown rec (error11 rec))
+    ++ (code 12 (ifKnown rec (error12 rec))
+    ++ (code 13 (ifKnown rec (error13 (setting .year) rec))
+    ++ (code 14 (ifKnown rec (error14 rec))
+    ++ (code 15 (ifKnown rec (error15 rec))
+    ++ (code 16 (ifKnown rec (error16 rec))
+    ++ (code 17 (judged17 setting row rec)
+    ++ code 18 (error18 rec)))))))))))))))))

@@ -1,0 +1,5 @@
+pub mod Errors
+pub mod Parts
+pub mod Setting
+pub mod State
+pub mod Warnings

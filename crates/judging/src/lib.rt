@@ -1,0 +1,4 @@
+// A record's errors and warnings, and the set of all that hold.
+pub mod errors;
+pub mod judge;
+pub mod warnings;

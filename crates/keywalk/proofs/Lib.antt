@@ -1,0 +1,11 @@
+pub mod KeyOrderLaws
+pub mod GroupLaws
+pub mod PassLaws
+pub mod MarkLaws
+pub mod StandLaws
+pub mod WalkLaws
+pub mod KeysLaws
+pub mod WalkingLaws
+pub mod CountingLaws
+pub mod WalkStepLaws
+pub mod WorkLaws

@@ -1,0 +1,131 @@
+-- The steps of the walk put together: what the work on one key leaves in the buffers. Assumes nothing.
+use Prim.Native.Nat.{ℕ, _+_, _-_, _*_, _≤_}
+use mathlib.Core.Path.{_≡_, refl, sym, ap, _∙_, subst}
+use mathlib.Core.Bool.{Bool, true, false, not, cond, _&&_, false≢true, true≢false}
+use mathlib.Core.List.{List, _++_, append-nil}
+use mathlib.Core.Option.{Option}
+use native.Mathlib.Omega.{arith}
+use borrow.Author.Tests.{ltb-true}
+use lib.Dec.{ltb}
+use lib.ListN.{length, take}
+use Rattle.text.specs.Fields.{sameBytes}
+use Rattle.casemaster.specs.Master.{rowsOf}
+use Rattle.casemaster.specs.Search.{AreBelow, RowPut, Pulled}
+use Rattle.text.proofs.FieldsLaws.{and-left}
+use Rattle.keyorder.specs.KeyWork.{keyIn, Usable, IsKeyEnd, KeyRun, makesRow}
+use Rattle.keywalk.specs.Walking.{rowIn, isRowOf, oneOrNone, RowOfPut, Fixed, Stand, keyNow, hasRow, rowNow, KeyCounted, KeyWorked, KeyWalked, StaysBefore}
+use Rattle.keywalk.specs.declared.walk.Count.{Count}
+use Rattle.text.proofs.BlocksLaws.{kept-further}
+use Rattle.judging.specs.State.{rowIf}
+
+-- ---- a row written, or none
+
+module _ (m : List ℕ) (p : ℕ) (row m′ : List ℕ) where
+  pub row-put : (held : Bool) → held ≡ true → RowPut m p row m′ → RowOfPut m p (rowIf held row) m′ (p + 1)
+  row-put true e r = record { next-is = refl; rows-are = r .rows-are; rest-kept = r .rest-kept }
+  row-put false e r = absurd (false≢true e)
+
+  pub none-put : (held : Bool) → held ≡ false → RowOfPut m p (rowIf held row) m p
+  none-put true e = absurd (true≢false e)
+  none-put false e =
+      record { next-is = omega arith; rows-are = sym (append-nil (rowsOf p m)); rest-kept = refl }
+
+-- ---- one key
+
+module _ (f : Fixed) (s : Stand) (stays : StaysBefore f s) (e passed : ℕ) (key m₁ : List ℕ)
+    (ke : IsKeyEnd (f .batch) (s .numbers) (s .position) (f .own) e) (ki : key ≡ keyNow f s)
+    (ab : AreBelow (s .master) (s .from) (f .end) key passed) (pulled : Pulled (s .master) (s .from) (s .to) passed m₁)
+    (held : Bool) (hi : held ≡ isRowOf m₁ (s .from + passed) (f .end) key)
+    (start row : Option (List ℕ)) (si : start ≡ rowIf held (rowIn m₁ (s .from + passed))) (numbers′ : List ℕ)
+    (run : KeyRun (f .setting) (f .batch) (s .position) (e - s .position) start (s .numbers) row numbers′) where
+  -- the rows to come are as before
+  held-is : held ≡ hasRow f s passed
+  held-is =
+      hi ∙ ap (λ (x : List ℕ). ltb (s .from + passed) (f .end) && sameBytes (take 12 x) key) (pulled .rest-kept)
+      ∙ ap (isRowOf (s .master) (s .from + passed) (f .end)) ki
+
+  start-is : start ≡ rowNow f s passed
+  start-is =
+      si ∙ ap (λ (t : Bool). rowIf t (rowIn m₁ (s .from + passed))) held-is
+      ∙ ap (λ (x : List ℕ). rowIf (hasRow f s passed) (take 200 x)) (pulled .rest-kept)
+
+  key-worked : KeyWorked f s e passed row numbers′
+  key-worked =
+      record {
+        ended = ke;
+        below = subst (λ (x : List ℕ). AreBelow (s .master) (s .from) (f .end) x passed) ki ab;
+        run =
+            subst (λ (x : Option (List ℕ)). KeyRun (f .setting) (f .batch) (s .position) (e - s .position) x (s .numbers) row numbers′)
+            start-is run;
+      }
+
+  stays-before : s .to + length (oneOrNone row) ≤ s .from + cond held 1 0
+  stays-before =
+      subst (λ (t : Bool). s .to + length (oneOrNone row) ≤ s .from + cond t 1 0) (sym held-is) (stays e passed row numbers′ key-worked)
+
+  held-in : s .from + passed + cond held 1 0 ≤ f .end
+  held-in = go held hi
+    where
+      go : (t : Bool) → t ≡ isRowOf m₁ (s .from + passed) (f .end) key → s .from + passed + cond t 1 0 ≤ f .end
+      go false x = omega (arith, ab .within)
+      go true x =
+          let a = ltb-true (s .from + passed) (f .end) (and-left (ltb (s .from + passed) (f .end)) _ (sym x)) in
+          omega (arith, a)
+
+  -- the key's row has room in the buffer
+  pub put-room : f .end * 200 ≤ length (s .master) → (s .to + passed + length (oneOrNone row)) * 200 ≤ length m₁
+  put-room l = omega (arith, stays-before, held-in, pulled .same-length)
+
+  pub key-walked : (m₂ : List ℕ) (next : ℕ) → RowOfPut m₁ (s .to + passed) row m₂ next → (one : ℕ) → one ≡ cond held 1 0
+      → KeyWalked f s (record { position = e; from = s .from + passed + one; to = next; master = m₂; numbers = numbers′ })
+  key-walked m₂ next put one oi =
+      record {
+        passed = passed;
+        row = row;
+        worked = key-worked;
+        from-is = ap (λ (x : ℕ). s .from + passed + x) (oi ∙ ap (λ (t : Bool). cond t 1 0) held-is);
+        to-is = put .next-is;
+        rows-are = put .rows-are ∙ ap (λ (x : List (List ℕ)). x ++ oneOrNone row) (pulled .rows-are);
+        rest-kept =
+            kept-further m₂ m₁ (next * 200) ((s .from + passed + one) * 200) (omega (arith, put .next-is, stays-before, oi)) (put .rest-kept)
+            ∙ kept-further m₁ (s .master) ((s .from + passed) * 200) ((s .from + passed + one) * 200) (omega arith) (pulled .rest-kept);
+      }
+
+-- ---- some of the numbers
+
+pub usable-less : (batch numbers : List ℕ) (own e : ℕ) → e ≤ own → Usable batch numbers own → Usable batch numbers e
+usable-less batch numbers own e l u =
+    record {
+      within = omega (arith, u .within);
+      numbered = λ q b. u .numbered q (omega arith);
+      recorded = λ q b. u .recorded q (omega arith);
+    }
+
+-- ---- one key counted
+
+module _ (f : Fixed) (m numbers : List ℕ) (s : Count) where
+  pub key-counted : (e passed : ℕ) (key : List ℕ) → IsKeyEnd (f .batch) numbers (s .position) (f .own) e
+      → key ≡ keyIn (f .batch) numbers (s .position) → AreBelow m (s .from) (f .end) key passed → (one : ℕ)
+      → one ≡ cond (not (isRowOf m (s .from + passed) (f .end) key) && makesRow (f .setting) (f .batch) numbers (s .position) (e - s .position)) 1 0
+      → KeyCounted f m numbers s (record { position = e; from = s .from + passed; new = s .new + one })
+  key-counted e passed key ke ki ab one oi =
+      record {
+        passed = passed;
+        ended = ke;
+        below = subst (λ (x : List ℕ). AreBelow m (s .from) (f .end) x passed) ki ab;
+        from-is = refl;
+        new-is =
+            ap (λ (x : ℕ). s .new + x)
+            (oi ∙ ap (λ (x : List ℕ). cond (not (isRowOf m (s .from + passed) (f .end) x) && makesRow (f .setting) (f .batch) numbers (s .position) (e - s .position)) 1 0) ki);
+      }
+
+-- a row that has a key is there
+pub row-there : (m key : List ℕ) (at end : ℕ) (held : Bool) → held ≡ isRowOf m at end key → end * 200 ≤ length m → held ≡ true
+    → at * 200 + 200 ≤ length m
+row-there m key at end held f l t =
+    let a = ltb-true at end (and-left (ltb at end) _ (sym f ∙ t)) in
+    omega (arith, a)
+
+pub row-room : (p : ℕ) (row : List ℕ) (held : Bool) → held ≡ true → (l : ℕ) → (p + length (oneOrNone (rowIf held row))) * 200 ≤ l → p * 200 + 200 ≤ l
+row-room p row true e l h = omega (arith, h)
+row-room p row false e l h = absurd (false≢true e)

@@ -1,0 +1,32 @@
+-- Document 01, "A record's errors": a detail record has 245 bytes (Chart A-1); its key and its type. Assumes nothing.
+use Prim.Native.Nat.{ℕ}
+use mathlib.Core.List.{List, _++_}
+use mathlib.Core.Bool.{Bool, _||_}
+use lib.ListN.{getD}
+use lib.Dec.{eqb}
+use Rattle.text.specs.Characters.{A, B, C, D, L, M, R, S, T, Z}
+use Rattle.text.specs.Fields.{columns}
+
+-- its key is columns 1–2, 6–14, 74, sound or not
+abbrev pub recordKey : List ℕ → List ℕ
+recordKey rec = columns 1 2 rec ++ columns 6 14 rec ++ columns 74 74 rec
+
+-- column 73 alone decides the type
+abbrev pub typeOf : List ℕ → ℕ
+typeOf rec = getD rec 72 0
+
+abbrev pub isType : ℕ → List ℕ → Bool
+isType t rec = eqb (typeOf rec) t
+
+-- one of A B C D L M R S T Z
+unfoldable pub isKnownType : List ℕ → Bool
+isKnownType rec =
+    isType A rec || isType B rec || isType C rec || isType D rec || isType L rec || isType M rec || isType R rec || isType S rec
+    || isType T rec || isType Z rec
+
+-- column 74, the case type, and column 50, the first letter of the first name
+abbrev pub caseTypeOf : List ℕ → ℕ
+caseTypeOf rec = getD rec 73 0
+
+abbrev pub firstInitial : List ℕ → ℕ
+firstInitial rec = getD rec 49 0

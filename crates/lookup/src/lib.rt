@@ -1,0 +1,2 @@
+// Finding a case.
+pub mod find;

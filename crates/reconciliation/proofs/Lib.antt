@@ -1,0 +1,3 @@
+pub mod ReconcileLaws
+pub mod ReconcileOutcomeLaws
+pub mod RecordColumns

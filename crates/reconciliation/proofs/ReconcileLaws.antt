@@ -1,0 +1,195 @@
+-- Laws of reconciliation: the fields that make a REC and an RCT record, the records and the counts from any row on, and the buffer that
+-- the records are written to. Assumes nothing.
+use Prim.Native.Nat.{ℕ, _+_, _*_, _≤_, _<_}
+use mathlib.Core.Path.{_≡_, refl, sym, ap, _∙_}
+use mathlib.Core.List.{List, [], _∷_, _++_, append-assoc, append-nil}
+use mathlib.Core.Bool.{Bool, true, false, cond, _&&_}
+use native.Mathlib.Omega.{arith}
+use lib.Dec.{eqb, lit≤}
+use lib.ListN.{length, getD, take, drop, length-append, drop-of-length-le}
+use Rattle.text.specs.Characters.{A, N}
+use Rattle.text.specs.Fields.{columns, placed, digitField, spaces}
+use Rattle.layout.specs.Exclusions.{exclusionColumns}
+use Rattle.text.specs.Blocks.{blocks, spliced, Holds}
+use Rattle.casemaster.specs.Master.{rowsOf}
+use Rattle.text.proofs.FieldsLaws.{one-column}
+use Rattle.text.proofs.NumberLaws.{length-digits}
+use Rattle.text.proofs.BlocksLaws.{blocks-next, length-blocks, holds-append}
+use Rattle.reconciliation.specs.Reconcile.{REC, RCT, isReported, recRecord, recRecords, reportedOf, rctRecord}
+use Rattle.text.proofs.ColumnsWritten.{written-none, written-field, written-columns, written-kept}
+use Rattle.text.proofs.HoldsLaws.{holds-kept, holds-then}
+
+-- ---- the records, field by field
+
+pub rec-filled : (row : List ℕ) → length row ≡ 200 → (names s1 s2 s3 s4 s5 s6 s7 s8 s9 s10 s11 : List ℕ) → length names ≡ 24
+    → s1 ≡ placed 1 3 REC (spaces 245)
+    → s2 ≡ placed 4 5 (columns 1 2 row) s1
+    → s3 ≡ placed 6 8 (columns 13 15 row) s2
+    → s4 ≡ placed 9 17 (columns 3 11 row) s3
+    → s5 ≡ placed 18 32 (columns 16 30 row) s4
+    → s6 ≡ placed 33 52 (columns 31 50 row) s5
+    → s7 ≡ placed 53 62 (columns 51 60 row) s6
+    → s8 ≡ placed 63 70 (columns 66 73 row) s7
+    → s9 ≡ placed 71 71 (columns 12 12 row) s8
+    → s10 ≡ placed 72 79 (columns 187 194 row) s9
+    → names ≡ exclusionColumns (getD row 194 0)
+    → s11 ≡ placed 82 105 names s10
+    → s11 ≡ recRecord row
+unfolding recRecord
+rec-filled row w names s1 s2 s3 s4 s5 s6 s7 s8 s9 s10 s11 wn e1 e2 e3 e4 e5 e6 e7 e8 e9 e10 en e11 =
+    let f1 = written-field (written-none (spaces 245)) 1 3 REC e1 refl refl (lit≤ tt) in
+    let f2 = written-columns f1 4 5 200 1 2 row e2 w refl in
+    let f3 = written-columns f2 6 8 200 13 15 row e3 w refl in
+    let f4 = written-columns f3 9 17 200 3 11 row e4 w refl in
+    let f5 = written-columns f4 18 32 200 16 30 row e5 w refl in
+    let f6 = written-columns f5 33 52 200 31 50 row e6 w refl in
+    let f7 = written-columns f6 53 62 200 51 60 row e7 w refl in
+    let f8 = written-columns f7 63 70 200 66 73 row e8 w refl in
+    let f9 = written-columns f8 71 71 200 12 12 row e9 w refl in
+    let f10 = written-columns f9 72 79 200 187 194 row e10 w refl in
+    let f11 = written-kept f10 80 81 refl (lit≤ tt) (lit≤ tt) in
+    let f12 = written-field f11 82 105 names e11 refl (omega arith) (lit≤ tt) in
+    f12 .is ∙ rw (en, one-column 195 row (lit≤ tt))
+
+pub rct-filled : (state date : List ℕ) (tanf nonTanf total : ℕ) → length state ≡ 2 → length date ≡ 8
+    → (s1 s2 s3 s4 s5 s6 : List ℕ)
+    → s1 ≡ placed 1 3 RCT (spaces 245)
+    → s2 ≡ placed 4 5 state s1
+    → s3 ≡ placed 6 14 (digitField 9 tanf) s2
+    → s4 ≡ placed 15 23 (digitField 9 nonTanf) s3
+    → s5 ≡ placed 24 32 (digitField 9 total) s4
+    → s6 ≡ placed 33 40 date s5
+    → s6 ≡ RCT ++ state ++ digitField 9 tanf ++ digitField 9 nonTanf ++ digitField 9 total ++ date ++ spaces 205
+rct-filled state date tanf nonTanf total ws wd s1 s2 s3 s4 s5 s6 e1 e2 e3 e4 e5 e6 =
+    let f1 = written-field (written-none (spaces 245)) 1 3 RCT e1 refl refl (lit≤ tt) in
+    let f2 = written-field f1 4 5 state e2 refl (omega arith) (lit≤ tt) in
+    let f3 = written-field f2 6 14 (digitField 9 tanf) e3 refl (omega (arith, length-digits 9 tanf)) (lit≤ tt) in
+    let f4 = written-field f3 15 23 (digitField 9 nonTanf) e4 refl (omega (arith, length-digits 9 nonTanf)) (lit≤ tt) in
+    let f5 = written-field f4 24 32 (digitField 9 total) e5 refl (omega (arith, length-digits 9 total)) (lit≤ tt) in
+    written-field f5 33 40 date e6 refl (omega arith) (lit≤ tt) .is
+
+-- it is the definition's where the counts are
+pub rct-counted : (state date : List ℕ) (rows : List (List ℕ)) (tanf nonTanf total : ℕ) (control : List ℕ)
+    → tanf ≡ reportedOf A state rows → nonTanf ≡ reportedOf N state rows → total ≡ length (recRecords state rows)
+    → control ≡ RCT ++ state ++ digitField 9 tanf ++ digitField 9 nonTanf ++ digitField 9 total ++ date ++ spaces 205
+    → control ≡ rctRecord state date rows
+unfolding rctRecord
+rct-counted state date rows tanf nonTanf total control a n l e = e ∙ rw (a, n, l)
+
+-- ---- the records and the counts, from any row on
+
+module _ (state : List ℕ) where
+  rec-cons : (row : List ℕ) (rows : List (List ℕ)) → recRecords state (row ∷ rows) ≡ recRecords state (row ∷ []) ++ recRecords state rows
+  unfolding recRecords
+  rec-cons row rows = rw (append-nil (cond (isReported state row) (recRecord row ∷ []) []))
+
+  -- a row that is not reported, and one that is
+  rec-none : (row : List ℕ) → isReported state row ≡ false → recRecords state (row ∷ []) ≡ []
+  unfolding recRecords
+  rec-none row t = rw t
+
+  pub rec-one : (row : List ℕ) → isReported state row ≡ true → recRecords state (row ∷ []) ≡ recRecord row ∷ []
+  unfolding recRecords
+  rec-one row t = rw t
+
+  -- how many records a row has
+  rec-count : (row : List ℕ) → length (recRecords state (row ∷ [])) ≡ cond (isReported state row) 1 0
+  unfolding recRecords
+  rec-count row = go (isReported state row)
+    where
+      go : (b : Bool) → length (cond b (recRecord row ∷ []) [] ++ []) ≡ cond b 1 0
+      go true = refl
+      go false = refl
+
+  module _ (n : ℕ) (m : List ℕ) (i : ℕ) where
+    rec-next : i < n
+        → recRecords state (drop i (rowsOf n m))
+        ≡ recRecords state (take 200 (drop (i * 200) m) ∷ []) ++ recRecords state (drop (i + 1) (rowsOf n m))
+    rec-next l = rw (blocks-next 200 n m i l) (rec-cons (take 200 (drop (i * 200) m)) (drop (i + 1) (rowsOf n m)))
+
+    pub rec-end : n ≤ i → recRecords state (drop i (rowsOf n m)) ≡ []
+    unfolding recRecords
+    rec-end l = rw (drop-of-length-le (rowsOf n m) {i = i} (rw (length-blocks 200 n m) l))
+
+    pub count-next : i < n
+        → length (recRecords state (drop i (rowsOf n m)))
+        ≡ cond (isReported state (take 200 (drop (i * 200) m))) 1 0 + length (recRecords state (drop (i + 1) (rowsOf n m)))
+    count-next l =
+        let row = take 200 (drop (i * 200) m) in
+        let rest = recRecords state (drop (i + 1) (rowsOf n m)) in
+        ap length (rec-next l) ∙ length-append (recRecords state (row ∷ [])) rest ∙ ap (λ (z : ℕ). z + length rest) (rec-count row)
+
+    module _ (caseType : ℕ) where
+      pub reported-next : i < n
+          → reportedOf caseType state (drop i (rowsOf n m))
+          ≡ cond (isReported state (take 200 (drop (i * 200) m)) && eqb (getD (take 200 (drop (i * 200) m)) 11 0) caseType) 1 0
+          + reportedOf caseType state (drop (i + 1) (rowsOf n m))
+      unfolding reportedOf
+      reported-next l = rw (blocks-next 200 n m i l, one-column 12 (take 200 (drop (i * 200) m)) (lit≤ tt))
+
+      pub reported-end : n ≤ i → reportedOf caseType state (drop i (rowsOf n m)) ≡ 0
+      unfolding reportedOf
+      reported-end l = rw (drop-of-length-le (rowsOf n m) {i = i} (rw (length-blocks 200 n m) l))
+
+-- ---- the buffer
+
+module _ (state : List ℕ) where
+  -- a row that is not reported leaves the buffer, and one that is appends its record
+  pub put-none : (row out : List ℕ) (k : ℕ) → isReported state row ≡ false
+      → Holds 245 out out k (blocks 245 k out ++ recRecords state (row ∷ []))
+  put-none row out k t = rw (rec-none state row t, append-nil (blocks 245 k out)) (holds-kept 245 out k)
+
+  pub put-one : (row rec out : List ℕ) (k : ℕ) → isReported state row ≡ true → rec ≡ recRecord row → length rec ≡ 245
+      → k * 245 + 245 ≤ length out
+      → Holds 245 out (spliced out (k * 245) rec) (k + 1) (blocks 245 k out ++ recRecords state (row ∷ []))
+  put-one row rec out k t e w l = rw (rec-one state row t, ← e) (holds-append 245 k out rec w l)
+
+  module _ (n : ℕ) (m : List ℕ) where
+    -- what is written of the records and those of the rows from i on are all of them
+    pub record Writing (before out : List ℕ) (k i : ℕ) : Type 0 where
+      pub wide : length out ≡ length before
+      pub held : Holds 245 before out k (blocks 245 k out)
+      pub all : blocks 245 k out ++ recRecords state (drop i (rowsOf n m)) ≡ recRecords state (rowsOf n m)
+
+    pub writing-start : (out : List ℕ) → Writing out out 0 0
+    unfolding blocks
+    writing-start out = record { wide = refl; held = holds-kept 245 out 0; all = refl }
+
+    module _ {before out : List ℕ} {k i : ℕ} (h : Writing before out k i) where
+      -- there is room for the record of the row at i
+      pub writing-room : i < n → length (recRecords state (rowsOf n m)) * 245 ≤ length before
+          → (k + length (recRecords state (take 200 (drop (i * 200) m) ∷ []))) * 245 ≤ length out
+      writing-room l r =
+          let one = recRecords state (take 200 (drop (i * 200) m) ∷ []) in
+          let rest = recRecords state (drop (i + 1) (rowsOf n m)) in
+          let e : k + (length one + length rest) ≡ length (recRecords state (rowsOf n m)) =
+          ap (λ (z : ℕ). z + (length one + length rest)) (sym (length-blocks 245 k out))
+          ∙ ap (λ (z : ℕ). length (blocks 245 k out) + z) (sym (ap length (rec-next state n m i l) ∙ length-append one rest))
+          ∙ sym (length-append (blocks 245 k out) (recRecords state (drop i (rowsOf n m))))
+          ∙ ap length (h .all) in
+          omega (arith, h .wide)
+
+      pub writing-next : (out′ : List ℕ) (k′ : ℕ) → i < n → length out′ ≡ length out
+          → Holds 245 out out′ k′ (blocks 245 k out ++ recRecords state (take 200 (drop (i * 200) m) ∷ []))
+          → Writing before out′ k′ (i + 1)
+      writing-next out′ k′ l w g =
+          let one = recRecords state (take 200 (drop (i * 200) m) ∷ []) in
+          let rest = recRecords state (drop (i + 1) (rowsOf n m)) in
+          let both = holds-then 245 one (h .held) g in
+          record {
+            wide = w ∙ h .wide;
+            held = rw (both .blocks-are) both;
+            all =
+                ap (λ (z : List (List ℕ)). z ++ rest) (g .blocks-are)
+                ∙ append-assoc (blocks 245 k out) one rest
+                ∙ ap (λ (z : List (List ℕ)). blocks 245 k out ++ z) (sym (rec-next state n m i l))
+                ∙ h .all;
+          }
+
+      pub writing-end : n ≤ i → Holds 245 before out k (recRecords state (rowsOf n m))
+      writing-end l =
+          let e : blocks 245 k out ≡ recRecords state (rowsOf n m) =
+          sym (append-nil (blocks 245 k out))
+          ∙ ap (λ (z : List (List ℕ)). blocks 245 k out ++ z) (sym (rec-end state n m i l))
+          ∙ h .all in
+          record { blocks-are = e; rest-kept = h .held .rest-kept }

@@ -1,0 +1,2 @@
+pub mod Reconcile
+pub mod Columns

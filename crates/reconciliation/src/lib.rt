@@ -1,0 +1,2 @@
+// The reconciliation file.
+pub mod reconcile;

@@ -1,0 +1,175 @@
+// Reconciliation.
+use casemaster::master;
+use casemaster::refusals;
+use casemaster::row;
+use layout::calendar;
+use layout::chart_06;
+use layout::chart_07;
+use layout::exclusions;
+use layout::records::RECORD_WIDTH;
+use layout::states;
+use text::fields;
+use text::fields::Columns;
+ghost use mathlib.Core.Path.{_≡_};
+ghost use mathlib.Core.Bool.{cond};
+ghost use mathlib.Core.List.{[], _∷_, _++_};
+ghost use Prim.Native.Nat.{_+_, _*_, _≤_};
+ghost use lib.ListN.{length};
+ghost use Rattle.text.specs.Characters;
+ghost use Rattle.text.specs.Fields.{digitField, spaces};
+ghost use Rattle.text.specs.Blocks.{blocks, Holds};
+ghost use Rattle.casemaster.specs.Master.{rowsOf};
+ghost use Rattle.reconciliation.specs.Reconcile.{isReported, RCT, recRecord, recRecords, reportedOf, reconciledAs, reconcileOutcome};
+
+// The answer of the call: the number of REC records, or the number of the refusal.
+pub enum Reconciled {
+    Done(usize),
+    Refused(u64),
+}
+
+// How many cases are reported, and of each case type.
+struct Cases {
+    total: usize,
+    tanf: usize,
+    non_tanf: usize,
+}
+
+// A first name cut to ten.
+const FIRST_NAME_CUT: Columns = Columns {
+    first: 51,
+    last: 60,
+};
+
+// Whether a row is live and of that state.
+fn is_reported(row: &[u8; 200], state: &[u8]) -> bool
+    ensures { λ r. ⌜ r ≡ isReported (now (state .entry)) (now (row .entry)) ⌝ }
+{
+    row::is_live(row) & fields::same(fields::field(row, row::STATE), state)
+}
+
+// 1 for a case that counts, else 0.
+fn one_if(counts: bool) -> usize
+    ensures { λ r. ⌜ (r ≡ cond counts 1 0) × (r ≤ 1) ⌝ }
+{
+    if counts { 1 } else { 0 }
+}
+
+// Counts the reported cases of the first n rows.
+fn count_cases(m: &[u8], n: usize, state: &[u8]) -> Cases
+    requires { ⌜ n * 200 ≤ length (now m) ⌝ }
+    ensures { λ r. ⌜ r .total ≡ length (recRecords (now (state .entry)) (rowsOf n (now (m .entry)))) ⌝ }
+    ensures { λ r. ⌜ r .tanf ≡ reportedOf Characters.A (now (state .entry)) (rowsOf n (now (m .entry))) ⌝ }
+    ensures { λ r. ⌜ r .«non_tanf» ≡ reportedOf Characters.N (now (state .entry)) (rowsOf n (now (m .entry))) ⌝ }
+{
+    let mut total: usize = 0;
+    let mut tanf: usize = 0;
+    let mut non_tanf: usize = 0;
+    let mut i: usize = 0;
+    while i < n {
+        let row = master::row_at(m, i);
+        let case_type = row[11];
+        let reported = is_reported(&row, state);
+        total += one_if(reported);
+        tanf += one_if(reported & (case_type == 0xC1));
+        non_tanf += one_if(reported & (case_type == 0xD5));
+        i += 1;
+    }
+    Cases {
+        total,
+        tanf,
+        non_tanf,
+    }
+}
+
+// The REC record of a row.
+fn rec_record(row: &[u8; 200]) -> [u8; 245]
+    ensures { λ r. ⌜ r ≡ recRecord (now (row .entry)) ⌝ }
+{
+    let mut out = [0x40u8; 245];
+    fields::put(&mut out, chart_06::IDENTIFIER, b"\xD9\xC5\xC3");
+    fields::copy(&mut out, chart_06::STATE, row, row::STATE);
+    fields::copy(&mut out, chart_06::LOCAL_CODE, row, row::LOCAL_CODE);
+    fields::copy(&mut out, chart_06::SSN, row, row::SSN);
+    fields::copy(&mut out, chart_06::CASE_ID, row, row::CASE_ID);
+    fields::copy(&mut out, chart_06::LAST_NAME, row, row::LAST_NAME);
+    fields::copy(&mut out, chart_06::FIRST_NAME, row, FIRST_NAME_CUT);
+    fields::copy(&mut out, chart_06::ARREARAGE, row, row::ARREARAGE);
+    fields::copy(&mut out, chart_06::CASE_TYPE, row, row::CASE_TYPE);
+    fields::copy(&mut out, chart_06::NOTICE_DATE, row, row::DATE_ISSUED);
+    let names = exclusions::exclusion_columns(row[194]);
+    fields::put(&mut out, chart_06::EXCLUSIONS, &names);
+    out
+}
+
+// The RCT record.
+fn rct_record(state: &[u8], date: &[u8], cases: Cases) -> [u8; 245]
+    requires { ⌜ (length (now state) ≡ 2) × (length (now date) ≡ 8) ⌝ }
+    ensures { λ r. ⌜ r ≡ RCT ++ now (state .entry) ++ digitField 9 (cases .tanf) ++ digitField 9 (cases .«non_tanf») ++ digitField 9 (cases .total) ++ now (date .entry) ++ spaces 205 ⌝ }
+{
+    let mut out = [0x40u8; 245];
+    fields::put(&mut out, chart_07::IDENTIFIER, b"\xD9\xC3\xE3");
+    fields::put(&mut out, chart_07::STATE, state);
+    fields::put_number(&mut out, chart_07::TANF_CASES, cases.tanf as u64);
+    fields::put_number(&mut out, chart_07::NON_TANF_CASES, cases.non_tanf as u64);
+    fields::put_number(&mut out, chart_07::TOTAL_CASES, cases.total as u64);
+    fields::put(&mut out, chart_07::EXTRACT_DATE, date);
+    out
+}
+
+// Writes the REC record of a row behind k records where the row is reported, and returns how many records there are.
+fn put_record(out: &mut [u8], k: usize, row: [u8; 200], state: &[u8]) -> usize
+    requires { ⌜ (k + length (recRecords (now state) (row ∷ []))) * 245 ≤ length (now out) ⌝ }
+    ensures { λ r. ⌜ Holds 245 (now (out .entry)) (now (out .exit)) r (blocks 245 k (now (out .entry)) ++ recRecords (now (state .entry)) (row ∷ [])) ⌝ }
+{
+    if !is_reported(&row, state) {
+        return k;
+    }
+    let rec = rec_record(&row);
+    fields::copy_in(out, k * RECORD_WIDTH, &rec);
+    k + 1
+}
+
+// Writes the REC records of the reported cases among the first n rows, and returns how many there are.
+fn put_records(out: &mut [u8], m: &[u8], n: usize, state: &[u8]) -> usize
+    requires { ⌜ (n * 200 ≤ length (now m)) × (length (recRecords (now state) (rowsOf n (now m))) * 245 ≤ length (now out)) ⌝ }
+    ensures { λ r. ⌜ Holds 245 (now (out .entry)) (now (out .exit)) r (recRecords (now (state .entry)) (rowsOf n (now (m .entry)))) ⌝ }
+{
+    let mut k: usize = 0;
+    let mut i: usize = 0;
+    while i < n {
+        let row = master::row_at(m, i);
+        k = put_record(out, k, row, state);
+        i += 1;
+    }
+    k
+}
+
+// Reconciliation for a state and a date: writes a REC record per live row of that state and RCT behind them, or refuses.
+pub fn reconcile(
+    master: &[u8],
+    rows: usize,
+    state: &[u8],
+    date: &[u8],
+    out: &mut [u8],
+) -> Reconciled
+    ensures { λ r. ⌜ reconciledAs r (now (out .exit)) ≡ reconcileOutcome (now (master .entry)) rows (now (state .entry)) (now (date .entry)) (now (out .entry)) ⌝ }
+{
+    let refusal = refusals::master_refusal(master, rows);
+    if refusal != 0 {
+        return Reconciled::Refused(refusal);
+    }
+    if !states::is_state(state) {
+        return Reconciled::Refused(12);
+    }
+    if !calendar::is_date(date) {
+        return Reconciled::Refused(13);
+    }
+    let cases = count_cases(master, rows, state);
+    if out.len() / RECORD_WIDTH <= cases.total {
+        return Reconciled::Refused(11);
+    }
+    let records = put_records(out, master, rows, state);
+    let control = rct_record(state, date, cases);
+    fields::copy_in(out, records * RECORD_WIDTH, &control);
+    Reconciled::Done(records)
+}

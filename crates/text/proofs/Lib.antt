@@ -1,0 +1,14 @@
+pub mod BlocksLaws
+pub mod BoolLaws
+pub mod ByteNumberLaws
+pub mod ByteOrderLaws
+pub mod ColumnsLaws
+pub mod ColumnsWritten
+pub mod FieldsLaws
+pub mod HoldsLaws
+pub mod NumberLaws
+pub mod SameLaws
+pub mod SplicedLaws
+pub mod SumLaws
+pub mod WidthLaws
+pub mod PartsLaws

@@ -1,0 +1,5 @@
+pub mod Blocks
+pub mod ByteNumbers
+pub mod ByteOrder
+pub mod Characters
+pub mod Fields

@@ -1,0 +1,4 @@
+// Byte strings: characters, byte order, and fields at any place and of any width.
+pub mod byte_order;
+pub mod characters;
+pub mod fields;

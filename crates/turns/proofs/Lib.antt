@@ -1,0 +1,4 @@
+pub mod TurnsLaws
+pub mod UnderLaws
+pub mod NewLaws
+pub mod AddLaws

@@ -1,0 +1,184 @@
+-- Laws of one detail's turn over the rows: what is found under each key afterwards, that rows stay sound, wide and in order, and how many
+-- there are. The one-case machine is used through its laws alone. Assumes nothing.
+use Prim.Native.Nat.{ℕ, suc, _+_, _≤_}
+use mathlib.Core.Path.{_≡_, refl}
+use mathlib.Core.Bool.{Bool, true, false, cond, _&&_, and-false}
+use mathlib.Core.List.{List, [], _∷_}
+use mathlib.Core.Option.{Option, none, some}
+use native.Mathlib.Omega.{arith}
+use native.Mathlib.Nat.{le-refl}
+use lib.ListN.{length}
+use Rattle.text.specs.Characters.{A}
+use Rattle.text.specs.Fields.{sameBytes}
+use Rattle.layout.specs.Locals.{isLocalList}
+use Rattle.casemaster.specs.Row.{rowKey, isSoundRow}
+use Rattle.casemaster.specs.Master.{areSoundRows}
+use Rattle.casemaster.specs.Rows.{rowWith, withRow, withStored}
+use Rattle.text.proofs.SameLaws.{same-eq}
+use Rattle.casemaster.proofs.SearchLaws.{row-key, with-sound, length-replaced, length-added, row-with-same, row-with-other}
+use Rattle.layout.specs.Record.{recordKey, isType}
+use Rattle.onecase.specs.Machine.{next}
+use Rattle.onecase.proofs.MachineLaws.{Keyed, Good, row-stays, only-add-makes, next-keyed, next-good}
+use Rattle.turns.specs.Turns.{afterDetail}
+use Rattle.text.proofs.WidthLaws.{All, every-all}
+use Rattle.casemaster.proofs.RowsLaws.{each-sound, found-all, all-put, Each, IsWide, Fit, rows-rise}
+use Rattle.turns.specs.Adds.{hasNoRow, isNew, addsWithoutRow}
+use Rattle.judging.specs.Setting.{Setting}
+
+-- ---- the row that a detail finds
+
+pub found-wide : (key : List ℕ) (rows : List (List ℕ)) → All IsWide rows → Each IsWide (rowWith key rows)
+found-wide key rows w = found-all IsWide key rows w
+
+-- under the detail's key it is as wide as rows are and has the key
+pub found-keyed : (rows : List (List ℕ)) (detail : List ℕ) → All IsWide rows → Each (Keyed detail) (rowWith (recordKey detail) rows)
+found-keyed rows detail w = go (rowWith (recordKey detail) rows) refl (found-all IsWide (recordKey detail) rows w)
+  where
+    go : (o : Option (List ℕ)) → rowWith (recordKey detail) rows ≡ o → Each IsWide o → Each (Keyed detail) o
+    go none e h = tt
+    go (some row) e h = record { wide = h; key = row-key (recordKey detail) rows row e }
+
+-- and is sound
+pub found-good : (rows : List (List ℕ)) (detail : List ℕ) → Fit rows → Good detail (rowWith (recordKey detail) rows)
+found-good rows detail f =
+    go (rowWith (recordKey detail) rows) (found-keyed rows detail (f .wide))
+    (found-all Sound (recordKey detail) rows (every-all isSoundRow rows (each-sound rows (f .sound))))
+  where
+    Sound : List ℕ → Type 0
+    Sound row = isSoundRow row ≡ true
+
+    go : (o : Option (List ℕ)) → Each (Keyed detail) o → Each Sound o → Good detail o
+    go none k s = tt
+    go (some row) k s = record { wide = k .wide; key = k .key; sound = s }
+
+-- ---- what a step returned, put back
+
+-- rows stay wide, sound and in order
+pub stored-fit : (rows : List (List ℕ)) (detail : List ℕ) (o : Option (List ℕ)) → Good detail o → Fit rows → Fit (withStored o rows)
+stored-fit rows detail none g f = f
+stored-fit rows detail (some row) g f =
+    record {
+      wide = all-put IsWide row rows (g .wide) (f .wide);
+      sound = with-sound row rows (f .sound) (g .sound);
+    }
+
+-- under any other key nothing changes
+pub stored-other : (key : List ℕ) (rows : List (List ℕ)) (detail : List ℕ) (o : Option (List ℕ)) → Each (Keyed detail) o
+    → sameBytes (recordKey detail) key ≡ false → rowWith key (withStored o rows) ≡ rowWith key rows
+stored-other key rows detail none k n = refl
+stored-other key rows detail (some row) k n = row-with-other key row rows (rw (k .key) n)
+
+module _ (setting : Setting) where
+  -- a row stays, so a step that returns none found none
+  pub none-stays : (o : Option (List ℕ)) (detail : List ℕ) → next setting o detail ≡ none → o ≡ none
+  none-stays none detail e = refl
+  none-stays (some row) detail e = let s = row-stays setting row detail in cc (s .1)
+
+  module _ (rows : List (List ℕ)) (detail : List ℕ) (e : length detail ≡ 245) where
+    abbrev after : List (List ℕ)
+    after = afterDetail setting rows detail
+
+    abbrev step : Option (List ℕ)
+    step = next setting (rowWith (recordKey detail) rows) detail
+
+    -- ---- what is found afterwards
+
+    step-keyed : All IsWide rows → Each (Keyed detail) step
+    step-keyed w = next-keyed setting (rowWith (recordKey detail) rows) detail e (found-keyed rows detail w)
+
+    -- under the detail's key, what the machine made of the row there
+    pub after-here : All IsWide rows
+        → rowWith (recordKey detail) (afterDetail setting rows detail) ≡ next setting (rowWith (recordKey detail) rows) detail
+    unfolding afterDetail
+    after-here w = go step refl (step-keyed w)
+      where
+        go : (o : Option (List ℕ)) → step ≡ o → Each (Keyed detail) o → rowWith (recordKey detail) (withStored o rows) ≡ o
+        go none h k = none-stays (rowWith (recordKey detail) rows) detail h
+        go (some row) h k = row-with-same (recordKey detail) row rows (k .key)
+
+    -- under any other, what stood there
+    pub after-other : (key : List ℕ) → All IsWide rows → sameBytes (recordKey detail) key ≡ false
+        → rowWith key (afterDetail setting rows detail) ≡ rowWith key rows
+    unfolding afterDetail
+    after-other key w n = stored-other key rows detail step (step-keyed w) n
+
+    -- ---- rows stay sound, wide and in order
+
+    pub after-fit : isLocalList (setting .list) ≡ true → Fit rows → Fit (afterDetail setting rows detail)
+    unfolding afterDetail
+    after-fit l f =
+        stored-fit rows detail (next setting (rowWith (recordKey detail) rows) detail)
+        (next-good setting (rowWith (recordKey detail) rows) detail e l (found-good rows detail f)) f
+
+    pub after-wide : All IsWide rows → All IsWide (afterDetail setting rows detail)
+    unfolding afterDetail
+    after-wide w = go step (step-keyed w)
+      where
+        go : (o : Option (List ℕ)) → Each (Keyed detail) o → All IsWide (withStored o rows)
+        go none k = w
+        go (some row) k = all-put IsWide row rows (k .wide) w
+
+    pub after-sound : isLocalList (setting .list) ≡ true → All IsWide rows → areSoundRows rows ≡ true
+        → areSoundRows (afterDetail setting rows detail) ≡ true
+    after-sound l w s = after-fit l (record { wide = w; sound = s }) .sound
+
+    -- ---- how many rows there are
+
+    -- at most one more, and only for a new key
+    pub after-length : All IsWide rows → areSoundRows rows ≡ true
+        → length (afterDetail setting rows detail) ≤ length rows + cond (isNew rows detail) 1 0
+    unfolding afterDetail
+    after-length w s = go step refl (step-keyed w)
+      where
+        put : (row : List ℕ) → step ≡ some row → rowKey row ≡ recordKey detail → (o : Option (List ℕ)) → rowWith (recordKey detail) rows ≡ o
+            → length (withRow row rows) ≤ length rows + cond (isType A detail && hasNoRow o) 1 0
+        put row h k none q =
+            let a : isType A detail ≡ true = only-add-makes setting detail row (rw q at h) in
+            let n : length (withRow row rows) ≡ suc (length rows) = length-added row rows (rw k q) in
+            rw a (omega arith)
+        put row h k (some old) q =
+            let n : length (withRow row rows) ≡ length rows = length-replaced row rows old (rows-rise rows s) (rw k q) in
+            omega arith
+
+        go : (o : Option (List ℕ)) → step ≡ o → Each (Keyed detail) o → length (withStored o rows) ≤ length rows + cond (isNew rows detail) 1 0
+        go none h k = omega arith
+        go (some row) h k = put row h (k .key) (rowWith (recordKey detail) rows) refl
+
+    -- a key that has a row keeps it
+    pub missing-after : (key : List ℕ) → All IsWide rows
+        → hasNoRow (rowWith key (afterDetail setting rows detail)) ≡ true → hasNoRow (rowWith key rows) ≡ true
+    missing-after key w m = go (sameBytes (recordKey detail) key) refl
+      where
+        stays : (o : Option (List ℕ)) → hasNoRow (next setting o detail) ≡ true → hasNoRow o ≡ true
+        stays none h = refl
+        stays (some row) h = let t = row-stays setting row detail in rw (t .1) at h
+
+        go : (t : Bool) → sameBytes (recordKey detail) key ≡ t → hasNoRow (rowWith key rows) ≡ true
+        go true t =
+            let k : recordKey detail ≡ key = same-eq (recordKey detail) key t in
+            let h : rowWith key after ≡ next setting (rowWith key rows) detail = rw k at (after-here w) in
+            stays (rowWith key rows) (rw h at m)
+        go false t = rw (after-other key w t) at m
+
+    -- so no more details than before have a new key
+    pub new-rows-after : All IsWide rows → (details : List (List ℕ))
+        → addsWithoutRow (afterDetail setting rows detail) details ≤ addsWithoutRow rows details
+    unfolding addsWithoutRow
+    new-rows-after w [] = le-refl 0
+    new-rows-after w (d ∷ details) =
+        omega (
+          arith,
+          new-rows-after w details,
+          go (isType A d) (hasNoRow (rowWith (recordKey d) after)) (hasNoRow (rowWith (recordKey d) rows)) (missing-after (recordKey d) w),
+        )
+      where
+        go : (a b c : Bool) → (b ≡ true → c ≡ true) → cond (a && b) 1 0 ≤ cond (a && c) 1 0
+        go a false c h = rw (and-false a) (omega arith)
+        go a true c h = rw (h refl) (le-refl (cond (a && true) 1 0))
+
+    -- the rows and the details to come with a new key stay within a limit
+    pub room-after : All IsWide rows → areSoundRows rows ≡ true → (details : List (List ℕ))
+        → length (afterDetail setting rows detail) + addsWithoutRow (afterDetail setting rows detail) details
+        ≤ length rows + addsWithoutRow rows (detail ∷ details)
+    unfolding addsWithoutRow
+    room-after w s details = omega (arith, after-length w s, new-rows-after w details)

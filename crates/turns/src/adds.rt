@@ -1,0 +1,89 @@
+// Records of type A: how many there are, and how many have a key without a row.
+use casemaster::search;
+use casemaster::search::Place;
+use layout::record;
+use layout::records;
+use layout::records::RECORD_WIDTH;
+ghost use mathlib.Core.Path.{_≡_};
+ghost use mathlib.Core.Bool.{true, cond};
+ghost use mathlib.Core.List.{_∷_, []};
+ghost use Prim.Native.Nat.{_+_, _*_, _≤_};
+ghost use lib.ListN.{length, take, drop};
+ghost use Rattle.text.specs.Blocks.{blocks};
+ghost use Rattle.text.specs.Characters;
+ghost use Rattle.casemaster.specs.Master.{rowsOf, areSoundRows};
+ghost use Rattle.layout.specs.Record.{isType};
+ghost use Rattle.turns.specs.Adds.{addsWithoutRow, hasAdd, addCount};
+
+// 1 where it holds, else 0.
+pub fn one_if(holds: bool) -> usize
+    ensures { λ r. ⌜ (r ≡ cond holds 1 0) × (r ≤ 1) ⌝ }
+{
+    if holds { 1 } else { 0 }
+}
+
+// Whether the record at place i is of type A.
+fn is_add(batch: &[u8], i: usize) -> bool
+    requires { ⌜ i * 245 + 245 ≤ length (now batch) ⌝ }
+    ensures { λ r. ⌜ r ≡ isType Characters.A (take 245 (drop (i * 245) (now (batch .entry)))) ⌝ }
+{
+    batch[i * RECORD_WIDTH + 72] == record::ADD
+}
+
+// Whether one of the first d records is of type A.
+pub fn has_add(batch: &[u8], d: usize) -> bool
+    requires { ⌜ d * 245 ≤ length (now batch) ⌝ }
+    ensures { λ r. ⌜ r ≡ hasAdd (blocks 245 d (now (batch .entry))) ⌝ }
+{
+    let mut i: usize = 0;
+    while i < d {
+        if is_add(batch, i) {
+            return true;
+        }
+        i += 1;
+    }
+    false
+}
+
+// How many of the first d records are of type A.
+pub fn count_adds(batch: &[u8], d: usize) -> usize
+    requires { ⌜ d * 245 ≤ length (now batch) ⌝ }
+    ensures { λ r. ⌜ (r ≡ addCount (blocks 245 d (now (batch .entry)))) × (r ≤ d) ⌝ }
+{
+    let mut count: usize = 0;
+    let mut i: usize = 0;
+    while i < d {
+        count += one_if(is_add(batch, i));
+        i += 1;
+    }
+    count
+}
+
+// 1 where the record at place i is an A whose key has no row, else 0. The type is read first, the key of an A alone.
+fn is_new(m: &[u8], n: usize, batch: &[u8], i: usize) -> usize
+    requires { ⌜ (n * 200 ≤ length (now m)) × (areSoundRows (rowsOf n (now m)) ≡ true) × (i * 245 + 245 ≤ length (now batch)) ⌝ }
+    ensures { λ r. ⌜ r ≡ addsWithoutRow (rowsOf n (now (m .entry))) (take 245 (drop (i * 245) (now (batch .entry))) ∷ []) ⌝ }
+{
+    if !is_add(batch, i) {
+        return 0;
+    }
+    let key = records::key_at(batch, i);
+    match search::place_of(m, n, &key) {
+        Place::At(_) => 0,
+        Place::Gap(_) => 1,
+    }
+}
+
+// How many of the first d records of a batch are A records whose key has no row.
+pub fn count_new(m: &[u8], n: usize, batch: &[u8], d: usize) -> usize
+    requires { ⌜ (n * 200 ≤ length (now m)) × (areSoundRows (rowsOf n (now m)) ≡ true) × (d * 245 ≤ length (now batch)) ⌝ }
+    ensures { λ r. ⌜ (r ≡ addsWithoutRow (rowsOf n (now (m .entry))) (blocks 245 d (now (batch .entry)))) × (r ≤ d) ⌝ }
+{
+    let mut count: usize = 0;
+    let mut i: usize = 0;
+    while i < d {
+        count += is_new(m, n, batch, i);
+        i += 1;
+    }
+    count
+}

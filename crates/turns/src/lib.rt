@@ -1,0 +1,2 @@
+// A batch's details in turn, and the A records among them.
+pub mod adds;
