@@ -10,9 +10,10 @@ use borrow.Author.Tests.{ltb-false, eqb-true, eqb-false, not-false}
 use Rattle.text.specs.Blocks.{blocks}
 use Rattle.text.proofs.BoolLaws.{or-left, or-right}
 use Rattle.layout.specs.Limits.{maxRecords}
-use Rattle.batch.specs.Totals.{isControl, areCountsRight, areAmountsRight}
-use Rattle.batch.specs.TotalsParts.{AreTotals, countsAgree, amountsAgree}
-use Rattle.batch.specs.declared.totals.Totals.{Totals}
+use Rattle.control.specs.Totals.{isControl, areCountsRight, areAmountsRight}
+use Rattle.control.specs.TotalsParts.{AreTotals, countsAgree, amountsAgree}
+use Rattle.control.proofs.TotalsLaws.{counts-agree, amounts-agree}
+use Rattle.control.specs.declared.totals.Totals.{Totals}
 use Rattle.layout.proofs.LimitsLaws.{few-records}
 use Rattle.casemaster.specs.Refusals.{orElse}
 use Rattle.layout.specs.Batch.{detailCount, detailsOf, controlOf}
@@ -61,12 +62,12 @@ module _ (batch rec : List ℕ) (five : refusal5 batch ≡ false) (e : rec ≡ t
 
   module _ (t : Totals) (six : isControl rec ≡ true) (a : AreTotals (blocks 245 (detailCount batch) batch) t) where
     counts-right : areCountsRight (controlOf batch) (detailsOf batch) ≡ countsAgree rec t
-    unfolding areCountsRight controlOf detailsOf
-    counts-right = rw (e, a .tanfCount, a .nonTanfCount)
+    unfolding controlOf detailsOf
+    counts-right = rw (← e) (counts-agree rec (blocks 245 (detailCount batch) batch) t a)
 
     amounts-right : areAmountsRight (controlOf batch) (detailsOf batch) ≡ amountsAgree rec t
-    unfolding areAmountsRight controlOf detailsOf
-    amounts-right = rw (e, a .tanfAmount, a .nonTanfAmount)
+    unfolding controlOf detailsOf
+    amounts-right = rw (← e) (amounts-agree rec (blocks 245 (detailCount batch) batch) t a)
 
     pub answer-7 : countsAgree rec t ≡ false → 7 ≡ batchRefusal batch 0
     unfolding batchRefusal refusal6 refusal7

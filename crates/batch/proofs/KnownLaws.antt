@@ -17,7 +17,7 @@ use Rattle.batch.proofs.PassedLaws.{Passed, passed}
 use Rattle.casemaster.specs.Refusals.{refusal3, refusal4}
 use Rattle.turns.specs.Adds.{addsWithoutRow}
 use Rattle.layout.specs.Batch.{detailCount, detailsOf, controlOf}
-use Rattle.batch.specs.Totals.{isControl, areCountsRight, areAmountsRight}
+use Rattle.control.specs.Totals.{isControl, areCountsRight, areAmountsRight}
 use Rattle.batch.specs.Apply.{Outcome, leftAlone, carriedOut, applyOutcome, IsOutcome, isCarriedOut}
 use Rattle.batch.specs.Call.{Call}
 use Rattle.batch.specs.Refusals.{refusal1, refusal2, refusal6, refusal7, refusal8, refusal9, refusal10, refusal11, applyRefusal}

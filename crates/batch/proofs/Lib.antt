@@ -2,8 +2,6 @@ pub mod PassedLaws
 pub mod CountsLaws
 pub mod RejectsLaws
 pub mod WritingLaws
-pub mod ControlLaws
-pub mod TotalsLaws
 pub mod BatchLaws
 pub mod ApplyLaws
 pub mod KnownLaws

@@ -5,11 +5,12 @@ use mathlib.Core.List.{List, [], _∷_, _++_}
 use mathlib.Core.Bool.{Bool, not, cond, _&&_, _||_}
 use lib.Dec.{eqb}
 use lib.ListN.{length}
-use Rattle.text.specs.Characters.{A, C, L, N, T}
+use Rattle.text.specs.Characters.{A, N}
 use Rattle.text.specs.Fields.{digitField, spaces}
 use Rattle.layout.specs.Record.{caseTypeOf}
 use Rattle.layout.specs.Chart02.{rejectState, rejectControl, tanfAccepted, tanfRejected, nonTanfAccepted, nonTanfRejected, tanfWarning, nonTanfWarning, rejectControlFiller}
 use Rattle.onecase.specs.Verdict.{Judgement, isRejected, isWarned}
+use Rattle.control.specs.Totals.{CTL}
 
 -- TANF is case type A, Non-TANF is N
 abbrev pub isTanf : List ℕ → Bool
@@ -67,9 +68,6 @@ countsOf details verdicts =
       warnedNonTanf = howMany isNonTanfWarned details verdicts;
       neither = howMany isNeither details verdicts;
     }
-
-abbrev pub CTL : List ℕ
-CTL = C ∷ T ∷ L ∷ []
 
 -- the control record of Chart 0-2, field behind field
 unfoldable pub controlRecord : List ℕ → Counts → List ℕ

@@ -1,7 +1,5 @@
 pub mod Rejects
 pub mod Counts
-pub mod Totals
-pub mod TotalsParts
 pub mod Tally
 pub mod Answers
 pub mod Call

@@ -10,7 +10,7 @@ use Rattle.layout.specs.Batch.{detailCount, detailsOf, controlOf}
 use Rattle.casemaster.specs.Master.{rowsOf}
 use Rattle.casemaster.specs.Refusals.{orElse, masterRefusal}
 use Rattle.turns.specs.Adds.{addsWithoutRow}
-use Rattle.batch.specs.Totals.{isControl, areCountsRight, areAmountsRight}
+use Rattle.control.specs.Totals.{isControl, areCountsRight, areAmountsRight}
 use Rattle.batch.specs.Call.{Call}
 
 -- 1: year outside 1900–9999

@@ -3,5 +3,4 @@ pub mod apply;
 pub mod counts;
 pub mod refusals;
 pub mod rejects;
-pub mod totals;
 pub mod verdicts;

@@ -1,6 +1,6 @@
 // The refusals of `apply`, in the order of the paper.
-use crate::totals;
 use casemaster::refusals::master_refusal;
+use control::totals;
 use layout::limits::MAX_RECORDS;
 use layout::limits::MAX_ROWS;
 use layout::locals;

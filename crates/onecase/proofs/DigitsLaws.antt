@@ -8,9 +8,9 @@ use borrow.Author.Tests.{eqb-true}
 use lib.Dec.{eqb}
 use lib.ListN.{length}
 use Rattle.text.specs.Characters.{isByte, isDigit, zeroDigit}
-use Rattle.text.specs.Fields.{columns, every, isZero, allDigits, areDigits, numberOnto, number, sameBytes, isOneOf}
+use Rattle.text.specs.Fields.{every, isZero, allDigits, areDigits, numberOnto, number, sameBytes, isOneOf}
 use Rattle.layout.specs.Locals.{codesOfList, isListed, isLocalList}
-use Rattle.text.proofs.FieldsLaws.{and-left, and-right, every-columns, digits-all}
+use Rattle.text.proofs.FieldsLaws.{and-left, and-right, digits-all}
 use Rattle.layout.proofs.LocalsLaws.{every-append}
 use Rattle.text.proofs.SameLaws.{same-eq}
 use Rattle.text.specs.ByteOrder.{rising}
@@ -18,10 +18,6 @@ use Rattle.text.specs.ByteOrder.{rising}
 pub digits-append : (a b : List ℕ) → allDigits (a ++ b) ≡ (allDigits a && allDigits b)
 unfolding allDigits
 digits-append a b = every-append isDigit a b
-
-pub digits-part : (first last : ℕ) (s : List ℕ) → allDigits s ≡ true → allDigits (columns first last s) ≡ true
-unfolding allDigits
-digits-part first last s t = every-columns isDigit first last s t
 
 -- ---- zeros
 

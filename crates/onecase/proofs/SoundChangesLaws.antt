@@ -11,13 +11,12 @@ use Rattle.text.specs.Fields.{columns, isBlank, isZero, allDigits, spaces}
 use Rattle.layout.specs.Locals.{isLocalList}
 use Rattle.casemaster.specs.Row.{isLive, isSoundRow}
 use Rattle.layout.specs.ChartA1.{localCode, lastName, arrearage, processYear}
-use Rattle.text.proofs.FieldsLaws.{digits-all}
+use Rattle.text.proofs.FieldsLaws.{digits-all, digits-part}
 use Rattle.layout.specs.Record.{isType}
 use Rattle.judging.specs.Errors.{zeroLocalCode}
 use Rattle.onecase.specs.Changes.{addedLocalCode, freshRow, recertified, renamed, reidentified, deleted, relocated, amended, excluded, paid, transferred, readdressed}
 use Rattle.onecase.proofs.JudgementLaws.{NoError}
 use Rattle.text.proofs.ColumnsLaws.{columns-of-columns}
-use Rattle.onecase.proofs.DigitsLaws.{digits-part}
 use Rattle.onecase.proofs.ChangesLaws
 use Rattle.onecase.proofs.AcceptedLaws
 use Rattle.onecase.proofs.SoundLaws.{SoundAt, columnsOf, written-sound, free-sound}

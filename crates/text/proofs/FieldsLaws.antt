@@ -150,3 +150,8 @@ module _ (n : ℕ) (s : List ℕ) (t : areDigits n s ≡ true) where
 
   pub digits-inside : (first last : ℕ) → 1 ≤ first → first ≤ last + 1 → last ≤ n → Inside first last s
   digits-inside first last l o h = record { low = l; ordered = o; high = omega (arith, digits-width) }
+
+-- columns of a digit field are digits
+pub digits-part : (first last : ℕ) (s : List ℕ) → allDigits s ≡ true → allDigits (columns first last s) ≡ true
+unfolding allDigits
+digits-part first last s t = every-columns isDigit first last s t

@@ -2,9 +2,9 @@
 use native.Mathlib.Omega.{arith}
 use borrow.Author.Needs.{needs}
 use Rattle.text.specs.Characters.{A, N}
-use Rattle.batch.proofs.TotalsLaws.{count-small, amount-small}
-use Rattle.batch.proofs.totals.with_detail.Statement.{statement}
-use Rattle.batch.proofs.totals.with_detail.Tie as tie
+use Rattle.control.proofs.TotalsLaws.{count-small, amount-small}
+use Rattle.control.proofs.totals.with_detail.Statement.{statement}
+use Rattle.control.proofs.totals.with_detail.Tie as tie
 
 count-in-requires : tie.Need-count-in-requires
 count-in-requires c κs = search needs

@@ -1,8 +1,8 @@
 -- `totals::is_control`: the four tests are those of the definition; digits in all forty columns are digits in each field. Assumes nothing.
 use borrow.Author.Needs.{needs}
-use Rattle.batch.specs.Totals.{isControl}
-use Rattle.batch.proofs.totals.is_control.Statement.{statement}
-use Rattle.batch.proofs.totals.is_control.Tie as tie
+use Rattle.control.specs.Totals.{isControl}
+use Rattle.control.proofs.totals.is_control.Statement.{statement}
+use Rattle.control.proofs.totals.is_control.Tie as tie
 
 field-requires : tie.Need-field-requires
 field-requires c κs = search needs

@@ -9,8 +9,8 @@ use Rattle.text.specs.Characters.{A, M, N}
 use Rattle.text.specs.Fields.{number}
 use Rattle.layout.specs.ChartA2.{totalTanf, totalNonTanf, amountTanf, amountNonTanf}
 use Rattle.layout.specs.Record.{isType, caseTypeOf}
-use Rattle.batch.specs.Totals.{countOf, amountIn, amountOf}
-use Rattle.batch.specs.declared.totals.Totals.{Totals}
+use Rattle.control.specs.Totals.{countOf, amountIn, amountOf}
+use Rattle.control.specs.declared.totals.Totals.{Totals}
 
 -- what a detail adds to the count of a case type
 abbrev pub countIn : ℕ → List ℕ → ℕ

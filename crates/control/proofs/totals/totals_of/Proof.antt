@@ -4,9 +4,9 @@ use native.Mathlib.Omega.{arith}
 use borrow.Author.Needs.{needs}
 use denote.Ref.{now}
 use Rattle.text.proofs.BlocksLaws.{part-width}
-use Rattle.batch.proofs.TotalsLaws.{AreSoFar, totals-room, totals-next, totals-end}
-use Rattle.batch.proofs.totals.totals_of.Statement.{statement}
-use Rattle.batch.proofs.totals.totals_of.Tie as tie
+use Rattle.control.proofs.TotalsLaws.{AreSoFar, totals-room, totals-next, totals-end}
+use Rattle.control.proofs.totals.totals_of.Statement.{statement}
+use Rattle.control.proofs.totals.totals_of.Tie as tie
 
 abbrev Inv-loop : tie.InvT-loop
 Inv-loop batch n t₀ i₀ t i = AreSoFar n batch i t

@@ -1,9 +1,9 @@
 -- `totals::are_amounts_right`: the control record's totals are digits, so its fields have numbers to compare. Assumes nothing.
 use native.Mathlib.Omega.{arith}
 use borrow.Author.Needs.{needs}
-use Rattle.batch.proofs.ControlLaws.{control-digits}
-use Rattle.batch.proofs.totals.are_amounts_right.Statement.{statement}
-use Rattle.batch.proofs.totals.are_amounts_right.Tie as tie
+use Rattle.control.proofs.ControlLaws.{control-digits}
+use Rattle.control.proofs.totals.are_amounts_right.Statement.{statement}
+use Rattle.control.proofs.totals.are_amounts_right.Tie as tie
 
 number-at-requires : tie.Need-number-at-requires
 number-at-requires c κs =

@@ -13,8 +13,8 @@ ghost use mathlib.Core.Bool.{true};
 ghost use Prim.Native.Nat.{_*_, _^_, _≤_};
 ghost use lib.ListN.{length};
 ghost use Rattle.text.specs.Blocks.{blocks};
-ghost use Rattle.batch.specs.Totals.{isControl, amountIn};
-ghost use Rattle.batch.specs.TotalsParts.{countIn, hasAmount, FitsOneMore, IsAdded, AreTotals, countsAgree, amountsAgree};
+ghost use Rattle.control.specs.Totals.{isControl, amountIn};
+ghost use Rattle.control.specs.TotalsParts.{countIn, hasAmount, FitsOneMore, IsAdded, AreTotals, countsAgree, amountsAgree};
 
 // The case types.
 pub const TANF: u8 = 0xC1;

@@ -1,14 +1,17 @@
--- Document 01, "Applying a batch": details, then the control record of Chart A-2, told by its place alone; and the totals. Assumes nothing.
+-- Document 01, "Applying a batch": the control record of Chart A-2, and the totals. Assumes nothing.
 use Prim.Native.Nat.{ℕ, _+_}
 use mathlib.Core.List.{List, [], _∷_}
 use mathlib.Core.Bool.{Bool, cond, _&&_, _||_}
 use lib.Dec.{eqb}
-use Rattle.text.specs.Characters.{A, M, N}
+use Rattle.text.specs.Characters.{A, C, L, M, N, T}
 use Rattle.text.specs.Fields.{columns, isBlank, allDigits, areDigits, number, sameBytes}
 use Rattle.layout.specs.States.{isState}
 use Rattle.layout.specs.ChartA2.{controlState, control, totalTanf, totalNonTanf, amountTanf, amountNonTanf, controlFiller}
 use Rattle.layout.specs.Record.{isType, caseTypeOf}
-use Rattle.batch.specs.Counts.{CTL}
+
+-- the letters CTL
+abbrev pub CTL : List ℕ
+CTL = C ∷ T ∷ L ∷ []
 
 -- Chart A-2: state in the table, CTL, digits, spaces
 unfoldable pub isControl : List ℕ → Bool

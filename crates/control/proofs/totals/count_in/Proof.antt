@@ -1,8 +1,8 @@
 -- `totals::count_in`: byte 73 is column 74, the case type. Assumes nothing.
 use borrow.Author.Needs.{needs}
 use borrow.Author.Tests.{eq-eqb, ne-eqb}
-use Rattle.batch.proofs.totals.count_in.Statement.{statement}
-use Rattle.batch.proofs.totals.count_in.Tie as tie
+use Rattle.control.proofs.totals.count_in.Statement.{statement}
+use Rattle.control.proofs.totals.count_in.Tie as tie
 
 shared-slice-read-if1 : tie.Need-shared-slice-read-if1
 shared-slice-read-if1 c = search needs

@@ -3,12 +3,12 @@ use mathlib.Core.Path.{_≡_, sym, ap, _∙_}
 use native.Mathlib.Omega.{arith}
 use lib.Dec.{eqb}
 use borrow.Author.Needs.{needs}
-use Rattle.batch.specs.Totals.{amountIn}
+use Rattle.control.specs.Totals.{amountIn}
 use Rattle.text.specs.Fields.{columns, areDigits}
 use Rattle.layout.specs.Record.{caseTypeOf}
 use Rattle.text.proofs.FieldsLaws.{and-right, digits-width, digits-all}
-use Rattle.batch.proofs.totals.amount_in.Statement.{statement}
-use Rattle.batch.proofs.totals.amount_in.Tie as tie
+use Rattle.control.proofs.totals.amount_in.Statement.{statement}
+use Rattle.control.proofs.totals.amount_in.Tie as tie
 
 field-requires : tie.Need-field-requires
 field-requires c κs = search needs

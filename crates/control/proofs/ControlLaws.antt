@@ -7,11 +7,9 @@ use native.Mathlib.Omega.{arith}
 use Rattle.text.specs.Fields.{columns, isBlank, allDigits, sameBytes}
 use Rattle.layout.specs.States.{isState}
 use Rattle.layout.specs.ChartA2.{controlState, control, controlFiller}
-use Rattle.text.proofs.FieldsLaws.{and-left, and-right}
+use Rattle.text.proofs.FieldsLaws.{and-left, and-right, digits-part}
 use Rattle.text.proofs.ColumnsLaws.{columns-of-columns}
-use Rattle.onecase.proofs.DigitsLaws.{digits-part}
-use Rattle.batch.specs.Counts.{CTL}
-use Rattle.batch.specs.Totals.{isControl}
+use Rattle.control.specs.Totals.{isControl, CTL}
 
 -- columns among columns that are digits
 pub digits-among : (first last a z : ℕ) (s : List ℕ) → 1 ≤ first → first ≤ a → a ≤ z + 1 → z ≤ last

@@ -12,9 +12,9 @@ use Rattle.text.specs.Blocks.{blocks}
 use Rattle.text.proofs.FieldsLaws.{and-right, digits-width, digits-all}
 use Rattle.text.proofs.NumberLaws.{number-below}
 use Rattle.layout.specs.Record.{caseTypeOf}
-use Rattle.batch.specs.Totals.{countOf, amountIn, amountOf}
-use Rattle.batch.specs.TotalsParts.{countIn, hasAmount, FitsOneMore, IsAdded, AreTotals}
-use Rattle.batch.specs.declared.totals.Totals.{Totals}
+use Rattle.control.specs.Totals.{areCountsRight, areAmountsRight, countOf, amountIn, amountOf}
+use Rattle.control.specs.TotalsParts.{countsAgree, amountsAgree, countIn, hasAmount, FitsOneMore, IsAdded, AreTotals}
+use Rattle.control.specs.declared.totals.Totals.{Totals}
 use Rattle.text.proofs.SumLaws.{IsSum, sum-next, sum-end, sum-below}
 
 -- ---- counts and amounts
@@ -84,3 +84,14 @@ module _ (n : ℕ) (batch : List ℕ) (i : ℕ) (t : Totals) (s : AreSoFar n bat
         tanfAmount = sum-end (amount-sum A) 245 n batch i _ l (s .tanfAmount);
         nonTanfAmount = sum-end (amount-sum N) 245 n batch i _ l (s .nonTanfAmount);
       }
+
+-- ---- the totals and the control record
+
+module _ (rec : List ℕ) (details : List (List ℕ)) (t : Totals) (a : AreTotals details t) where
+  pub counts-agree : areCountsRight rec details ≡ countsAgree rec t
+  unfolding areCountsRight
+  counts-agree = rw (a .tanfCount, a .nonTanfCount)
+
+  pub amounts-agree : areAmountsRight rec details ≡ amountsAgree rec t
+  unfolding areAmountsRight
+  amounts-agree = rw (a .tanfAmount, a .nonTanfAmount)

@@ -1,8 +1,8 @@
 -- `totals::has_amount`: byte 72 is column 73, the type. Assumes nothing.
 use mathlib.Core.Path.{refl}
 use borrow.Author.Needs.{needs}
-use Rattle.batch.proofs.totals.has_amount.Statement.{statement}
-use Rattle.batch.proofs.totals.has_amount.Tie as tie
+use Rattle.control.proofs.totals.has_amount.Statement.{statement}
+use Rattle.control.proofs.totals.has_amount.Tie as tie
 
 shared-slice-read-t : tie.Need-shared-slice-read-t
 shared-slice-read-t c = search needs
