@@ -13,17 +13,17 @@ use Rattle.casemaster.specs.Master.{rowsOf}
 use Rattle.text.proofs.FieldsLaws.{length-columns, and-left, and-right}
 use Rattle.text.proofs.BlocksLaws.{length-blocks, holds-over}
 use Rattle.layout.specs.Limits.{maxRows}
-use Rattle.batch.specs.Rejects.{numbers, rejectRecords}
-use Rattle.batch.specs.Counts.{Counts, countsOf, controlRecord}
-use Rattle.batch.specs.Tally.{countsIn}
+use Rattle.reporting.specs.Rejects.{numbers, rejectRecords}
+use Rattle.reporting.specs.Counts.{Counts, countsOf, controlRecord}
+use Rattle.reporting.specs.Tally.{countsIn}
 use Rattle.batch.specs.Apply.{Outcome, IsOutcome, resultOf, resultIn, outcomeOf, callRows, callVerdicts, carriedOut, applyOutcome}
 use Rattle.batch.specs.Progress.{Worked}
-use Rattle.batch.specs.declared.counts.Tally.{Tally}
+use Rattle.reporting.specs.declared.counts.Tally.{Tally}
 use Rattle.batch.specs.declared.apply.Applied.{Applied}
 use Rattle.batch.specs.declared.apply.Applied.the-variants.{Refused}
 use Rattle.batch.proofs.BatchLaws.{batch-behind}
 use Rattle.casemaster.proofs.RefusalsLaws.{master-passed, master-refused}
-use Rattle.batch.proofs.CountsLaws.{length-control}
+use Rattle.reporting.proofs.CountsLaws.{length-control}
 use Rattle.text.proofs.HoldsLaws.{holds-last}
 use Rattle.batch.proofs.KnownLaws.{Known}
 use Rattle.casemaster.specs.Refusals.{orElse, masterRefusal}

@@ -1,10 +1,5 @@
 pub mod PassedLaws
-pub mod CountsLaws
-pub mod RejectsLaws
-pub mod WritingLaws
 pub mod BatchLaws
 pub mod ApplyLaws
 pub mod KnownLaws
 pub mod WorkedLaws
-pub mod RejectColumns
-pub mod ControlColumns

@@ -11,11 +11,11 @@ use Rattle.text.proofs.BlocksLaws.{length-blocks}
 use Rattle.keyorder.specs.Order.{indexesIn, Ordered}
 use Rattle.keyorder.specs.KeyWork.{Usable, JudgedRun}
 use Rattle.turns.specs.Turns.{verdictsOn}
-use Rattle.batch.specs.Tally.{AtMost}
+use Rattle.reporting.specs.Tally.{AtMost}
 use Rattle.batch.specs.Progress.{Worked}
 use Rattle.keywalk.specs.Walking.{rowsFrom, OrderReady, fixedOf, startOf, newOwnKeys, HasVerdict, WalkReady, Walked, HoldsVerdicts}
-use Rattle.batch.specs.Written.{VerdictsWritten}
-use Rattle.batch.specs.declared.counts.Tally.{Tally}
+use Rattle.reporting.specs.Written.{VerdictsWritten}
+use Rattle.reporting.specs.declared.counts.Tally.{Tally}
 use Rattle.text.proofs.WidthLaws.{blocks-wide}
 use Rattle.batch.proofs.KnownLaws.{Known}
 use Rattle.keywalk.proofs.KeysLaws.{SameIndexes, usable}

@@ -1,9 +1,4 @@
-pub mod Rejects
-pub mod Counts
-pub mod Tally
-pub mod Answers
 pub mod Call
 pub mod Refusals
 pub mod Apply
 pub mod Progress
-pub mod Written

@@ -1,21 +1,21 @@
 // Applying a batch: the refusals in order, then its details, key by key.
-use crate::counts;
 use crate::refusals;
-use crate::verdicts;
-use crate::verdicts::Progress;
 use casemaster::master;
 use keyorder::key_work;
 use keyorder::order;
 use keywalk::walk;
 use layout::chart_a2;
 use layout::records;
+use reporting::counts;
+use reporting::verdicts;
+use reporting::verdicts::Progress;
 use text::fields;
 ghost use mathlib.Core.Path.{_≡_};
 ghost use Prim.Native.Nat.{_+_, _*_, _/_, _≤_, _<_};
 ghost use lib.ListN.{length};
 ghost use Rattle.text.specs.Blocks.{spliced};
-ghost use Rattle.batch.specs.Counts.{controlRecord};
-ghost use Rattle.batch.specs.Tally.{countsIn, AtMost};
+ghost use Rattle.reporting.specs.Counts.{controlRecord};
+ghost use Rattle.reporting.specs.Tally.{countsIn, AtMost};
 ghost use Rattle.batch.specs.Progress.{Worked};
 ghost use Rattle.batch.specs.Apply.{carriedOut, resultOf, resultIn, outcomeOf, IsOutcome};
 ghost use Rattle.layout.specs.Batch.{submittingState};

@@ -1,6 +1,3 @@
 // Applying a batch: its totals and refusals, the work, the verdict list, the reject file and the counts.
 pub mod apply;
-pub mod counts;
 pub mod refusals;
-pub mod rejects;
-pub mod verdicts;

@@ -21,8 +21,8 @@ use Rattle.judging.proofs.CodeSums.{number-none}
 use Rattle.onecase.proofs.JudgementLaws.{name-width}
 use Rattle.onecase.proofs.JudgedLaws.{Judged, isSome, judged}
 use Rattle.turns.specs.Turns.{afterDetail, verdictOn, verdictsOn}
-use Rattle.batch.specs.Rejects.{numberOf, numbers, fourColumns, rejectRecord, ifAny, rejectRecords}
-use Rattle.batch.proofs.RejectColumns.{reject-columns}
+use Rattle.reporting.specs.Rejects.{numberOf, numbers, fourColumns, rejectRecord, ifAny, rejectRecords}
+use Rattle.reporting.proofs.RejectColumns.{reject-columns}
 use Rattle.effects.specs.TwoBatches.{readVerdicts}
 use Rattle.text.proofs.WidthLaws.{All, blocks-joined, joined-append}
 use Rattle.turns.proofs.TurnsLaws.{found-wide, after-wide}

@@ -10,7 +10,7 @@ use lib.ListN.{length}
 use Rattle.casemaster.specs.Master.{rowsOf, keysOf}
 use Rattle.casemaster.specs.Rows.{rowWith}
 use Rattle.text.proofs.BlocksLaws.{length-blocks}
-use Rattle.batch.specs.Counts.{countsOf, controlRecord}
+use Rattle.reporting.specs.Counts.{countsOf, controlRecord}
 use Rattle.batch.specs.Apply.{Outcome, callRows, callVerdicts, carriedOut, IsOutcome, rowCount, isCarriedOut}
 use Rattle.effects.specs.TwoBatches.{verdictsLeft, rowsLeft, startingRow, machineRow, machineVerdicts, EqualEffect, MachineAgrees, LeftByMachine, TwoBatches}
 use Rattle.text.proofs.WidthLaws.{All, blocks-wide}

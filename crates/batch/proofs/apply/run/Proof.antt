@@ -7,8 +7,8 @@ use native.Mathlib.Omega.{arith}
 use lib.ListN.{length}
 use borrow.Author.Needs.{needs}
 use denote.Ref.{now}
-use Rattle.batch.specs.Counts.{controlRecord}
-use Rattle.batch.specs.Tally.{countsIn}
+use Rattle.reporting.specs.Counts.{controlRecord}
+use Rattle.reporting.specs.Tally.{countsIn}
 use Rattle.text.specs.Blocks.{spliced}
 use Rattle.text.specs.Fields.{columns}
 use Rattle.batch.proofs.ApplyLaws.{ran, state-two}

@@ -1,11 +1,11 @@
 -- `rejects::name_columns`: each answer of the machine is told apart, and only the third has a name. Assumes nothing.
 use mathlib.Core.Path.{sym, ap}
 use borrow.Author.Needs.{needs}
-use Rattle.batch.specs.Rejects.{fourColumns}
+use Rattle.reporting.specs.Rejects.{fourColumns}
 use Rattle.onecase.specs.Verdict.{meaning}
 use Rattle.onecase.specs.declared.verdict.Verdict.{Verdict}
-use Rattle.batch.proofs.rejects.name_columns.Statement.{statement}
-use Rattle.batch.proofs.rejects.name_columns.Tie as tie
+use Rattle.reporting.proofs.rejects.name_columns.Statement.{statement}
+use Rattle.reporting.proofs.rejects.name_columns.Tie as tie
 
 enum-told : tie.Need-enum-told
 enum-told c = search needs

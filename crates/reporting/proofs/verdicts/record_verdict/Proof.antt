@@ -6,8 +6,8 @@ use lib.ListN.{set}
 use borrow.Author.Needs.{needs}
 use mir.Syntax.{w64}
 use mir.Val.{Fits}
-use Rattle.batch.proofs.verdicts.record_verdict.Statement.{statement}
-use Rattle.batch.proofs.verdicts.record_verdict.Tie as tie
+use Rattle.reporting.proofs.verdicts.record_verdict.Statement.{statement}
+use Rattle.reporting.proofs.verdicts.record_verdict.Tie as tie
 
 set-of-requires : tie.Need-set-of-requires
 set-of-requires c κs = search needs

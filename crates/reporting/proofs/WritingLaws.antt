@@ -20,17 +20,17 @@ use Rattle.onecase.specs.declared.verdict.Verdict.{Verdict}
 use Rattle.judging.proofs.CodeSums.{number-none}
 use Rattle.onecase.proofs.JudgedLaws.{Judged, judged}
 use Rattle.keyorder.specs.Packed.{Packed, IsJudged, IsVerdictIn}
-use Rattle.batch.specs.Rejects.{numberOf, numbers, rejectRecord, ifAny, rejectRecords}
-use Rattle.batch.specs.Counts.{Counts, countsOf}
-use Rattle.batch.specs.Tally.{countsIn, plus, oneDetail, AtMost}
-use Rattle.batch.specs.Answers.{setIn}
-use Rattle.batch.specs.Progress.{Recorded, noTally}
-use Rattle.batch.specs.Written.{VerdictsWritten}
-use Rattle.batch.specs.declared.counts.Tally.{Tally}
-use Rattle.batch.specs.declared.verdicts.Progress.{Progress}
-use Rattle.batch.proofs.RejectsLaws.{codes-in}
-use Rattle.batch.proofs.CountsLaws.{counts-cons, plus-assoc, counts-none, none-plus, plus-none}
+use Rattle.reporting.specs.Rejects.{numberOf, numbers, rejectRecord, ifAny, rejectRecords}
+use Rattle.reporting.specs.Counts.{Counts, countsOf}
+use Rattle.reporting.specs.Tally.{countsIn, plus, oneDetail, AtMost}
+use Rattle.reporting.specs.Answers.{setIn}
+use Rattle.reporting.specs.Written.{VerdictsWritten}
+use Rattle.reporting.specs.declared.counts.Tally.{Tally}
+use Rattle.reporting.specs.declared.verdicts.Progress.{Progress}
+use Rattle.reporting.proofs.RejectsLaws.{codes-in}
+use Rattle.reporting.proofs.CountsLaws.{counts-cons, plus-assoc, counts-none, none-plus, plus-none}
 use Rattle.keywalk.specs.Walking.{HoldsVerdicts}
+use Rattle.reporting.specs.Recorded.{Recorded, noTally}
 
 -- the first number of what is kept is kept
 kept-first : (a b : List ℕ) (i : ℕ) → drop i a ≡ drop i b → getD a i 0 ≡ getD b i 0

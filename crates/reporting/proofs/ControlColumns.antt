@@ -5,8 +5,8 @@ use mathlib.Core.List.{List, [], _∷_, map}
 use Prim.Native.Nat.{ℕ}
 use lib.ListN.{length}
 use Rattle.text.specs.Fields.{digitField, spaces}
-use Rattle.batch.specs.Counts.{Counts, controlRecord, IsControlRecord}
-use Rattle.batch.proofs.CountsLaws.{length-control}
+use Rattle.reporting.specs.Counts.{Counts, controlRecord, IsControlRecord}
+use Rattle.reporting.proofs.CountsLaws.{length-control}
 use Rattle.text.proofs.NumberLaws.{length-digits}
 use Rattle.text.proofs.PartsLaws.{columns-appended}
 use Rattle.control.specs.Totals.{CTL}

@@ -5,8 +5,8 @@ ghost use mathlib.Core.Path.{_≡_};
 ghost use mathlib.Core.Bool.{not, cond};
 ghost use Prim.Native.Nat.{_+_, _<_, _≤_};
 ghost use lib.ListN.{length};
-ghost use Rattle.batch.specs.Counts.{controlRecord};
-ghost use Rattle.batch.specs.Tally.{countsIn, plus, oneDetail, AtMost};
+ghost use Rattle.reporting.specs.Counts.{controlRecord};
+ghost use Rattle.reporting.specs.Tally.{countsIn, plus, oneDetail, AtMost};
 
 // The counts so far.
 pub struct Tally {

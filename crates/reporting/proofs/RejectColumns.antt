@@ -9,8 +9,8 @@ use lib.ListN.{length}
 use Rattle.text.specs.Fields.{columns, spaces}
 use Rattle.layout.specs.Codes.{sixLowest}
 use Rattle.onecase.specs.Verdict.{Judgement}
-use Rattle.batch.specs.Rejects.{fourColumns, rejectRecord, IsRejectRecord}
-use Rattle.batch.proofs.RejectsLaws.{length-six, length-reject}
+use Rattle.reporting.specs.Rejects.{fourColumns, rejectRecord, IsRejectRecord}
+use Rattle.reporting.proofs.RejectsLaws.{length-six, length-reject}
 use Rattle.text.proofs.FieldsLaws.{length-columns}
 use Rattle.text.proofs.PartsLaws.{columns-appended}
 

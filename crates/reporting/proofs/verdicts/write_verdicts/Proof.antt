@@ -3,9 +3,9 @@ use Prim.Native.Nat.{_-_, _*_}
 use native.Mathlib.Omega.{arith}
 use borrow.Author.Needs.{needs}
 use Rattle.text.proofs.BlocksLaws.{part-width}
-use Rattle.batch.proofs.WritingLaws.{Writing, writing-start, writing-next, writing-few, writing-counted, writing-done}
-use Rattle.batch.proofs.verdicts.write_verdicts.Statement.{statement}
-use Rattle.batch.proofs.verdicts.write_verdicts.Tie as tie
+use Rattle.reporting.proofs.WritingLaws.{Writing, writing-start, writing-next, writing-few, writing-counted, writing-done}
+use Rattle.reporting.proofs.verdicts.write_verdicts.Statement.{statement}
+use Rattle.reporting.proofs.verdicts.write_verdicts.Tie as tie
 
 abbrev Inv-loop : tie.InvT-loop
 Inv-loop rows batch d numbers₀ rejects₀ s₀ i₀ numbers rejects s i = Writing rows batch d numbers₀ rejects₀ numbers rejects s i

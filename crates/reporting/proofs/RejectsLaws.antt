@@ -12,8 +12,8 @@ use Rattle.layout.proofs.CodesLaws.{length-text, lowest-codes}
 use Rattle.onecase.specs.Verdict.{Judgement, meaning}
 use Rattle.onecase.specs.declared.verdict.Verdict.{Verdict}
 use Rattle.onecase.specs.declared.verdict.Verdict.the-variants.{Accepted, Rejected, RejectedWithName}
-use Rattle.batch.specs.Rejects.{fourColumns, rejectRecord, ifAny}
-use Rattle.batch.specs.Answers.{setIn}
+use Rattle.reporting.specs.Rejects.{fourColumns, rejectRecord, ifAny}
+use Rattle.reporting.specs.Answers.{setIn}
 use Rattle.text.proofs.ColumnsWritten.{Written, written-none, written-field, written-kept}
 
 -- ---- what an answer stands for

@@ -6,10 +6,10 @@ use mathlib.Core.List.{List}
 use lib.ListN.{length, take, drop}
 use Rattle.text.specs.Blocks.{blocks}
 use Rattle.onecase.specs.Verdict.{Judgement}
-use Rattle.batch.specs.Rejects.{numbers as numbersOf, rejectRecords}
-use Rattle.batch.specs.Counts.{countsOf}
-use Rattle.batch.specs.Tally.{countsIn, AtMost}
-use Rattle.batch.specs.declared.counts.Tally.{Tally}
+use Rattle.reporting.specs.Rejects.{numbers as numbersOf, rejectRecords}
+use Rattle.reporting.specs.Counts.{countsOf}
+use Rattle.reporting.specs.Tally.{countsIn, AtMost}
+use Rattle.reporting.specs.declared.counts.Tally.{Tally}
 
 -- all verdicts written: the numbers, k reject records and the counts are the verdicts', and the rest is kept
 pub record VerdictsWritten (details : List (List ℕ)) (verdicts : List Judgement) (numbers rejects numbers′ rejects′ : List ℕ) (k : ℕ) (t : Tally) : Type 0 where

@@ -11,10 +11,10 @@ ghost use Prim.Native.Nat.{_+_, _*_, _≤_, _<_};
 ghost use lib.ListN.{length};
 ghost use Rattle.text.specs.Blocks.{blocks};
 ghost use Rattle.onecase.specs.Verdict.{Judgement};
-ghost use Rattle.batch.specs.Tally.{AtMost};
-ghost use Rattle.batch.specs.Progress.{noTally, Recorded};
-ghost use Rattle.batch.specs.Written.{VerdictsWritten};
+ghost use Rattle.reporting.specs.Tally.{AtMost};
+ghost use Rattle.reporting.specs.Written.{VerdictsWritten};
 ghost use Rattle.keywalk.specs.Walking.{HoldsVerdicts};
+ghost use Rattle.reporting.specs.Recorded.{noTally, Recorded};
 
 // How far the work has come: rows, reject records and counts.
 pub struct Progress {

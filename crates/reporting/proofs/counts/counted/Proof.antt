@@ -1,10 +1,10 @@
 -- `counts::counted`: each count grows by 1 or 0 under the test of the definition, so none passes n + 1. Assumes nothing.
 use mathlib.Core.Bool.{Bool·not-not}
 use borrow.Author.Needs.{needs}
-use Rattle.batch.specs.Tally.{oneDetail}
-use Rattle.batch.proofs.CountsLaws.{one-fits, count-most}
-use Rattle.batch.proofs.counts.counted.Statement.{statement}
-use Rattle.batch.proofs.counts.counted.Tie as tie
+use Rattle.reporting.specs.Tally.{oneDetail}
+use Rattle.reporting.proofs.CountsLaws.{one-fits, count-most}
+use Rattle.reporting.proofs.counts.counted.Statement.{statement}
+use Rattle.reporting.proofs.counts.counted.Tie as tie
 
 shared-slice-read-tanf : tie.Need-shared-slice-read-tanf
 shared-slice-read-tanf c = search needs

@@ -5,10 +5,10 @@ use denote.Ref.{now}
 use Rattle.layout.specs.Codes.{sixLowest}
 use Rattle.text.specs.Fields.{placed}
 use Rattle.onecase.specs.Verdict.{meaning}
-use Rattle.batch.proofs.RejectsLaws.{codes-in, four-in, spliced-all, reject-written}
+use Rattle.reporting.proofs.RejectsLaws.{codes-in, four-in, spliced-all, reject-written}
 use Rattle.text.proofs.ColumnsWritten.{written-all}
-use Rattle.batch.proofs.rejects.reject_record.Statement.{statement}
-use Rattle.batch.proofs.rejects.reject_record.Tie as tie
+use Rattle.reporting.proofs.rejects.reject_record.Statement.{statement}
+use Rattle.reporting.proofs.rejects.reject_record.Tie as tie
 
 slice-aggregate-copy-in : tie.Need-slice-aggregate-copy-in
 slice-aggregate-copy-in c = search needs

@@ -5,13 +5,13 @@ use Prim.Native.Nat.{_^_, ℕ, _+_, _<_}
 use native.Mathlib.Nat.{le-refl}
 use native.Mathlib.Omega.{arith}
 use borrow.Author.Needs.{needs}
-use Rattle.batch.specs.Rejects.{ifAny, rejectRecord}
+use Rattle.reporting.specs.Rejects.{ifAny, rejectRecord}
 use Rattle.text.specs.Blocks.{blocks}
 use Rattle.onecase.specs.Verdict.{meaning}
-use Rattle.batch.proofs.RejectsLaws.{codes-in, four-in, none-any, some-any, length-reject}
+use Rattle.reporting.proofs.RejectsLaws.{codes-in, four-in, none-any, some-any, length-reject}
 use Rattle.text.proofs.BlocksLaws.{holds-append}
-use Rattle.batch.proofs.rejects.put_reject.Statement.{statement}
-use Rattle.batch.proofs.rejects.put_reject.Tie as tie
+use Rattle.reporting.proofs.rejects.put_reject.Statement.{statement}
+use Rattle.reporting.proofs.rejects.put_reject.Tie as tie
 
 set-of-requires : tie.Need-set-of-requires
 set-of-requires c κs = search needs

@@ -3,8 +3,8 @@
 use Prim.Native.Nat.{ℕ, _+_, _≤_}
 use mathlib.Core.List.{List}
 use mathlib.Core.Bool.{Bool, not, cond, _&&_, _||_}
-use Rattle.batch.specs.Counts.{Counts, isTanf, isNonTanf}
-use Rattle.batch.specs.declared.counts.Tally.{Tally}
+use Rattle.reporting.specs.Counts.{Counts, isTanf, isNonTanf}
+use Rattle.reporting.specs.declared.counts.Tally.{Tally}
 
 abbrev pub countsIn : Tally → Counts
 countsIn t =

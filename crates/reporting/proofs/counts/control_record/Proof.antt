@@ -1,11 +1,11 @@
 -- `counts::control_record`: the fields are put into a blank record one behind the other. Assumes nothing.
 use mathlib.Core.Path.{refl}
 use borrow.Author.Needs.{needs}
-use Rattle.batch.specs.Tally.{countsIn}
-use Rattle.batch.proofs.CountsLaws.{control-written}
+use Rattle.reporting.specs.Tally.{countsIn}
+use Rattle.reporting.proofs.CountsLaws.{control-written}
 use Rattle.text.proofs.ColumnsWritten.{written-all}
-use Rattle.batch.proofs.counts.control_record.Statement.{statement}
-use Rattle.batch.proofs.counts.control_record.Tie as tie
+use Rattle.reporting.proofs.counts.control_record.Statement.{statement}
+use Rattle.reporting.proofs.counts.control_record.Tie as tie
 
 slice-aggregate-put : tie.Need-slice-aggregate-put
 slice-aggregate-put c = search needs

@@ -9,8 +9,8 @@ ghost use Prim.Native.Nat.{_+_, _*_, _≤_};
 ghost use lib.ListN.{length};
 ghost use Rattle.text.specs.Blocks.{blocks, Holds};
 ghost use Rattle.onecase.specs.Verdict.{meaning, saysAccepted};
-ghost use Rattle.batch.specs.Rejects.{fourColumns, rejectRecord, ifAny};
-ghost use Rattle.batch.specs.Answers.{setIn};
+ghost use Rattle.reporting.specs.Rejects.{fourColumns, rejectRecord, ifAny};
+ghost use Rattle.reporting.specs.Answers.{setIn};
 
 // The set of a verdict.
 pub fn set_of(v: Verdict) -> u64

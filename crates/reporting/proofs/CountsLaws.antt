@@ -8,8 +8,8 @@ use lib.Dec.{lit≤}
 use lib.ListN.{length}
 use Rattle.text.specs.Fields.{digitField, spaces, placed}
 use Rattle.onecase.specs.Verdict.{Judgement, isRejected, isWarned}
-use Rattle.batch.specs.Counts.{Counts, howMany, countsOf, controlRecord}
-use Rattle.batch.specs.Tally.{plus, oneDetail}
+use Rattle.reporting.specs.Counts.{Counts, howMany, countsOf, controlRecord}
+use Rattle.reporting.specs.Tally.{plus, oneDetail}
 use Rattle.text.proofs.ColumnsWritten.{Written, written-none, written-field, written-digits, written-kept}
 use Rattle.control.specs.Totals.{CTL}
 
