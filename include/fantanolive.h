@@ -1,20 +1,22 @@
 /* fantanolive.h: the C interface of the Fantanolive library, libfantanolive.a.
  *
- * The library keeps a state's mirror of the federal offset case master. It has three calls:
+ * The library keeps a state's copy of the federal offset case master. It has five calls:
  *
  *     fantanolive_apply      applies a submission batch to a master
  *     fantanolive_find       finds a case's row in a master
  *     fantanolive_reconcile  writes the reconciliation file of a state
+ *     fantanolive_to_ebcdic  turns a file from ASCII into EBCDIC
+ *     fantanolive_to_ascii   turns a file from EBCDIC into ASCII
  *
  * What the words here mean (row, record, detail, key, sound, code) and which columns the fields have is said in
  * document 01 and its charts. Columns count from 1: column 1 is byte 0.
  *
  * Bytes. All text is EBCDIC: letters C1-C9, D1-D9, E2-E9, digits F0-F9, space 40, hyphen 60, comma 6B (hexadecimal).
- * The calls convert nothing.
+ * A batch typed in ASCII is turned into EBCDIC by fantanolive_to_ebcdic first; the other calls convert nothing.
  *
- * Answers. Each call answers 0 (FANTANOLIVE_DONE) when it was carried out, else the number of a refusal, 1 to 15.
+ * Answers. Each call answers 0 (FANTANOLIVE_DONE) when it was carried out, else the number of a refusal, 1 to 17.
  * A call answers the first refusal that holds, in the order that is given with it. On a refusal nothing at all is
- * written: no byte of any buffer, and no number of the result.
+ * written: no byte of any buffer, and no number of the result but the place that goes with refusal 16.
  *
  * Memory. The caller owns every buffer, before, during and after a call. The library allocates nothing, frees nothing
  * and keeps no pointer when a call returns. It reads no file and writes none.
@@ -94,6 +96,8 @@ extern "C" {
 #define FANTANOLIVE_WRONG_DATE 13     /* not a Gregorian date CCYYMMDD of 1900-9999 */
 #define FANTANOLIVE_UNSOUND_KEY 14    /* key not of twelve bytes, or not sound */
 #define FANTANOLIVE_NO_SUCH_ROW 15    /* no row with this key */
+#define FANTANOLIVE_NO_COUNTERPART 16 /* a byte without a counterpart */
+#define FANTANOLIVE_SHORT_FILE 17     /* output shorter than the input */
 
 /* A verdict is a number of 64 bits: the sum of 2 to the power c over the codes c that the detail got. Errors are the
  * codes 1 to 18, warnings 51 and 52; a verdict of 0 has none. A detail with an error is rejected and changes nothing.
@@ -200,6 +204,38 @@ uint64_t fantanolive_reconcile(
     const uint8_t *date, size_t date_length,
     uint8_t *out, size_t out_length,
     uint64_t *records);
+
+/* fantanolive_to_ebcdic: turns a file from ASCII into EBCDIC, byte by byte.
+ *
+ * The characters are the upper case letters, the digits, the space and - , . ( ) / & ' # (46), with their EBCDIC codes in
+ * code page 037. Every other byte, lower case letters and line ends among them, has no counterpart. Masters are not to be
+ * converted: column 195 of a row is a set and no character.
+ *
+ * in, in_length     The file. The length is in bytes; 0 for an empty file, which is converted.
+ * out, out_length   Where the converted file goes. The length is in bytes, at least in_length.
+ * place             Where the place of the first byte without a counterpart goes.
+ *
+ * Returns, in the order of checking:
+ *   16  FANTANOLIVE_NO_COUNTERPART  a byte of in has no counterpart; the whole of in is looked at before 17 is
+ *   17  FANTANOLIVE_SHORT_FILE      out_length below in_length
+ *   0   FANTANOLIVE_DONE            converted
+ *
+ * Written when converted: the first in_length bytes of out.
+ * Written with 16, and with 16 alone: *place, the place of the first such byte, the first byte of in being 0.
+ * Kept: the bytes of out behind the first in_length, all of out with 16 or 17; *place but with 16; in. */
+uint64_t fantanolive_to_ebcdic(
+    const uint8_t *in, size_t in_length,
+    uint8_t *out, size_t out_length,
+    uint64_t *place);
+
+/* fantanolive_to_ascii: turns a file from EBCDIC into ASCII, byte by byte.
+ *
+ * The same characters, the other way: arguments, answers and what is written are those of fantanolive_to_ebcdic. What
+ * either call has written, given to the other, is converted, and gives the first one's input back. */
+uint64_t fantanolive_to_ascii(
+    const uint8_t *in, size_t in_length,
+    uint8_t *out, size_t out_length,
+    uint64_t *place);
 
 #ifdef __cplusplus
 }

@@ -2,7 +2,7 @@
 use crate::parts::detail_count;
 use crate::parts::first;
 use batch::apply::Applied;
-use text::characters::is_within;
+use codepage::tables;
 use text::fields;
 ghost use mathlib.Core.Path.{_≡_};
 ghost use mathlib.Core.List.{_++_};
@@ -15,20 +15,12 @@ ghost use Rattle.apply_output.specs.Decimal.{decimal};
 ghost use Rattle.apply_output.specs.Line.{letters, countItems, doneLine, refusedLine, lineOf, Appended};
 ghost use Rattle.layout.specs.Batch.{submittingState};
 
-// The ASCII letter of an EBCDIC letter; a question mark for what is no letter.
+// The ASCII code of an EBCDIC byte; a question mark for one that has none.
 fn ascii_letter(b: u8) -> u8
     ensures { λ r. ⌜ r ≡ asciiLetter b ⌝ }
 {
-    if is_within(b, 0xC1, 0xC9) {
-        return b'A' + (b - 0xC1);
-    }
-    if is_within(b, 0xD1, 0xD9) {
-        return b'J' + (b - 0xD1);
-    }
-    if is_within(b, 0xE2, 0xE9) {
-        return b'S' + (b - 0xE2);
-    }
-    b'?'
+    let code = tables::ascii_code(b);
+    if code == 0 { b'?' } else { code }
 }
 
 // The state of the control record, which is the last; fewer bytes where a batch has no whole record.

@@ -1,13 +1,15 @@
 // EBCDIC columns shown, and the lines `ebcdic` of the output, which show texts both ways.
 use crate::lists;
 use crate::lists::Subject;
+use text::characters::COMMA;
 use text::characters::HYPHEN;
 use vector_text::ebcdic::to_ascii;
 use vector_text::print;
 
 // A column: a capital letter, a digit or a space, and a question mark for all else.
 fn column(b: u8) {
-    let shown = if b == HYPHEN { b'?' } else { to_ascii(b, b'?') };
+    let sign = (b == HYPHEN) | (b == COMMA);
+    let shown = if sign { b'?' } else { to_ascii(b, b'?') };
     let one = [shown];
     print::text(&one);
 }

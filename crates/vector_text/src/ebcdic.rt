@@ -1,36 +1,29 @@
 // EBCDIC and ASCII, so that what is tried and what is answered can be read.
+use codepage::tables;
 ghost use Prim.Native.Nat.{_≤_};
 ghost use Rattle.io.specs.Counts.{Counts};
 
-// The EBCDIC byte of an ASCII letter, digit, hyphen, comma or brace, and a space for all else.
+// The EBCDIC byte of an ASCII one by the code page; lower case letters and braces, which it leaves out and some vectors have, are added;
+// a space for all else.
 pub fn from_ascii(b: u8) -> u8 {
+    let code = tables::ebcdic_code(b);
+    if code != 0 {
+        return code;
+    }
     match b {
-        b'A'..=b'I' => 0xC1 + (b - b'A'),
-        b'J'..=b'R' => 0xD1 + (b - b'J'),
-        b'S'..=b'Z' => 0xE2 + (b - b'S'),
         b'a'..=b'i' => 0x81 + (b - b'a'),
         b'j'..=b'r' => 0x91 + (b - b'j'),
         b's'..=b'z' => 0xA2 + (b - b's'),
-        b'0'..=b'9' => 0xF0 + (b - b'0'),
-        b'-' => 0x60,
-        b',' => 0x6B,
         b'{' => 0xC0,
         b'}' => 0xD0,
         _ => 0x40,
     }
 }
 
-// The ASCII byte of an EBCDIC capital letter, digit, hyphen or space, and another for all else.
+// The ASCII byte of an EBCDIC one by the code page, and another where there is none.
 pub fn to_ascii(b: u8, other: u8) -> u8 {
-    match b {
-        0xC1..=0xC9 => b'A' + (b - 0xC1),
-        0xD1..=0xD9 => b'J' + (b - 0xD1),
-        0xE2..=0xE9 => b'S' + (b - 0xE2),
-        0xF0..=0xF9 => b'0' + (b - 0xF0),
-        0x60 => b'-',
-        0x40 => b' ',
-        _ => other,
-    }
+    let code = tables::ascii_code(b);
+    if code == 0 { other } else { code }
 }
 
 fn least(a: usize, b: usize) -> usize

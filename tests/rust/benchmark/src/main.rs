@@ -1,14 +1,17 @@
 //! Times of the library, the reference and the speed engine, each also as a multiple of one
-//! memcpy of 13,107,000 bytes measured in the same run. `--quick` leaves out what is predicted to
+//! memcpy of 13,107,000 bytes measured in the same run; converting as a multiple of one memcpy of
+//! the file. `--quick` leaves out what is predicted to
 //! take more than two seconds.
 
 mod clock;
+mod convert;
 mod input;
 
 use std::hint::black_box;
 use std::time::{Duration, Instant, SystemTime, UNIX_EPOCH};
 
 use clock::seconds;
+use convert::{converting, Conversions};
 use input::{adds, changes, falling, lookup, Input, MOST};
 
 const COPIED: usize = 13_107_000;
@@ -93,7 +96,8 @@ fn main() {
         doubled.push(bench.line(&changes(&format!("{count}"), count, count)));
     }
     let looked = [bench.finding(), bench.reconciling()];
-    print(&bench, &applied, &doubled, &looked);
+    let converted = converting(bench.repetitions);
+    print(&bench, &applied, &doubled, &looked, &converted);
 }
 
 fn median(times: &[f64]) -> f64 {
@@ -251,12 +255,22 @@ impl Bench {
     }
 }
 
-fn print(bench: &Bench, applied: &[Line], doubled: &[Line], looked: &[Line]) {
-    let copy = bench.copies.median();
-    let cell = |time: Option<f64>| match time {
+/// A time, and how many copies it is.
+fn cell(time: Option<f64>, copy: f64) -> String {
+    match time {
         Some(time) => format!("{:>9.2} ms {:>7.1}x", time * 1e3, time / copy),
         None => "left out".to_string(),
-    };
+    }
+}
+
+fn print(
+    bench: &Bench,
+    applied: &[Line],
+    doubled: &[Line],
+    looked: &[Line],
+    converted: &Conversions,
+) {
+    let copy = bench.copies.median();
     let copies = bench.copies.times.len();
     println!("machine: {}", machine());
     println!("date: {}", date());
@@ -275,7 +289,7 @@ fn print(bench: &Bench, applied: &[Line], doubled: &[Line], looked: &[Line]) {
             [Some(library), _, Some(speed)] => format!("{:.2}", library / speed),
             _ => String::new(),
         };
-        let [library, reference, speed] = line.times.map(cell);
+        let [library, reference, speed] = line.times.map(|time| cell(time, copy));
         println!(
             "{:<40}{library:>22}{reference:>22}{speed:>22}{ratio:>11}",
             line.name
@@ -310,9 +324,11 @@ fn print(bench: &Bench, applied: &[Line], doubled: &[Line], looked: &[Line]) {
     println!();
     println!("{:<40}{:>22}{:>22}", "65535 rows", "library", "reference");
     for line in looked {
-        let [library, reference, _] = line.times.map(cell);
+        let [library, reference, _] = line.times.map(|time| cell(time, copy));
         println!("{:<40}{library:>22}{reference:>22}", line.name);
     }
+    println!();
+    converted.print();
 }
 
 fn machine() -> String {

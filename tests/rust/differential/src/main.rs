@@ -12,7 +12,9 @@ use run::{account, codes, run, Outcome};
 
 /// The most failing cases whose seeds are printed.
 const SHOWN: u64 = 20;
-const CALLS: [&str; 3] = ["apply", "find", "reconcile"];
+const CALLS: [&str; 5] = ["apply", "find", "reconcile", "to_ebcdic", "to_ascii"];
+/// The refusals have the numbers 1 to 17.
+const ANSWERS: usize = 18;
 const CODES: [usize; 20] = [
     1, 2, 3, 4, 5, 6, 7, 8, 9, 10, 11, 12, 13, 14, 15, 16, 17, 18, 51, 52,
 ];
@@ -27,7 +29,7 @@ struct Options {
 #[derive(Default)]
 struct Seen {
     /// By call and by the number answered, 0 being carried out.
-    answers: [[u64; 16]; 3],
+    answers: [[u64; ANSWERS]; CALLS.len()],
     codes: Vec<u64>,
     details: u64,
     coded: u64,
@@ -45,7 +47,7 @@ struct Seen {
 
 impl Seen {
     fn note(&mut self, before: &Case, outcome: &Outcome) {
-        let number = (outcome.number as usize).min(15);
+        let number = (outcome.number as usize).min(ANSWERS - 1);
         if let Case::Apply(case) = before {
             let large = case.master.len() > 60_000 * 200 || case.batch.len() > 60_000 * 245;
             self.limits += u64::from(large);
@@ -101,15 +103,16 @@ impl Seen {
     }
 
     fn print(&self) {
-        println!("{:<14}{:>10}{:>10}{:>10}", "", CALLS[0], CALLS[1], CALLS[2]);
-        for number in 0..16 {
+        let names = CALLS.map(|call| format!("{call:>11}"));
+        println!("{:<14}{}", "", names.concat());
+        for number in 0..ANSWERS {
             let name = if number == 0 {
                 "carried out".to_string()
             } else {
                 format!("refusal {number}")
             };
-            let [apply, find, reconcile] = self.answers.map(|call| call[number]);
-            println!("{name:<14}{apply:>10}{find:>10}{reconcile:>10}");
+            let counts = self.answers.map(|call| format!("{:>11}", call[number]));
+            println!("{name:<14}{}", counts.concat());
         }
         let runs: u64 = self.answers[0].iter().sum();
         println!(
@@ -146,7 +149,7 @@ impl Seen {
     /// Refusals and codes that no case brought about.
     fn missing(&self) -> Vec<String> {
         let mut missing = Vec::new();
-        for number in 1..16 {
+        for number in 1..ANSWERS {
             if self.answers.iter().all(|call| call[number] == 0) {
                 missing.push(format!("refusal {number}"));
             }

@@ -1,7 +1,8 @@
 //! Runs one case on both sides and compares the number answered, the results and every byte lent.
 
 use generator::text::shown;
-use generator::{ApplyCase, Case, FindCase, ReconcileCase};
+use generator::{ApplyCase, Case, ConvertCase, Direction, FindCase, ReconcileCase};
+use reference::code_page::Refusal;
 
 /// Bytes on either side of each buffer lent to the library; none may change.
 const GUARD: usize = 64;
@@ -56,6 +57,7 @@ pub fn run(case: Case) -> Outcome {
         Case::Apply(case) => run_apply(case),
         Case::Find(case) => run_find(case),
         Case::Reconcile(case) => run_reconcile(case),
+        Case::Convert(case) => run_convert(case),
     }
 }
 
@@ -255,6 +257,43 @@ fn run_reconcile(before: ReconcileCase) -> Outcome {
     }
 }
 
+fn run_convert(before: ConvertCase) -> Outcome {
+    let mut case = before.clone();
+    let guard = 0xB7;
+    let mut input = Lent::new(&case.input, guard);
+    let mut out = Lent::new(&case.out, guard);
+    let mut place = case.place;
+    let (call, answer, converted) = match case.direction {
+        Direction::ToEbcdic => (
+            3,
+            library::to_ebcdic(input.slice(), out.slice(), &mut place),
+            reference::to_ebcdic(&case.input, &mut case.out),
+        ),
+        Direction::ToAscii => (
+            4,
+            library::to_ascii(input.slice(), out.slice(), &mut place),
+            reference::to_ascii(&case.input, &mut case.out),
+        ),
+    };
+    if let Err(Refusal::NoCounterpart(at)) = converted {
+        case.place = at;
+    }
+    let number = converted.map_or_else(Refusal::number, |()| 0);
+    let mut differences = Vec::new();
+    let found = &mut differences;
+    compare_number(found, "answer", answer, number);
+    compare_number(found, "place", place, case.place);
+    compare(found, "input", 1, input.back(guard), &case.input);
+    compare(found, "out", 1, out.back(guard), &case.out);
+    unchanged(found, number, &before.out, &case.out);
+    Outcome {
+        call,
+        number,
+        after: Case::Convert(case),
+        differences,
+    }
+}
+
 /// The codes of a verdict number.
 pub fn codes(verdict: u64) -> Vec<u32> {
     (0..64).filter(|code| verdict >> code & 1 == 1).collect()
@@ -281,6 +320,15 @@ pub fn account(before: &Case, outcome: &Outcome) {
             println!("  state `{}` {:02x?}", shown(&case.state), case.state);
             println!("  date `{}` {:02x?}", shown(&case.date), case.date);
             println!("  {} bytes of output", case.out.len());
+        }
+        (Case::Convert(case), _) => {
+            println!(
+                "convert: {:?}, {} bytes, {} bytes of output",
+                case.direction,
+                case.input.len(),
+                case.out.len()
+            );
+            println!("  input {:02x?}", case.input);
         }
         _ => {}
     }

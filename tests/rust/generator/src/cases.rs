@@ -1,8 +1,9 @@
-//! Cases for the three calls: mostly carried out, then damaged in the ways that the refusals name.
+//! Cases for the calls: mostly carried out, then damaged in the ways that the refusals name.
 
 use std::collections::BTreeSet;
 
 use crate::bulk;
+use crate::files::{convert_case, ConvertCase};
 use crate::records::{control, detail, totals, Record, RECORD};
 use crate::rng::Rng;
 use crate::rows::{rows, ROW};
@@ -44,6 +45,7 @@ pub enum Case {
     Apply(ApplyCase),
     Find(FindCase),
     Reconcile(ReconcileCase),
+    Convert(ConvertCase),
 }
 
 /// The case of a seed.
@@ -58,6 +60,7 @@ pub fn case(seed: u64) -> Case {
     match rng.below(10) {
         0 => Case::Find(find_case(&mut rng)),
         1 => Case::Reconcile(reconcile_case(&mut rng)),
+        2 => Case::Convert(convert_case(&mut rng)),
         _ => Case::Apply(apply_case(&mut rng)),
     }
 }

@@ -1,7 +1,8 @@
-//! Random cases for the three calls; the same seed gives the same case.
+//! Random cases for the calls; the same seed gives the same case.
 
 pub mod bulk;
 pub mod cases;
+pub mod files;
 pub mod records;
 pub mod rng;
 pub mod rows;
@@ -9,3 +10,4 @@ pub mod text;
 pub mod world;
 
 pub use cases::{apply_only, case, ApplyCase, Case, FindCase, ReconcileCase};
+pub use files::{ConvertCase, Direction};

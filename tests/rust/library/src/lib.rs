@@ -37,6 +37,20 @@ extern "C" {
         out_length: usize,
         records: *mut u64,
     ) -> u64;
+    fn fantanolive_to_ebcdic(
+        input: *const u8,
+        input_length: usize,
+        out: *mut u8,
+        out_length: usize,
+        place: *mut u64,
+    ) -> u64;
+    fn fantanolive_to_ascii(
+        input: *const u8,
+        input_length: usize,
+        out: *mut u8,
+        out_length: usize,
+        place: *mut u64,
+    ) -> u64;
 }
 
 /// Answers 0 when carried out, else the refusal's number.
@@ -108,6 +122,34 @@ pub fn reconcile(
             out.as_mut_ptr(),
             out.len(),
             records,
+        )
+    }
+}
+
+/// Answers 0 when carried out, else the refusal's number; the place is written with 16 alone.
+pub fn to_ebcdic(input: &[u8], out: &mut [u8], place: &mut u64) -> u64 {
+    // SAFETY: each pointer comes with the length of its slice.
+    unsafe {
+        fantanolive_to_ebcdic(
+            input.as_ptr(),
+            input.len(),
+            out.as_mut_ptr(),
+            out.len(),
+            place,
+        )
+    }
+}
+
+/// Answers 0 when carried out, else the refusal's number; the place is written with 16 alone.
+pub fn to_ascii(input: &[u8], out: &mut [u8], place: &mut u64) -> u64 {
+    // SAFETY: each pointer comes with the length of its slice.
+    unsafe {
+        fantanolive_to_ascii(
+            input.as_ptr(),
+            input.len(),
+            out.as_mut_ptr(),
+            out.len(),
+            place,
         )
     }
 }

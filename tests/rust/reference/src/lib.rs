@@ -1,7 +1,8 @@
-//! Document 01 written out rule by rule, in its order and words; simple before fast.
+//! Document 01 and item 1 of document 02 written out rule by rule, in their order and words; simple before fast.
 //! Nothing here panics: every length is looked at by a refusal before it is relied on.
 
 pub mod batch;
+pub mod code_page;
 pub mod errors;
 pub mod lookup;
 pub mod machine;
@@ -9,6 +10,7 @@ pub mod row;
 pub mod text;
 
 pub use batch::{apply, Counts};
+pub use code_page::{to_ascii, to_ebcdic};
 pub use lookup::{find, reconcile};
 
 #[cfg(test)]

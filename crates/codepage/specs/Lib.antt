@@ -1,0 +1,5 @@
+pub mod CodePage
+pub mod Tables
+pub mod Accepted
+pub mod Conversion
+pub mod ThereAndBack

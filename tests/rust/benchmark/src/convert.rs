@@ -1,0 +1,64 @@
+//! Converting 16 MB to EBCDIC and back, beside one memcpy of the file measured in turn with it.
+
+use std::hint::black_box;
+
+use generator::files::{accepted, Direction};
+use generator::rng::Rng;
+
+use crate::clock::seconds;
+use crate::{cell, median};
+
+const BYTES: usize = 16 * 1024 * 1024;
+
+/// Medians, in seconds.
+pub struct Conversions {
+    copy: f64,
+    /// By direction: the library, the reference.
+    times: [[f64; 2]; 2],
+}
+
+pub fn converting(repetitions: usize) -> Conversions {
+    let file = accepted(&mut Rng::new(1), Direction::ToEbcdic, BYTES);
+    let mut copy = vec![1; BYTES];
+    let (mut ebcdic, mut ascii) = (copy.clone(), copy.clone());
+    let (mut other, mut copies) = (copy.clone(), Vec::new());
+    let mut times: [[Vec<f64>; 2]; 2] = Default::default();
+    for _ in 0..repetitions {
+        let (mut place, mut answers) = (0, [1; 2]);
+        copies.push(seconds(|| {
+            black_box(&mut copy[..]).copy_from_slice(black_box(&file));
+        }));
+        times[0][0].push(seconds(|| {
+            answers[0] = library::to_ebcdic(black_box(&file), black_box(&mut ebcdic), &mut place);
+        }));
+        times[1][0].push(seconds(|| {
+            answers[1] = library::to_ascii(black_box(&ebcdic), black_box(&mut ascii), &mut place);
+        }));
+        assert_eq!(answers, [0; 2], "converting was refused");
+        assert!(ascii == file, "there and back differs");
+    }
+    // The reference is slow: once is enough.
+    let mut done = Ok(());
+    times[0][1].push(seconds(|| done = reference::to_ebcdic(&file, &mut other)));
+    assert!(done.is_ok() && other == ebcdic, "to_ebcdic differs");
+    times[1][1].push(seconds(|| done = reference::to_ascii(&ebcdic, &mut other)));
+    assert!(done.is_ok() && other == ascii, "to_ascii differs");
+    Conversions {
+        copy: median(&copies),
+        times: times.map(|engines| engines.map(|series| median(&series))),
+    }
+}
+
+impl Conversions {
+    pub fn print(&self) {
+        println!(
+            "one memcpy of {BYTES} bytes: {:.2} ms; below, x counts such copies",
+            self.copy * 1e3
+        );
+        println!("{:<40}{:>22}{:>22}", "16 MB", "library", "reference");
+        for (name, times) in ["to EBCDIC", "and back to ASCII"].iter().zip(self.times) {
+            let [library, reference] = times.map(|time| cell(Some(time), self.copy));
+            println!("{name:<40}{library:>22}{reference:>22}");
+        }
+    }
+}
