@@ -5,6 +5,7 @@ pub mod KeyLaws
 pub mod KeyWritten
 pub mod LimitsLaws
 pub mod LocalsLaws
+pub mod MonthLaws
 pub mod NameLaws
 pub mod RecordLaws
 pub mod StatesLaws

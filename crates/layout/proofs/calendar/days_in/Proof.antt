@@ -1,44 +1,65 @@
--- `calendar::days_in` meets its contract, by the arms of its match. Assumes nothing.
-use mathlib.Core.Logic.{inl, inr, _⊎_, ⊎-elim}
+-- `calendar::days_in`: for the twelve months its arithmetic gives the calendar's lengths, any other number has 31. Assumes nothing.
+use mathlib.Core.Logic.{inl, inr}
 use mathlib.Core.Path.{_≡_, sym, _∙_}
+use Prim.Native.Nat.{_≤_}
+use native.Mathlib.Omega.{arith}
 use borrow.Author.Needs.{needs}
-use borrow.Author.Tests.{ne-eqb}
-use Rattle.layout.specs.Calendar.{isShort, daysIn}
+use borrow.Author.Tests.{not-true, not-false}
+use Rattle.layout.proofs.MonthLaws.{month-length, month-bounds, no-month, length-common, length-leap}
 use Rattle.layout.proofs.calendar.days_in.Statement.{statement}
 use Rattle.layout.proofs.calendar.days_in.Tie as tie
+
+returns : tie.Need-returns
+returns c = no-month _ _ (not-true _ (c .if1 .taken))
+
+div-february : tie.Need-div-february
+div-february c = let b = month-bounds (c .before .args .month) (not-false _ (c .if1 .left)) in omega arith
+
+add-days : tie.Need-add-days
+add-days c = let b = month-bounds (c .before .args .month) (not-false _ (c .if1 .left)) in search needs
+
+add-days-2 : tie.Need-add-days-2
+add-days-2 c = search needs
+
+mul-days : tie.Need-mul-days
+mul-days c = search needs
+
+sub-days : tie.Need-sub-days
+sub-days c = search needs
+
+returns-2 : tie.Need-returns-2
+returns-2 c =
+    let b = month-bounds _ (not-false _ (c .before .if1 .left)) in
+    length-common _ _ (inl (c .if2 .taken)) ∙ month-length _ _ (b .0) (b .1)
 
 is-leap-requires : tie.Need-is-leap-requires
 is-leap-requires c κs = search needs
 
-returns : tie.Need-returns
-unfolding daysIn
-returns c = rw (c .before .before .match .keys1, sym (c .before .is-leap .ensures) ∙ c .if1 .taken)
-
-returns-2 : tie.Need-returns-2
-unfolding daysIn
-returns-2 c = rw (c .before .before .match .keys1, sym (c .before .is-leap .ensures) ∙ c .if1 .left)
+add-result : tie.Need-add-result
+add-result c = search needs
 
 returns-3 : tie.Need-returns-3
-unfolding daysIn isShort
 returns-3 c =
-    ⊎-elim
-    (λ (e : c .before .args .month ≡ 4). rw e)
-    (⊎-elim
-    (λ (e : c .before .args .month ≡ 6). rw e)
-    (⊎-elim (λ (e : c .before .args .month ≡ 9). rw e) (λ (e : c .before .args .month ≡ 11). rw e)))
-    (c .match .keys2)
+    let b = month-bounds _ (not-false _ (c .before .before .before .if1 .left)) in
+    length-leap _ _ (c .before .before .if2 .left) (sym (c .before .is-leap .ensures) ∙ c .if3 .taken) ∙ month-length _ _ (b .0) (b .1)
 
 returns-4 : tie.Need-returns-4
-unfolding daysIn isShort
 returns-4 c =
-    let no = c .match .rest .1 in
-    rw (
-      ne-eqb (c .before .args .month) 2 (c .match .rest .0 .1),
-      ne-eqb (c .before .args .month) 4 (λ e. no (inl e)),
-      ne-eqb (c .before .args .month) 6 (λ e. no (inr (inl e))),
-      ne-eqb (c .before .args .month) 9 (λ e. no (inr (inr (inl e)))),
-      ne-eqb (c .before .args .month) 11 (λ e. no (inr (inr (inr e)))),
-    )
+    let b = month-bounds _ (not-false _ (c .before .before .before .if1 .left)) in
+    length-common _ _ (inr (sym (c .before .is-leap .ensures) ∙ c .if3 .left)) ∙ month-length _ _ (b .0) (b .1)
 
 pub days-in-spec : {M : Type 1} → statement M
-days-in-spec = tie.close (tie.spec is-leap-requires returns returns-2 returns-3 returns-4)
+days-in-spec =
+    tie.close
+    (tie.spec
+    returns
+    div-february
+    add-days
+    add-days-2
+    mul-days
+    sub-days
+    returns-2
+    is-leap-requires
+    add-result
+    returns-3
+    returns-4)
