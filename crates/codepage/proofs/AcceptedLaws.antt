@@ -10,10 +10,11 @@ use lib.Dec.{eqb}
 use lib.ListN.{length, getD, drop, drop-of-length-le}
 use lib.Seq.{drop-cons}
 use borrow.Author.Tests.{eqb-true, eqb-false}
+use Rattle.text.proofs.FieldsLaws.{and-left, and-right}
 use Rattle.codepage.specs.Tables.{tableOf, codeIn}
-use Rattle.codepage.specs.Accepted.{hasCode, everyHasCode}
+use Rattle.codepage.specs.Accepted.{hasCounterpart, everyHasCounterpart}
 use Rattle.codepage.specs.Conversion.{placeBehind, placeWithout}
-use Rattle.codepage.proofs.TablesLaws.{and-left, and-right, Bytewise, table-says}
+use Rattle.codepage.proofs.TablesLaws.{Bytewise, table-says}
 
 -- ---- two tests of a byte
 
@@ -45,33 +46,33 @@ bytes-agree f g t b h = agree-eq (f b) (g b) (below (λ b. agree (f b) (g b)) 25
 -- ---- a file
 
 module _ (code : ℕ → Option ℕ) (s : List ℕ) (i : ℕ) where
-  every-step : i < length s → everyHasCode code (drop i s) ≡ (hasCode (code (getD s i 0)) && everyHasCode code (drop (i + 1) s))
-  unfolding everyHasCode
+  every-step : i < length s → everyHasCounterpart code (drop i s) ≡ (hasCounterpart (code (getD s i 0)) && everyHasCounterpart code (drop (i + 1) s))
+  unfolding everyHasCounterpart
   every-step h = rw (drop-cons s i 0 h, add-one i)
 
   -- the whole passes where what was read and the rest do: one byte more is read
-  pub every-next : (ok r : Bool) → i < length s → everyHasCode code s ≡ (ok && everyHasCode code (drop i s)) → r ≡ hasCode (code (getD s i 0))
-      → everyHasCode code s ≡ (ok && r && everyHasCode code (drop (i + 1) s))
-  every-next ok r h e is = rw is (e ∙ rw (every-step h) (sym (and-assoc ok (hasCode (code (getD s i 0))) (everyHasCode code (drop (i + 1) s)))))
+  pub every-next : (ok r : Bool) → i < length s → everyHasCounterpart code s ≡ (ok && everyHasCounterpart code (drop i s)) → r ≡ hasCounterpart (code (getD s i 0))
+      → everyHasCounterpart code s ≡ (ok && r && everyHasCounterpart code (drop (i + 1) s))
+  every-next ok r h e is = rw is (e ∙ rw (every-step h) (sym (and-assoc ok (hasCounterpart (code (getD s i 0))) (everyHasCounterpart code (drop (i + 1) s)))))
 
   -- all are read
-  pub every-end : (ok : Bool) → length s ≤ i → everyHasCode code s ≡ (ok && everyHasCode code (drop i s)) → ok ≡ everyHasCode code s
-  unfolding everyHasCode
+  pub every-end : (ok : Bool) → length s ≤ i → everyHasCounterpart code s ≡ (ok && everyHasCounterpart code (drop i s)) → ok ≡ everyHasCounterpart code s
+  unfolding everyHasCounterpart
   every-end ok h e = sym (e ∙ rw (drop-of-length-le s h) (and-true ok))
 
-no-place : (o q : Option ℕ) → hasCode o ≡ true → q ≡ none → placeBehind o q ≡ none
+no-place : (o q : Option ℕ) → hasCounterpart o ≡ true → q ≡ none → placeBehind o q ≡ none
 no-place none q t e = cc
 no-place (some c) q t e = rw e
 
-pub every-passes : (code : ℕ → Option ℕ) (s : List ℕ) → everyHasCode code s ≡ true → placeWithout code s ≡ none
-unfolding everyHasCode placeWithout
+pub every-passes : (code : ℕ → Option ℕ) (s : List ℕ) → everyHasCounterpart code s ≡ true → placeWithout code s ≡ none
+unfolding everyHasCounterpart placeWithout
 every-passes code [] t = refl
 every-passes code (b ∷ bs) t =
-    no-place (code b) (placeWithout code bs) (and-left (hasCode (code b)) (everyHasCode code bs) t)
-    (every-passes code bs (and-right (hasCode (code b)) (everyHasCode code bs) t))
+    no-place (code b) (placeWithout code bs) (and-left (hasCounterpart (code b)) (everyHasCounterpart code bs) t)
+    (every-passes code bs (and-right (hasCounterpart (code b)) (everyHasCounterpart code bs) t))
 
 -- by the table too
-pub passes-by-table : (code : ℕ → Option ℕ) → Bytewise code → (table s : List ℕ) (passed : Bool) → passed ≡ everyHasCode code s
+pub passes-by-table : (code : ℕ → Option ℕ) → Bytewise code → (table s : List ℕ) (passed : Bool) → passed ≡ everyHasCounterpart code s
     → table ≡ tableOf code → passed ≡ true → placeWithout (codeIn table) s ≡ none
 passes-by-table code w table s passed e t c =
     let f : codeIn table ≡ code = ap codeIn t ∙ fun-ext (table-says code w) in

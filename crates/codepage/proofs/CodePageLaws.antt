@@ -8,10 +8,11 @@ use native.Mathlib.Omega.{arith}
 use lib.Dec.{eqb, ltb}
 use lib.ListN.{getD}
 use borrow.Author.Tests.{eqb-true, ltb-true, ne-eqb}
+use Rattle.text.proofs.FieldsLaws.{and-left, and-right}
 use Rattle.codepage.specs.CodePage.{Character, characters, codeAmong, ebcdicOf, asciiOf}
 use Rattle.codepage.specs.Tables.{entriesFrom, tableOf, codeIn, Undoes, InverseTables}
 use Rattle.codepage.specs.Conversion.{ConversionOutcome, conversionOutcome}
-use Rattle.codepage.proofs.TablesLaws.{and-left, and-right, everyFrom, each, length-table, code-some, IsCode, Bytewise, entry-said, table-says}
+use Rattle.codepage.proofs.TablesLaws.{everyFrom, each, length-table, code-some, IsCode, Bytewise, entry-said, table-says}
 
 -- ---- a code that the list gives is a character's
 

@@ -9,17 +9,10 @@ use native.Mathlib.Omega.{arith}
 use lib.Dec.{eqb, ltb}
 use lib.ListN.{length, getD, List·getD-eq-default}
 use borrow.Author.Tests.{ltb-true, ltb-false, ne-eqb}
+use Rattle.text.proofs.FieldsLaws.{and-left, and-right}
 use Rattle.codepage.specs.Tables.{entryOf, entriesFrom, tableOf, codeIn, entriesOf}
 
 -- ---- one test of all entries
-
-pub and-left : (a b : Bool) → (a && b) ≡ true → a ≡ true
-and-left true b t = refl
-and-left false b t = t
-
-pub and-right : (a b : Bool) → (a && b) ≡ true → b ≡ true
-and-right true b t = t
-and-right false b t = cc
 
 -- the test passes at each entry and its place, counted from i
 abbrev pub everyFrom : (ℕ → ℕ → Bool) → ℕ → List ℕ → Bool

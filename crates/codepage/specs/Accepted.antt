@@ -5,10 +5,10 @@ use mathlib.Core.List.{List, [], _∷_}
 use mathlib.Core.Bool.{Bool, true, false, _&&_}
 use mathlib.Core.Option.{Option, none, some}
 
-abbrev pub hasCode : Option ℕ → Bool
-hasCode none = false
-hasCode (some c) = true
+abbrev pub hasCounterpart : Option ℕ → Bool
+hasCounterpart none = false
+hasCounterpart (some c) = true
 
-unfoldable pub everyHasCode : (ℕ → Option ℕ) → List ℕ → Bool
-everyHasCode code [] = true
-everyHasCode code (b ∷ bs) = hasCode (code b) && everyHasCode code bs
+unfoldable pub everyHasCounterpart : (ℕ → Option ℕ) → List ℕ → Bool
+everyHasCounterpart code [] = true
+everyHasCounterpart code (b ∷ bs) = hasCounterpart (code b) && everyHasCounterpart code bs

@@ -23,11 +23,11 @@ unfoldable pub tableOf : (ℕ → Option ℕ) → List ℕ
 tableOf code = entriesFrom code 0 256
 
 -- what an entry says, and what a table says of a byte
-abbrev pub codeOf : ℕ → Option ℕ
-codeOf entry = cond (eqb entry 0) none (some entry)
+abbrev pub codeBy : ℕ → Option ℕ
+codeBy entry = cond (eqb entry 0) none (some entry)
 
 unfoldable pub codeIn : List ℕ → ℕ → Option ℕ
-codeIn table b = codeOf (getD table b 0)
+codeIn table b = codeBy (getD table b 0)
 
 -- the entries of the bytes, in their order
 unfoldable pub entriesOf : List ℕ → List ℕ → List ℕ

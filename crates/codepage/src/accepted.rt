@@ -2,11 +2,11 @@
 // several bytes at a time, as look-ups in a table can't.
 ghost use mathlib.Core.Path.{_≡_};
 ghost use Rattle.codepage.specs.CodePage.{ebcdicOf, asciiOf};
-ghost use Rattle.codepage.specs.Accepted.{hasCode, everyHasCode};
+ghost use Rattle.codepage.specs.Accepted.{hasCounterpart, everyHasCounterpart};
 
 // Whether an ASCII byte has a counterpart: space, #, & to ), comma to 9, A to Z.
 fn has_ebcdic(b: u8) -> bool
-    ensures { λ r. ⌜ r ≡ hasCode (ebcdicOf b) ⌝ }
+    ensures { λ r. ⌜ r ≡ hasCounterpart (ebcdicOf b) ⌝ }
 {
     (b == 0x20)
         | (b == 0x23)
@@ -17,7 +17,7 @@ fn has_ebcdic(b: u8) -> bool
 
 // Whether an EBCDIC byte has a counterpart: space and the nine signs, then A to I, J to R, S to Z and 0 to 9.
 fn has_ascii(b: u8) -> bool
-    ensures { λ r. ⌜ r ≡ hasCode (asciiOf b) ⌝ }
+    ensures { λ r. ⌜ r ≡ hasCounterpart (asciiOf b) ⌝ }
 {
     (b == 0x40)
         | (b == 0x4B)
@@ -36,7 +36,7 @@ fn has_ascii(b: u8) -> bool
 
 // Whether every byte of an ASCII file has a counterpart.
 pub fn all_have_ebcdic(input: &[u8]) -> bool
-    ensures { λ r. ⌜ r ≡ everyHasCode ebcdicOf (now (input .entry)) ⌝ }
+    ensures { λ r. ⌜ r ≡ everyHasCounterpart ebcdicOf (now (input .entry)) ⌝ }
 {
     let mut ok = true;
     let mut i = 0;
@@ -49,7 +49,7 @@ pub fn all_have_ebcdic(input: &[u8]) -> bool
 
 // Whether every byte of an EBCDIC file has a counterpart.
 pub fn all_have_ascii(input: &[u8]) -> bool
-    ensures { λ r. ⌜ r ≡ everyHasCode asciiOf (now (input .entry)) ⌝ }
+    ensures { λ r. ⌜ r ≡ everyHasCounterpart asciiOf (now (input .entry)) ⌝ }
 {
     let mut ok = true;
     let mut i = 0;

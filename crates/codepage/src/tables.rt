@@ -1,7 +1,7 @@
 // The code page as two tables of 256 entries, one for each byte: its counterpart, or 0 where there is none. No character has the code 0.
 ghost use mathlib.Core.Path.{_≡_};
 ghost use Rattle.codepage.specs.CodePage.{ebcdicOf, asciiOf};
-ghost use Rattle.codepage.specs.Tables.{tableOf, codeOf};
+ghost use Rattle.codepage.specs.Tables.{tableOf, codeBy};
 
 // The EBCDIC code of each ASCII byte.
 const TO_EBCDIC: [u8; 256] = [
@@ -571,7 +571,7 @@ pub fn ascii_table() -> [u8; 256]
 
 // The EBCDIC code of an ASCII byte, or 0 where there is none.
 pub fn ebcdic_code(b: u8) -> u8
-    ensures { λ r. ⌜ codeOf r ≡ ebcdicOf b ⌝ }
+    ensures { λ r. ⌜ codeBy r ≡ ebcdicOf b ⌝ }
 {
     let table = ebcdic_table();
     table[b as usize]
@@ -579,7 +579,7 @@ pub fn ebcdic_code(b: u8) -> u8
 
 // The ASCII code of an EBCDIC byte, or 0 where there is none.
 pub fn ascii_code(b: u8) -> u8
-    ensures { λ r. ⌜ codeOf r ≡ asciiOf b ⌝ }
+    ensures { λ r. ⌜ codeBy r ≡ asciiOf b ⌝ }
 {
     let table = ascii_table();
     table[b as usize]

@@ -5,13 +5,13 @@ use Prim.Native.Nat.{_-_, _≤_}
 use lib.ListN.{length, drop}
 use borrow.Author.Needs.{needs}
 use Rattle.codepage.specs.CodePage.{asciiOf}
-use Rattle.codepage.specs.Accepted.{everyHasCode}
+use Rattle.codepage.specs.Accepted.{everyHasCounterpart}
 use Rattle.codepage.proofs.AcceptedLaws.{every-next, every-end}
 use Rattle.codepage.proofs.accepted.all_have_ascii.Statement.{statement}
 use Rattle.codepage.proofs.accepted.all_have_ascii.Tie as tie
 
 abbrev Inv-loop : tie.InvT-loop
-Inv-loop input ok₀ i₀ ok i = (i ≤ length input) × (everyHasCode asciiOf input ≡ (ok && everyHasCode asciiOf (drop i input)))
+Inv-loop input ok₀ i₀ ok i = (i ≤ length input) × (everyHasCounterpart asciiOf input ≡ (ok && everyHasCounterpart asciiOf (drop i input)))
 
 abbrev μ-loop : tie.MeasureT-loop
 μ-loop input ok₀ i₀ ok i = length input - i

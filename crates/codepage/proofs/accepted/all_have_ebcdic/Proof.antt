@@ -5,13 +5,13 @@ use Prim.Native.Nat.{_-_, _≤_}
 use lib.ListN.{length, drop}
 use borrow.Author.Needs.{needs}
 use Rattle.codepage.specs.CodePage.{ebcdicOf}
-use Rattle.codepage.specs.Accepted.{everyHasCode}
+use Rattle.codepage.specs.Accepted.{everyHasCounterpart}
 use Rattle.codepage.proofs.AcceptedLaws.{every-next, every-end}
 use Rattle.codepage.proofs.accepted.all_have_ebcdic.Statement.{statement}
 use Rattle.codepage.proofs.accepted.all_have_ebcdic.Tie as tie
 
 abbrev Inv-loop : tie.InvT-loop
-Inv-loop input ok₀ i₀ ok i = (i ≤ length input) × (everyHasCode ebcdicOf input ≡ (ok && everyHasCode ebcdicOf (drop i input)))
+Inv-loop input ok₀ i₀ ok i = (i ≤ length input) × (everyHasCounterpart ebcdicOf input ≡ (ok && everyHasCounterpart ebcdicOf (drop i input)))
 
 abbrev μ-loop : tie.MeasureT-loop
 μ-loop input ok₀ i₀ ok i = length input - i

@@ -6,7 +6,7 @@ use mathlib.Core.Bool.{Bool, _&&_, _||_}
 use native.Mathlib.Omega.{arith}
 use lib.Dec.{eqb, leb}
 use Rattle.codepage.specs.CodePage.{characters, codeAmong, asciiOf}
-use Rattle.codepage.specs.Accepted.{hasCode}
+use Rattle.codepage.specs.Accepted.{hasCounterpart}
 use Rattle.codepage.proofs.AcceptedLaws.{bytes-agree}
 use Rattle.codepage.proofs.accepted.has_ascii.Statement.{statement}
 use Rattle.codepage.proofs.accepted.has_ascii.Tie as tie
@@ -18,7 +18,7 @@ ranges b =
 
 returns : tie.Need-returns
 unfolding characters codeAmong asciiOf
-returns c = bytes-agree ranges (λ b. hasCode (asciiOf b)) refl (c .args .b) (omega arith)
+returns c = bytes-agree ranges (λ b. hasCounterpart (asciiOf b)) refl (c .args .b) (omega arith)
 
 pub has-ascii-spec : {M : Type 1} → statement M
 has-ascii-spec = tie.close (tie.spec returns)

@@ -6,7 +6,7 @@ use mathlib.Core.Bool.{Bool, _&&_, _||_}
 use native.Mathlib.Omega.{arith}
 use lib.Dec.{eqb, leb}
 use Rattle.codepage.specs.CodePage.{characters, codeAmong, ebcdicOf}
-use Rattle.codepage.specs.Accepted.{hasCode}
+use Rattle.codepage.specs.Accepted.{hasCounterpart}
 use Rattle.codepage.proofs.AcceptedLaws.{bytes-agree}
 use Rattle.codepage.proofs.accepted.has_ebcdic.Statement.{statement}
 use Rattle.codepage.proofs.accepted.has_ebcdic.Tie as tie
@@ -17,7 +17,7 @@ ranges b =
 
 returns : tie.Need-returns
 unfolding characters codeAmong ebcdicOf
-returns c = bytes-agree ranges (λ b. hasCode (ebcdicOf b)) refl (c .args .b) (omega arith)
+returns c = bytes-agree ranges (λ b. hasCounterpart (ebcdicOf b)) refl (c .args .b) (omega arith)
 
 pub has-ebcdic-spec : {M : Type 1} → statement M
 has-ebcdic-spec = tie.close (tie.spec returns)
