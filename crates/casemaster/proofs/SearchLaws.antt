@@ -14,7 +14,7 @@ use Rattle.casemaster.specs.Rows.{rowWith, placeWith, withRow, oneMore}
 use Rattle.text.proofs.FieldsLaws.{and-left, and-right}
 use Rattle.text.proofs.SameLaws.{same-eq, eq-same}
 use Rattle.text.specs.ByteOrder.{less, greater, orderOf, isLess, isEqual, belowFirst, rising}
-use Rattle.text.proofs.ByteOrderLaws.{Sides, below, level, above, sides, less-sides, same-order, order-refl, rising-head, rising-tail}
+use Rattle.text.proofs.ByteOrderLaws.{Sides, below, level, above, sides, less-sides, same-order, rising-head, rising-tail, block-below, block-level, block-above}
 
 -- ---- a row with a key, and its place
 
@@ -79,15 +79,15 @@ row-key key rows r e = let p = row-place key rows r e in rw (p .2) at (place-ins
 module _ (new row : List ℕ) (rows : List (List ℕ)) where
   pub with-below : orderOf (rowKey new) (rowKey row) ≡ less → withRow new (row ∷ rows) ≡ new ∷ row ∷ rows
   unfolding withRow
-  with-below h = rw h
+  with-below h = block-below 12 new row rows h
 
   pub with-level : rowKey new ≡ rowKey row → withRow new (row ∷ rows) ≡ new ∷ rows
   unfolding withRow
-  with-level e = rw (e, order-refl (rowKey row))
+  with-level e = block-level 12 new row rows e
 
   pub with-above : orderOf (rowKey new) (rowKey row) ≡ greater → withRow new (row ∷ rows) ≡ row ∷ withRow new rows
   unfolding withRow
-  with-above h = rw h
+  with-above h = block-above 12 new row rows h
 
 -- ---- rows in rising order
 

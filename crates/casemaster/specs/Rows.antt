@@ -5,7 +5,7 @@ use mathlib.Core.Bool.{cond}
 use mathlib.Core.Option.{Option, none, some}
 use Rattle.text.specs.Fields.{sameBytes}
 use Rattle.casemaster.specs.Row.{rowKey}
-use Rattle.text.specs.ByteOrder.{Order, less, equal, greater, orderOf}
+use Rattle.text.specs.ByteOrder.{withBlock}
 
 -- the row with a key, deleted or not, else none
 unfoldable pub rowWith : List ℕ → List (List ℕ) → Option (List ℕ)
@@ -22,16 +22,9 @@ unfoldable pub placeWith : List ℕ → List (List ℕ) → Option ℕ
 placeWith key [] = none
 placeWith key (row ∷ rows) = cond (sameBytes (rowKey row) key) (some zero) (oneMore (placeWith key rows))
 
--- one of three, by the order of two keys
-abbrev pub byOrder : Order → List (List ℕ) → List (List ℕ) → List (List ℕ) → List (List ℕ)
-byOrder less below here above = below
-byOrder equal below here above = here
-byOrder greater below here above = above
-
 -- a row in its place: for the row with its key, or before the first row with a higher key
 unfoldable pub withRow : List ℕ → List (List ℕ) → List (List ℕ)
-withRow new [] = new ∷ []
-withRow new (row ∷ rows) = byOrder (orderOf (rowKey new) (rowKey row)) (new ∷ row ∷ rows) (new ∷ rows) (row ∷ withRow new rows)
+withRow new rows = withBlock 12 new rows
 
 -- what a step returned, put back
 abbrev pub withStored : Option (List ℕ) → List (List ℕ) → List (List ℕ)

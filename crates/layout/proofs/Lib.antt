@@ -9,3 +9,4 @@ pub mod MonthLaws
 pub mod NameLaws
 pub mod RecordLaws
 pub mod StatesLaws
+pub mod StatePlaceLaws

@@ -119,7 +119,7 @@ module _ (s : List ℕ) (t : isPair s ≡ true) where
   pair-length : length s ≡ 2
   pair-length = eqb-true (length s) 2 (and-left _ (ltb (getD s 1 0) 256) t)
 
-  pair-low : getD s 1 0 < 256
+  pub pair-low : getD s 1 0 < 256
   pair-low = ltb-true _ 256 (and-right (eqb (length s) 2) _ t)
 
 -- two pairs are the same bytes where they are the same number
@@ -164,7 +164,7 @@ pub states-rising : risingNumbers stateCodes ≡ true
 unfolding stateCodes stateTable
 states-rising = refl
 
-states-pairs : arePairs stateTable ≡ true
+pub states-pairs : arePairs stateTable ≡ true
 unfolding stateTable
 states-pairs = refl
 

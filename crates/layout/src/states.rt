@@ -1,9 +1,10 @@
 // The state table and membership in it.
 use text::fields;
 ghost use mathlib.Core.Path.{_≡_};
-ghost use mathlib.Core.Bool.{true};
+ghost use mathlib.Core.Bool.{true, cond};
+ghost use Prim.Native.Nat.{_≤_, _<_};
 ghost use Rattle.layout.specs.States.{stateTable, isState};
-ghost use Rattle.layout.specs.StateCodes.{codeOf, isStateCode};
+ghost use Rattle.layout.specs.StateCodes.{codeOf, stateCodes, isStateCode, countBelow, statePlace};
 
 // The codes of the state table in EBCDIC, rising.
 const STATES: [[u8; 2]; 54] = [
@@ -118,4 +119,34 @@ pub fn is_state_after(before: &[u8], s: &[u8]) -> bool
         return true;
     }
     is_state(s)
+}
+
+// One where it holds, else nothing.
+fn one_if(holds: bool) -> usize
+    ensures { λ r. ⌜ (r ≡ cond holds 1 0) × (r ≤ 1) ⌝ }
+{
+    if holds { 1 } else { 0 }
+}
+
+// How many states' numbers are below x.
+fn count_below(x: u16) -> usize
+    ensures { λ r. ⌜ r ≡ countBelow x stateCodes ⌝ }
+{
+    let table = states();
+    let mut n: usize = 0;
+    let mut i: usize = 0;
+    while i < 54 {
+        let y = code_of(table[i]);
+        n += one_if(y < x);
+        i += 1;
+    }
+    n
+}
+
+// The place of a state in the table, the first being 0.
+pub fn place_of(s: &[u8]) -> usize
+    requires { ⌜ isState (now s) ≡ true ⌝ }
+    ensures { λ r. ⌜ (r ≡ statePlace (now (s .entry))) × (r < 54) ⌝ }
+{
+    count_below((s[0] as u16) * 256 + (s[1] as u16))
 }

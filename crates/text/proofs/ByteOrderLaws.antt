@@ -1,4 +1,4 @@
--- Laws of byte order, and of keys that rise in it. Assumes nothing.
+-- Laws of byte order, of keys that rise in it, and of a block put in its place. Assumes nothing.
 use mathlib.Core.Path.{_≡_, refl, sym, ap, _∙_}
 use mathlib.Core.Logic.{_⊎_, inl, inr}
 use mathlib.Core.Bool.{Bool, true, false, false≢true}
@@ -13,7 +13,7 @@ use lib.Seq.{drop-cons, take-take, take-nil}
 use borrow.Author.Tests.{lt-ltb, le-ltb, ltb-true, ltb-false, eq-eqb, ne-eqb}
 use Rattle.text.specs.Blocks.{blocks}
 use Rattle.text.specs.Fields.{sameBytes}
-use Rattle.text.specs.ByteOrder.{less, equal, greater, orderOf, isLess, isEqual, belowFirst, rising}
+use Rattle.text.specs.ByteOrder.{less, equal, greater, orderOf, isLess, isEqual, belowFirst, rising, withBlock}
 use Rattle.text.proofs.BlocksLaws.{blocks-get, length-blocks}
 use Rattle.text.proofs.FieldsLaws.{and-left, and-right}
 
@@ -281,3 +281,15 @@ module _ (k w n : ℕ) (m : List ℕ) (kw : k ≤ w) where
   pass-stop b (suc j) h l e t =
       let s : suc j - 1 ≡ j = omega arith in
       rw s (rising-stop (map (take k) (blocks w n m)) j (rw (length-keys k w n m) l) (neighbours b j l e ∙ t))
+
+-- ---- a block put in its place, by its order against the first
+
+module _ (k : ℕ) (new block : List ℕ) (behind : List (List ℕ)) where
+  pub block-below : orderOf (take k new) (take k block) ≡ less → withBlock k new (block ∷ behind) ≡ new ∷ block ∷ behind
+  block-below h = rw h
+
+  pub block-level : take k new ≡ take k block → withBlock k new (block ∷ behind) ≡ new ∷ behind
+  block-level e = rw (e, order-refl (take k block))
+
+  pub block-above : orderOf (take k new) (take k block) ≡ greater → withBlock k new (block ∷ behind) ≡ block ∷ withBlock k new behind
+  block-above h = rw h

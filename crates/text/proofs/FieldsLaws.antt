@@ -54,7 +54,7 @@ every-take f zero s t = refl
 every-take f (suc n) [] t = refl
 every-take f (suc n) (b ∷ bs) t = rw (and-left (f b) (every f bs) t) (every-take f n bs (and-right (f b) (every f bs) t))
 
-pub every-drop : (f : ℕ → Bool) (n : ℕ) (s : List ℕ) → every f s ≡ true → every f (drop n s) ≡ true
+pub every-drop : {X : Type 0} (f : X → Bool) (n : ℕ) (s : List X) → every f s ≡ true → every f (drop n s) ≡ true
 every-drop f zero s t = t
 every-drop f (suc n) [] t = refl
 every-drop f (suc n) (b ∷ bs) t = every-drop f n bs (and-right (f b) (every f bs) t)

@@ -4,7 +4,7 @@ use mathlib.Core.List.{List, [], _∷_, _++_, append-assoc, append-nil}
 use Prim.Native.Nat.{ℕ, zero, suc, _+_, _-_, _≤_}
 use native.Mathlib.Nat.{suc-add, zero-add}
 use native.Mathlib.Omega.{arith}
-use lib.ListN.{length, take, drop, length-append, length-take, length-drop, drop-of-length-le}
+use lib.ListN.{length, take, drop, length-append, length-take, length-drop, drop-of-length-le, take-append-drop}
 use lib.Seq.{paste, length-take-le, take-length, take-at, drop-at, take-nil, drop-drop}
 use Rattle.text.specs.Blocks.{spliced}
 
@@ -43,6 +43,11 @@ module _ (d : List ℕ) (at : ℕ) (s : List ℕ) where
       ∙ ap (drop m) (drop-at p q (at + length s) lp)
       ∙ drop-drop m (at + length s) d
       ∙ ap (λ (z : ℕ). drop z d) (sym em)
+
+-- nothing spliced in
+pub spliced-none : (d : List ℕ) (at : ℕ) → d ≡ spliced d at []
+unfolding spliced
+spliced-none d at = let z : at + 0 ≡ at = omega arith in rw z (sym (take-append-drop at d))
 
 -- a part copied out whole, over all of d
 pub cut-out : (d m : List ℕ) (a e w : ℕ) → e ≡ a + w → e ≤ length m → length d ≡ w

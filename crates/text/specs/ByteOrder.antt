@@ -1,8 +1,10 @@
--- Document 01, "A case's row": byte order, in which keys rise strictly. Assumes nothing.
+-- Document 01, "A case's row": byte order, in which keys rise strictly, and a block put in its place by the key at its front.
+-- Assumes nothing.
 use Prim.Native.Nat.{ℕ}
 use mathlib.Core.List.{List, [], _∷_}
 use mathlib.Core.Bool.{Bool, true, false, cond, _&&_}
 use lib.Dec.{ltb}
+use lib.ListN.{take}
 use Rattle.text.specs.declared.byte_order.Order.{Order as OrderAnswer}
 use Rattle.text.specs.declared.byte_order.Order.the-variants.{Less, Equal, Greater}
 
@@ -44,3 +46,16 @@ belowFirst key (k ∷ ks) = isLess (orderOf key k)
 unfoldable pub rising : List (List ℕ) → Bool
 rising [] = true
 rising (k ∷ ks) = belowFirst k ks && rising ks
+
+-- one of three, by the order of two keys
+abbrev pub byOrder : Order → List (List ℕ) → List (List ℕ) → List (List ℕ) → List (List ℕ)
+byOrder less below here above = below
+byOrder equal below here above = here
+byOrder greater below here above = above
+
+-- a block in its place among blocks, the first k bytes of each being its key: for the block with its key, or before the first block with a
+-- higher key
+abbrev pub withBlock : ℕ → List ℕ → List (List ℕ) → List (List ℕ)
+withBlock k new [] = new ∷ []
+withBlock k new (block ∷ behind) =
+    byOrder (orderOf (take k new) (take k block)) (new ∷ block ∷ behind) (new ∷ behind) (block ∷ withBlock k new behind)
