@@ -65,7 +65,7 @@ fn change_and(name: &[u8], change_first: bool, last_name: &[u8]) {
     }
 }
 
-// A new name counts for the details behind it alone.
+// A new name counts wherever its B stands; the old one no more behind it.
 pub fn names() {
     change_and(b"B to SMYTH, then M of SMYTH", true, b"SMYTH");
     change_and(b"M of SMYTH, then B to SMYTH", false, b"SMYTH");

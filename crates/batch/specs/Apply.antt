@@ -14,7 +14,7 @@ use Rattle.reporting.specs.Counts.{Counts, countsOf, controlRecord}
 use Rattle.batch.specs.declared.apply.Applied.{Applied}
 use Rattle.batch.specs.declared.apply.Applied.the-variants.{Done, Refused}
 use Rattle.layout.specs.Batch.{detailsOf, submittingState}
-use Rattle.batch.specs.Call.{Call, callSetting}
+use Rattle.batch.specs.Call.{Call, callSettings}
 use Rattle.batch.specs.Refusals.{applyRefusal}
 
 -- the result: a refusal's number, or accepted, rejected and warned (each over both case types), neither and rows
@@ -56,11 +56,11 @@ outcomeWith state rows details verdicts counts c =
 
 -- the verdicts on the details of a call, in batch order
 abbrev pub callVerdicts : Call → List Judgement
-callVerdicts c = verdictsOn (callSetting c) (rowsOf (c .rows) (c .master)) (detailsOf (c .batch))
+callVerdicts c = verdictsOn (callSettings c) (rowsOf (c .rows) (c .master)) (detailsOf (c .batch))
 
 -- the rows after them
 abbrev pub callRows : Call → List (List ℕ)
-callRows c = finalRows (callSetting c) (rowsOf (c .rows) (c .master)) (detailsOf (c .batch))
+callRows c = finalRows (callSettings c) (rowsOf (c .rows) (c .master)) (detailsOf (c .batch))
 
 unfoldable pub carriedOut : Call → Outcome
 carriedOut c =

@@ -1,8 +1,8 @@
 -- Document 01, "Applying a batch": all that is lent to the call. Assumes nothing.
 use Prim.Native.Nat.{ℕ}
 use mathlib.Core.List.{List}
-use Rattle.layout.specs.Batch.{submittingState}
-use Rattle.judging.specs.Setting.{Setting, settingOf}
+use Rattle.layout.specs.Batch.{detailsOf, submittingState}
+use Rattle.turns.specs.Settings.{Settings, settingsOf}
 
 -- all that is lent to a call
 pub record Call : Type 0 where
@@ -27,6 +27,6 @@ callOf master rows batch locals year verdicts rejects =
       rejects = rejects;
     }
 
--- the setting of its judgements: the control record's state, the year and the list
-abbrev pub callSetting : Call → Setting
-callSetting c = settingOf (submittingState (c .batch)) (c .year) (c .locals)
+-- what its judgements go by: the control record's state, the year, the list, and under each key the names that its details give
+abbrev pub callSettings : Call → Settings
+callSettings c = settingsOf (submittingState (c .batch)) (c .year) (c .locals) (detailsOf (c .batch))

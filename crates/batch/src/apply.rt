@@ -6,6 +6,7 @@ use keyorder::order;
 use keywalk::walk;
 use layout::chart_a2;
 use layout::records;
+use namemarks::marks;
 use reporting::counts;
 use reporting::verdicts;
 use reporting::verdicts::Progress;
@@ -52,6 +53,7 @@ fn work(
 {
     let d = batch.len() / 245 - 1;
     let own = order::order_details(batch, d, state, verdicts);
+    marks::mark_names(batch, state, verdicts, own);
     let new = walk::new_rows(m, n, batch, verdicts, own, state, year, list);
     let rows = n + new;
     master::shift_rows(m, n, new);

@@ -29,6 +29,7 @@ use Rattle.turns.proofs.TurnsLaws.{found-wide, after-wide}
 use Rattle.turns.proofs.UnderLaws.{IsRecord}
 use Rattle.casemaster.proofs.RowsLaws.{Each, IsWide}
 use Rattle.judging.specs.Setting.{Setting}
+use Rattle.turns.specs.Settings.{Settings, settingUnder}
 
 -- ---- a verdict that can be read again
 
@@ -79,13 +80,13 @@ AllShown [] (v ∷ vs) = ⊥
 AllShown (d ∷ ds) [] = ⊥
 AllShown (d ∷ ds) (v ∷ vs) = Shown d v × AllShown ds vs
 
-module _ (setting : Setting) where
-  pub all-shown : (rows details : List (List ℕ)) → All IsRecord details → All IsWide rows → AllShown details (verdictsOn setting rows details)
+module _ (settings : Settings) where
+  pub all-shown : (rows details : List (List ℕ)) → All IsRecord details → All IsWide rows → AllShown details (verdictsOn settings rows details)
   unfolding verdictsOn verdictOn
   all-shown rows [] a w = tt
   all-shown rows (d ∷ details) a w = (
-    shown setting (rowWith (recordKey d) rows) d (found-wide (recordKey d) rows w) (a .0),
-    all-shown (afterDetail setting rows d) details (a .1) (after-wide setting rows d (a .0) w),
+    shown (settingUnder settings (recordKey d)) (rowWith (recordKey d) rows) d (found-wide (recordKey d) rows w) (a .0),
+    all-shown (afterDetail settings rows d) details (a .1) (after-wide settings rows d (a .0) w),
   )
 
 -- ---- there and back

@@ -20,7 +20,7 @@ use Rattle.batch.proofs.KnownLaws.{Known, carried-known, carried-is}
 use Rattle.effects.proofs.OutcomeLaws.{all-shown, read-over, rows-over}
 use Rattle.turns.specs.Under.{detailsUnder, verdictsUnder, runRow, IsKey}
 use Rattle.layout.specs.Batch.{detailCount, detailsOf, submittingState}
-use Rattle.batch.specs.Call.{Call, callSetting}
+use Rattle.batch.specs.Call.{Call, callSettings}
 use Rattle.text.specs.ByteOrder.{rising}
 
 -- ---- one call that is carried out
@@ -40,7 +40,7 @@ module _ (c : Call) (o : Outcome) (i : IsOutcome c o) (t : isCarriedOut (o .resu
   records = blocks-wide 245 (detailCount (c .batch)) (c .batch) (omega (arith, facts .batch-whole))
 
   end-fit : Fit (callRows c)
-  end-fit = final-fit (callSetting c) (facts .list) (startRows c) (detailsOf (c .batch)) records start-fit
+  end-fit = final-fit (callSettings c) (facts .list) (startRows c) (detailsOf (c .batch)) records start-fit
 
   -- ---- what is read off its outcome
 
@@ -58,8 +58,8 @@ module _ (c : Call) (o : Outcome) (i : IsOutcome c o) (t : isCarriedOut (o .resu
       ap (verdictsLeft c) (carried-is c o i t)
       ∙ read-over (detailsOf (c .batch)) (callVerdicts c) (detailCount (c .batch))
       (controlRecord (submittingState (c .batch)) (countsOf (detailsOf (c .batch)) (callVerdicts c))) (c .verdicts) (c .rejects)
-      (all-shown (callSetting c) (startRows c) (detailsOf (c .batch)) records (start-fit .wide))
-      (length-verdicts (callSetting c) (startRows c) (detailsOf (c .batch))
+      (all-shown (callSettings c) (startRows c) (detailsOf (c .batch)) records (start-fit .wide))
+      (length-verdicts (callSettings c) (startRows c) (detailsOf (c .batch))
       ∙ length-blocks 245 (detailCount (c .batch)) (c .batch))
 
   -- ---- it is the machine's, under any bytes as key
@@ -68,13 +68,13 @@ module _ (c : Call) (o : Outcome) (i : IsOutcome c o) (t : isCarriedOut (o .resu
   unfolding machineRow
   row-by-machine key =
       ap (rowWith key) rows-read
-      ∙ found-final (callSetting c) key (startRows c) (detailsOf (c .batch)) records (start-fit .wide)
+      ∙ found-final (callSettings c) key (startRows c) (detailsOf (c .batch)) records (start-fit .wide)
 
   verdicts-by-machine : (key : List ℕ) → verdictsUnder key (detailsOf (c .batch)) (verdictsLeft c o) ≡ machineVerdicts key c
   unfolding machineVerdicts
   verdicts-by-machine key =
       ap (verdictsUnder key (detailsOf (c .batch))) verdicts-read
-      ∙ under-verdicts (callSetting c) key (startRows c) (detailsOf (c .batch)) records (start-fit .wide)
+      ∙ under-verdicts (callSettings c) key (startRows c) (detailsOf (c .batch)) records (start-fit .wide)
 
   left-by-machine : LeftByMachine c o
   left-by-machine = record { row = λ key k. row-by-machine key; verdicts = λ key k. verdicts-by-machine key }

@@ -1,5 +1,5 @@
 -- Demand 3: two batches carried out from the same master are equal in effect exactly when the one-case machine agrees under every key.
--- The notions are those of document 01, "For demand 3". Assumes nothing.
+-- The notions are those of document 01, "For demand 3"; the machine is that of document 02, item 3. Assumes nothing.
 use Prim.Native.Nat.{ℕ}
 use mathlib.Core.Path.{_≡_}
 use mathlib.Core.Logic.{_↔_}
@@ -15,8 +15,10 @@ use Rattle.onecase.specs.Verdict.{Judgement, hasCode}
 use Rattle.casemaster.specs.Rows.{rowWith}
 use Rattle.batch.specs.Apply.{Outcome, IsOutcome, isCarriedOut, rowCount}
 use Rattle.turns.specs.Under.{detailsUnder, verdictsUnder, runRow, runVerdicts, IsKey}
+use Rattle.judging.specs.Setting.{Setting}
+use Rattle.turns.specs.Settings.{settingUnder}
 use Rattle.layout.specs.Batch.{detailCount, detailsOf, submittingState}
-use Rattle.batch.specs.Call.{Call, callSetting}
+use Rattle.batch.specs.Call.{Call, callSettings}
 
 -- ---- read off the outcome
 
@@ -47,14 +49,18 @@ rowsLeft o = rowsOf (rowCount (o .result)) (o .master)
 abbrev pub startingRow : List ℕ → Call → Option (List ℕ)
 startingRow key c = rowWith key (rowsOf (c .rows) (c .master))
 
+-- beside each record it reads the state, the year, the list and the names that the key's own details in that batch give
+abbrev pub machineSetting : List ℕ → Call → Setting
+machineSetting key c = settingUnder (callSettings c) key
+
 -- the machine starts there and takes the details of that key alone, in batch order, rejected ones included
 unfoldable pub machineRow : List ℕ → Call → Option (List ℕ)
 machineRow key c =
-    runRow (callSetting c) (startingRow key c) (detailsUnder key (detailsOf (c .batch)))
+    runRow (machineSetting key c) (startingRow key c) (detailsUnder key (detailsOf (c .batch)))
 
 unfoldable pub machineVerdicts : List ℕ → Call → List Judgement
 machineVerdicts key c =
-    runVerdicts (callSetting c) (startingRow key c) (detailsUnder key (detailsOf (c .batch)))
+    runVerdicts (machineSetting key c) (startingRow key c) (detailsUnder key (detailsOf (c .batch)))
 
 -- ---- the claim
 

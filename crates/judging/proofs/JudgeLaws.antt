@@ -17,7 +17,7 @@ use Rattle.judging.specs.Setting.{Setting}
 module _ (setting : Setting) (row : Option (List ℕ)) (rec : List ℕ) where
   -- ---- the parts
 
-  module _ (f : FirstErrors) (b : LastErrors) (i : IsFirst (setting .state) rec f) (j : IsLast f row rec b) where
+  module _ (f : FirstErrors) (b : LastErrors) (i : IsFirst (setting .state) rec f) (j : IsLast f (setting .names) row rec b) where
     pub missing-is : b .missing ≡ judged09 setting row rec
     unfolding judged09 isWrongKey
     missing-is =
@@ -31,7 +31,7 @@ module _ (setting : Setting) (row : Option (List ℕ)) (rec : List ℕ) where
         j .has17
         ∙ rw (i .has01, i .has02, i .has03, i .has04, i .has05)
         (and-assoc (not (error03 rec)) (not (error01 (setting .state) rec || error02 rec || error04 rec))
-        (not (error05 rec) && (not (error09 row rec) && error17 row rec)))
+        (not (error05 rec) && (not (error09 row rec) && error17 (setting .names) row rec)))
 
     pub judged-set : (m n o p q : ℕ)
         → m ≡ numberOfCodes (firstCodes f)

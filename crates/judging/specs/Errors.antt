@@ -1,4 +1,4 @@
--- Document 01, "A record's errors": the codes 01 to 18, each as printed, and which are judged together.
+-- Document 01, "A record's errors": the codes 01 to 18, each as printed, and which are judged together; 17 as document 02, item 3, has it.
 -- The row is the one with the record's key, or none. Assumes nothing.
 use Prim.Native.Nat.{ℕ}
 use mathlib.Core.List.{List, [], _∷_, _++_}
@@ -6,7 +6,7 @@ use mathlib.Core.Bool.{Bool, true, false, not, cond, _&&_, _||_}
 use mathlib.Core.Option.{Option, none, some}
 use lib.Dec.{ltb}
 use Rattle.text.specs.Characters.{isLetter, zeroDigit, A, B, C, L, M, R, S, T, Z}
-use Rattle.text.specs.Fields.{columns, isBlank, areDigits, number, sameBytes}
+use Rattle.text.specs.Fields.{columns, isBlank, areDigits, number, sameBytes, isOneOf}
 use Rattle.layout.specs.States.{isState}
 use Rattle.layout.specs.Ssn.{wrongSsn}
 use Rattle.layout.specs.Name.{isName, hasLetter}
@@ -117,9 +117,13 @@ unfoldable pub isOtherName : Option (List ℕ) → List ℕ → Bool
 isOtherName none rec = false
 isOtherName (some row) rec = not (sameBytes (columns 30 33 rec) (columns 31 34 row))
 
--- 17 (all but A, B): 30–33 differ from the stored 31–34
-unfoldable pub error17 : Option (List ℕ) → List ℕ → Bool
-error17 row rec = not (isType A rec || isType B rec) && isOtherName row rec
+-- columns 30–33 are one of the names that B records of the key give
+unfoldable pub isGiven : List (List ℕ) → List ℕ → Bool
+isGiven names rec = isOneOf (columns 30 33 rec) names
+
+-- 17 (all but A, B): 30–33 may match the stored name or one that a B record of the key gives; all differ
+unfoldable pub error17 : List (List ℕ) → Option (List ℕ) → List ℕ → Bool
+error17 names row rec = not (isType A rec || isType B rec) && (isOtherName row rec && not (isGiven names rec))
 
 -- 18: 228–244 not spaces
 unfoldable pub error18 : List ℕ → Bool
@@ -141,7 +145,7 @@ judged09 setting row rec = ifKnown rec (not (isWrongKey setting rec) && error09 
 -- 17 isn't judged where 05 or 09 holds
 unfoldable pub judged17 : Setting → Option (List ℕ) → List ℕ → Bool
 judged17 setting row rec =
-    ifKnown rec (not (isWrongKey setting rec) && (not (error05 rec) && (not (error09 row rec) && error17 row rec)))
+    ifKnown rec (not (isWrongKey setting rec) && (not (error05 rec) && (not (error09 row rec) && error17 (setting .names) row rec)))
 
 -- a code where it holds
 abbrev pub code : ℕ → Bool → List ℕ

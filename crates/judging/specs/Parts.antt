@@ -6,11 +6,15 @@ use mathlib.Core.List.{List, _++_}
 use mathlib.Core.Bool.{Bool, not, _&&_, _||_}
 use mathlib.Core.Option.{Option}
 use Rattle.layout.specs.Codes.{numberOfCodes}
-use Rattle.judging.specs.Errors.{error01, error02, error03, error04, error05, error06, error07, error08, error09, error10, error11, error12, error13, error14, error15, error16, error17, error18, judged17, code, errors}
+use Rattle.judging.specs.Errors.{error01, error02, error03, error04, error05, error06, error07, error08, error09, error10, error11, error12, error13, error14, error15, error16, isGiven, error17, error18, judged17, code, errors}
 use Rattle.judging.specs.Setting.{Setting}
 use Rattle.judging.specs.declared.judge.FirstErrors.{FirstErrors}
 use Rattle.judging.specs.declared.judge.LastErrors.{LastErrors}
 use Rattle.judging.specs.declared.judge.Judged.{Judged}
+
+-- it holds under every set of names that has the record's own exactly where it is given
+abbrev pub UnderNames : Bool → List ℕ → (List (List ℕ) → Type 0) → Type 0
+UnderNames given rec holds = (names : List (List ℕ)) → given ≡ isGiven names rec → holds names
 
 -- errors 01 to 05
 pub record IsFirst (state rec : List ℕ) (f : FirstErrors) : Type 0 where
@@ -21,10 +25,10 @@ pub record IsFirst (state rec : List ℕ) (f : FirstErrors) : Type 0 where
   pub has05 : f .name ≡ error05 rec
 
 -- errors 09, 17 and 18; 09 and 17 depend on 01 to 05
-pub record IsLast (f : FirstErrors) (row : Option (List ℕ)) (rec : List ℕ) (b : LastErrors) : Type 0 where
+pub record IsLast (f : FirstErrors) (names : List (List ℕ)) (row : Option (List ℕ)) (rec : List ℕ) (b : LastErrors) : Type 0 where
   pub has09 : b .missing ≡ (not (f .kind) && not (f .state || f .ssn || f .«case_type») && error09 row rec)
   pub has17 : b .named
-      ≡ (not (f .kind) && not (f .state || f .ssn || f .«case_type») && (not (f .name) && (not (error09 row rec) && error17 row rec)))
+      ≡ (not (f .kind) && not (f .state || f .ssn || f .«case_type») && (not (f .name) && (not (error09 row rec) && error17 names row rec)))
   pub has18 : b .filler ≡ error18 rec
 
 -- the codes of each part

@@ -21,6 +21,7 @@ ghost use Rattle.text.specs.Fields.{columns};
 ghost use Rattle.layout.specs.Exclusions.{exclusionsOf};
 ghost use Rattle.layout.specs.Record.{isType};
 ghost use Rattle.judging.specs.Errors.{error01, error02, error03, error04, error05, error06, error07, error08, error09, isLocalCode, error10, error11, error12, error13, error14, wrongAddress, wrongPart, error15, isNone, error16, error17, error18};
+ghost use Rattle.judging.specs.Parts.{UnderNames};
 ghost use Rattle.judging.specs.State.{rowIf};
 
 // Error 01: state not in the table, or not the control record's.
@@ -237,16 +238,16 @@ pub fn has_16(rec: &[u8; 245]) -> bool
     }
 }
 
-// Error 17 (all but A, B): the name is not the stored one.
-pub fn has_17(rec: &[u8; 245], held: bool, row: &[u8; 200]) -> bool
-    ensures { λ r. ⌜ r ≡ error17 (rowIf held (now (row .entry))) (now (rec .entry)) ⌝ }
+// Error 17 (all but A, B): the name is not the stored one, and not `given` by a B record of the key.
+pub fn has_17(rec: &[u8; 245], held: bool, row: &[u8; 200], given: bool) -> bool
+    ensures { λ r. ⌜ UnderNames given (now (rec .entry)) (λ names. r ≡ error17 names (rowIf held (now (row .entry))) (now (rec .entry))) ⌝ }
 {
     let t = rec[72];
     let same = fields::same(
         fields::field(rec, chart_a1::NAME_FRONT),
         fields::field(row, row::NAME_FRONT),
     );
-    !((t == record::ADD) | (t == record::RENAME)) & (held & !same)
+    !((t == record::ADD) | (t == record::RENAME)) & (held & !same & !given)
 }
 
 // Error 18: the filler.

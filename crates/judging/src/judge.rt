@@ -4,7 +4,7 @@ ghost use mathlib.Core.Path.{_≡_};
 ghost use Prim.Native.Nat.{_≤_, _<_, _^_};
 ghost use Rattle.layout.specs.Codes.{numberOfCodes};
 ghost use Rattle.judging.specs.Errors.{code};
-ghost use Rattle.judging.specs.Parts.{IsFirst, IsLast, IsJudged, firstCodes, codes06to08, codes10to13, codes14to16, lastCodes};
+ghost use Rattle.judging.specs.Parts.{UnderNames, IsFirst, IsLast, IsJudged, firstCodes, codes06to08, codes10to13, codes14to16, lastCodes};
 ghost use Rattle.judging.specs.State.{rowIf};
 ghost use Rattle.judging.specs.Setting.{settingOf};
 
@@ -84,12 +84,18 @@ pub struct LastErrors {
     pub filler: bool,
 }
 
-fn judge_last(f: FirstErrors, rec: &[u8; 245], held: bool, row: &[u8; 200]) -> LastErrors
-    ensures { λ r. ⌜ IsLast f (rowIf held (now (row .entry))) (now (rec .entry)) r ⌝ }
+fn judge_last(
+    f: FirstErrors,
+    rec: &[u8; 245],
+    held: bool,
+    row: &[u8; 200],
+    given: bool,
+) -> LastErrors
+    ensures { λ r. ⌜ UnderNames given (now (rec .entry)) (λ names. IsLast f names (rowIf held (now (row .entry))) (now (rec .entry)) r) ⌝ }
 {
     let judged = !f.kind & !(f.state | f.ssn | f.case_type);
     let missing = errors::has_09(rec, held, row);
-    let other = errors::has_17(rec, held, row);
+    let other = errors::has_17(rec, held, row, given);
     LastErrors {
         missing: judged & missing,
         named: judged & (!f.name & (!missing & other)),
@@ -104,19 +110,21 @@ fn set_last(b: LastErrors) -> u64
     flag(b.missing, 9) + (flag(b.named, 17) + flag(b.filler, 18))
 }
 
-// The set of a record's errors.
+// The set of a record's errors, under every set of names that has the record's own exactly where it is `given`.
 pub fn judge(
     rec: &[u8; 245],
     held: bool,
     row: &[u8; 200],
+    given: bool,
     state: &[u8],
     year: u64,
     list: &[u8],
 ) -> Judged
-    ensures { λ r. ⌜ IsJudged (settingOf (now (state .entry)) year (now (list .entry))) (rowIf held (now (row .entry))) (now (rec .entry)) r ⌝ }
+    ensures { λ r. ⌜ UnderNames given (now (rec .entry)) (λ names.
+        IsJudged (settingOf (now (state .entry)) year (now (list .entry)) names) (rowIf held (now (row .entry))) (now (rec .entry)) r) ⌝ }
 {
     let f = judge_first(rec, state);
-    let b = judge_last(f, rec, held, row);
+    let b = judge_last(f, rec, held, row, given);
     let known = !f.kind;
     let set = set_first(f)
         + set_06_to_08(rec, known)

@@ -1,4 +1,5 @@
 // A record's errors and warnings, and the set of all that hold.
 pub mod errors;
 pub mod judge;
+pub mod names;
 pub mod warnings;

@@ -3,7 +3,7 @@
 use Prim.Native.Nat.{ℕ, zero, suc, _+_, _-_, _*_, _/_, _%_, _^_, _≤_, _<_}
 use mathlib.Core.Path.{_≡_, refl, sym, ap, _∙_, subst}
 use mathlib.Core.Logic.{_⊎_, inl, inr, ⊎-elim}
-use mathlib.Core.Bool.{Bool, true, false, cond, _||_, or-false}
+use mathlib.Core.Bool.{Bool, true, false, cond, _||_, or-false, false≢true}
 use mathlib.Core.List.{List, [], _∷_}
 use mathlib.Core.Option.{Option, some}
 use native.Mathlib.Nat.{add-zero, div-one, div-div-eq-div-mul, pow-suc, pow-succ', pow-le-pow-right, le-of-suc-le-suc, not-suc-le-zero, zero-lt-suc}
@@ -66,10 +66,18 @@ pub record HighAlone (n : ℕ) : Type 0 where
   pub low : n % 2 ^ 19 ≡ 0
   pub high : n / 2 ^ 43 * 2 ^ 43 ≡ n
 
--- a set of errors stands in its low part
+-- a set of errors stands in its low part, from bit 1 on
 pub record LowAlone (n : ℕ) : Type 0 where
   pub some-code : 0 < n
   pub low : n < 2 ^ 19
+  pub even : n % 2 ≡ 0
+
+-- codes from 1 on leave bit 0 free
+even-codes : (cs : List ℕ) → every (leb 1) cs ≡ true → numberOfCodes cs % 2 ≡ 0
+even-codes [] t = refl
+even-codes (zero ∷ cs) t = absurd (false≢true (and-left (leb 1 0) (every (leb 1) cs) t))
+even-codes (suc c ∷ cs) t =
+    omega (arith, pow-suc 2 c, even-codes cs (and-right (leb 1 (suc c)) (every (leb 1) cs) t))
 
 -- the bit of a code from 43 on
 high-bit : (d : ℕ) → (k : ℕ) × (2 ^ (d + 43) ≡ k * 2 ^ 43)
@@ -228,7 +236,7 @@ module _ (row : Option (List ℕ)) (j : Judgement) (h : Judged row j) where
   low-of : isRejected j ≡ true → LowAlone (setNumber j)
   low-of t =
       let r = errors-room 0 (j .codes) (h .rises) (h .errors t) (lit≤ tt) in
-      record { some-code = pos (setNumber j) refl; low = omega arith }
+      record { some-code = pos (setNumber j) refl; low = omega arith; even = even-codes (j .codes) (h .positive) }
     where
       pos : (n : ℕ) → setNumber j ≡ n → 0 < n
       pos zero z = absurd (rejected-some j t (number-none (j .codes) z))

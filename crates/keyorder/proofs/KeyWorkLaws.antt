@@ -1,6 +1,6 @@
--- Laws of the details of one key worked through the machine: the numbers keep their indexes, and one more detail goes on at the end.
+-- Laws of the details of one key worked through the machine: the numbers keep their indexes and marks, and one more detail goes on at the end.
 -- Assumes nothing.
-use Prim.Native.Nat.{ℕ, zero, suc, _+_, _-_, _*_, _^_, _≤_, _<_}
+use Prim.Native.Nat.{ℕ, zero, suc, _+_, _-_, _*_, _%_, _^_, _≤_, _<_}
 use mathlib.Core.Path.{_≡_, refl, sym, ap, _∙_, subst}
 use mathlib.Core.Bool.{Bool, true, false, _||_, or-true}
 use mathlib.Core.List.{List, [], _∷_}
@@ -9,38 +9,58 @@ use native.Mathlib.Omega.{arith}
 use borrow.Author.Count.{below-more}
 use lib.ListN.{length, getD, set, length-set}
 use Rattle.layout.specs.Record.{recordKey}
-use Rattle.onecase.specs.Verdict.{Judgement, judgement}
-use Rattle.onecase.specs.Machine.{next}
-use Rattle.keyorder.specs.Order.{indexIn}
+use Rattle.onecase.specs.Verdict.{Judgement, judgement, meaning}
+use Rattle.onecase.specs.Machine.{next, rowOf, IsStep}
+use Rattle.onecase.specs.declared.case.Step.{Step}
+use Rattle.keyorder.specs.Order.{indexIn, isMarked}
 use Rattle.keyorder.specs.Packed.{Packed}
-use Rattle.keyorder.specs.KeyWork.{recordIn, Usable, Marked, KeyRun, JudgedRun, makesRow}
-use Rattle.keyorder.proofs.PackedLaws.{index-alone}
+use Rattle.keyorder.specs.KeyWork.{recordIn, Usable, SameSlots, MarkedBy, Noted, DetailWorked, KeyRun, JudgedRun, makesRow}
 use Rattle.judging.specs.State.{isHeld}
+use Rattle.judging.specs.Errors.{isGiven}
+use Rattle.judging.specs.Parts.{UnderNames}
+use Rattle.judging.proofs.NamesLaws.{some-names}
 use Rattle.layout.specs.Batch.{recordAt}
-use Rattle.judging.specs.Setting.{Setting}
+use Rattle.judging.specs.Setting.{Setting, settingOf}
+use Rattle.onecase.proofs.JudgementLaws.{alone-judged}
 
--- ---- numbers with the same indexes
+-- ---- numbers with the same indexes and marks
 
-set-index : (l : List ℕ) (i x : ℕ) → indexIn x ≡ indexIn (getD l i 0) → (q : ℕ) → indexIn (getD (set l i x) q 0) ≡ indexIn (getD l q 0)
-set-index [] i x e q = refl
-set-index (y ∷ l) zero x e zero = e
-set-index (y ∷ l) zero x e (suc q) = refl
-set-index (y ∷ l) (suc i) x e zero = refl
-set-index (y ∷ l) (suc i) x e (suc q) = set-index l i x e q
+-- what is read of each number stays where it is read of the one written
+set-view : {X : Type 0} (f : ℕ → X) (l : List ℕ) (i x : ℕ) → f x ≡ f (getD l i 0) → (q : ℕ) → f (getD (set l i x) q 0) ≡ f (getD l q 0)
+set-view f [] i x e q = refl
+set-view f (y ∷ l) zero x e zero = e
+set-view f (y ∷ l) zero x e (suc q) = refl
+set-view f (y ∷ l) (suc i) x e zero = refl
+set-view f (y ∷ l) (suc i) x e (suc q) = set-view f l i x e q
+
+pub slots-self : (numbers : List ℕ) → SameSlots numbers numbers
+slots-self numbers = record { len = refl; indexes = λ q. refl; marks = λ q. refl }
+
+pub slots-then : {a b c : List ℕ} → SameSlots a b → SameSlots b c → SameSlots a c
+slots-then s t =
+    record {
+      len = t .len ∙ s .len;
+      indexes = λ q. t .indexes q ∙ s .indexes q;
+      marks = λ q. t .marks q ∙ s .marks q;
+    }
 
 pub record-same : (batch numbers numbers′ : List ℕ) (q : ℕ) → indexIn (getD numbers′ q 0) ≡ indexIn (getD numbers q 0)
     → recordIn batch numbers′ q ≡ recordIn batch numbers q
 record-same batch numbers numbers′ q e = ap (recordAt batch) e
 
+-- a mark says later what it said before
+pub marked-now : (names : List (List ℕ)) (batch numbers numbers′ : List ℕ) (p e : ℕ) → SameSlots numbers numbers′ → MarkedBy names batch numbers p e
+    → MarkedBy names batch numbers′ p e
+marked-now names batch numbers numbers′ p e s m q l h =
+    s .marks q ∙ m q l h ∙ ap (isGiven names) (sym (record-same batch numbers numbers′ q (s .indexes q)))
+
 module _ (batch numbers : List ℕ) (e : ℕ) (u : Usable batch numbers e) where
-  pub usable-same : (numbers′ : List ℕ) → length numbers′ ≡ length numbers
-      → ((q : ℕ) → indexIn (getD numbers′ q 0) ≡ indexIn (getD numbers q 0))
-      → Usable batch numbers′ e
-  usable-same numbers′ w s =
+  pub usable-same : (numbers′ : List ℕ) → SameSlots numbers numbers′ → Usable batch numbers′ e
+  usable-same numbers′ s =
       record {
-        within = omega (arith, u .within);
-        numbered = λ q l. rw (s q, w) (u .numbered q l);
-        recorded = λ q l. rw (s q) (u .recorded q l);
+        within = omega (arith, u .within, s .len);
+        numbered = λ q l. rw (s .indexes q, s .len) (u .numbered q l);
+        recorded = λ q l. rw (s .indexes q) (u .recorded q l);
       }
 
   -- what the work on the detail at a position asks for
@@ -64,70 +84,52 @@ module _ (batch numbers : List ℕ) (p : ℕ) where
 module _ (setting : Setting) (batch : List ℕ) where
   -- ---- one detail
 
-  -- the step on a record that is the one here
-  pub next-here : (row row′ : Option (List ℕ)) (rec here : List ℕ) → row′ ≡ next setting row rec → rec ≡ here
-      → row′ ≡ next setting row here
-  next-here row row′ rec here n r = n ∙ ap (next setting row) r
-
-  -- a verdict put beside its detail's index
-  pub marked-of : (p : ℕ) (row : Option (List ℕ)) (numbers : List ℕ) (i index number : ℕ) (rec : List ℕ) (j : Judgement)
+  -- a step on the record here, and its verdict put beside the index and the mark of the detail's own number
+  pub worked-of : (p : ℕ) (row row′ : Option (List ℕ)) (numbers : List ℕ) (i slot number : ℕ) (rec : List ℕ) (j : Judgement)
       → i ≡ indexIn (getD numbers p 0)
       → rec ≡ recordIn batch numbers p
-      → index ≡ indexIn (getD numbers i 0)
-      → index < 2 ^ 24
+      → indexIn slot ≡ indexIn (getD numbers i 0)
+      → isMarked slot ≡ isMarked (getD numbers i 0)
+      → row′ ≡ next setting row rec
       → j ≡ judgement setting row rec
-      → Packed number (indexIn (index * 2 ^ 19)) j
-      → Marked setting batch p row numbers (set numbers i number)
-  marked-of p row numbers i index number rec j e r x l v k =
+      → Packed number (indexIn slot) j
+      → isMarked number ≡ isMarked slot
+      → DetailWorked setting batch p row row′ numbers (set numbers i number)
+  worked-of p row row′ numbers i slot number rec j e r x m n v k h =
       record {
-        number = number;
-        set-is = ap (λ (z : ℕ). set numbers z number) e;
-        packed =
-            subst (λ (z : ℕ). Packed number z (judgement setting row (recordIn batch numbers p)))
-            (index-alone index l ∙ x ∙ ap (λ (z : ℕ). indexIn (getD numbers z 0)) e)
-            (subst (Packed number (indexIn (index * 2 ^ 19))) (v ∙ ap (judgement setting row) r) k);
+        row-is = n ∙ ap (next setting row) r;
+        noted =
+            record {
+              number = number;
+              set-is = ap (λ (z : ℕ). set numbers z number) e;
+              packed =
+                  subst (λ (z : ℕ). Packed number z (judgement setting row (recordIn batch numbers p)))
+                  (x ∙ ap (λ (z : ℕ). indexIn (getD numbers z 0)) e)
+                  (subst (Packed number (indexIn slot)) (v ∙ ap (judgement setting row) r) k);
+              mark-kept = h ∙ m ∙ ap (λ (z : ℕ). isMarked (getD numbers z 0)) e;
+            };
       }
 
-  module _ (p : ℕ) (row : Option (List ℕ)) (numbers numbers′ : List ℕ) (m : Marked setting batch p row numbers numbers′) where
-    pub marked-length : length numbers′ ≡ length numbers
-    marked-length = ap length (m .set-is) ∙ length-set numbers _ (m .number)
-
-    pub marked-index : (q : ℕ) → indexIn (getD numbers′ q 0) ≡ indexIn (getD numbers q 0)
-    marked-index q =
-        ap (λ (z : List ℕ). indexIn (getD z q 0)) (m .set-is)
-        ∙ set-index numbers (indexIn (getD numbers p 0)) (m .number) (m .packed .index-is) q
-
-    pub marked-record : (q : ℕ) → recordIn batch numbers′ q ≡ recordIn batch numbers q
-    marked-record q = record-same batch numbers numbers′ q (marked-index q)
-
-    pub marked-usable : (e : ℕ) → Usable batch numbers e → Usable batch numbers′ e
-    marked-usable e u = usable-same batch numbers e u numbers′ marked-length marked-index
+  pub noted-slots : (p : ℕ) (row : Option (List ℕ)) (numbers numbers′ : List ℕ) → Noted setting batch p row numbers numbers′
+      → SameSlots numbers numbers′
+  noted-slots p row numbers numbers′ m =
+      record {
+        len = ap length (m .set-is) ∙ length-set numbers _ (m .number);
+        indexes = λ q.
+            ap (λ (z : List ℕ). indexIn (getD z q 0)) (m .set-is)
+            ∙ set-view indexIn numbers (indexIn (getD numbers p 0)) (m .number) (m .packed .index-is) q;
+        marks = λ q.
+            ap (λ (z : List ℕ). isMarked (getD z q 0)) (m .set-is)
+            ∙ set-view isMarked numbers (indexIn (getD numbers p 0)) (m .number) (m .mark-kept) q;
+      }
 
   -- ---- the details of one key
 
-  pub run-length : (p n : ℕ) (row : Option (List ℕ)) (numbers : List ℕ) (row′ : Option (List ℕ)) (numbers′ : List ℕ)
-      → KeyRun setting batch p n row numbers row′ numbers′ → length numbers′ ≡ length numbers
-  run-length p zero row numbers row′ numbers′ k = ap length (k .1)
-  run-length p (suc n) row numbers row′ numbers′ k =
-      marked-length (p + n) (k .0) (k .1) numbers′ (k .3) ∙ run-length p n row numbers (k .0) (k .1) (k .2)
-
-  pub run-index : (p n : ℕ) (row : Option (List ℕ)) (numbers : List ℕ) (row′ : Option (List ℕ)) (numbers′ : List ℕ)
-      → KeyRun setting batch p n row numbers row′ numbers′
-      → (q : ℕ) → indexIn (getD numbers′ q 0) ≡ indexIn (getD numbers q 0)
-  run-index p zero row numbers row′ numbers′ k q = ap (λ (z : List ℕ). indexIn (getD z q 0)) (k .1)
-  run-index p (suc n) row numbers row′ numbers′ k q =
-      marked-index (p + n) (k .0) (k .1) numbers′ (k .3) q ∙ run-index p n row numbers (k .0) (k .1) (k .2) q
-
-  pub run-record : (p n : ℕ) (row : Option (List ℕ)) (numbers : List ℕ) (row′ : Option (List ℕ)) (numbers′ : List ℕ)
-      → KeyRun setting batch p n row numbers row′ numbers′
-      → (q : ℕ) → recordIn batch numbers′ q ≡ recordIn batch numbers q
-  run-record p n row numbers row′ numbers′ k q = record-same batch numbers numbers′ q (run-index p n row numbers row′ numbers′ k q)
-
-  pub run-usable : (p n : ℕ) (row : Option (List ℕ)) (numbers : List ℕ) (row′ : Option (List ℕ)) (numbers′ : List ℕ)
-      → KeyRun setting batch p n row numbers row′ numbers′
-      → (e : ℕ) → Usable batch numbers e → Usable batch numbers′ e
-  run-usable p n row numbers row′ numbers′ k e u =
-      usable-same batch numbers e u numbers′ (run-length p n row numbers row′ numbers′ k) (run-index p n row numbers row′ numbers′ k)
+  pub run-slots : (p n : ℕ) (row : Option (List ℕ)) (numbers : List ℕ) (row′ : Option (List ℕ)) (numbers′ : List ℕ)
+      → KeyRun setting batch p n row numbers row′ numbers′ → SameSlots numbers numbers′
+  run-slots p zero row numbers row′ numbers′ k = subst (SameSlots numbers) (sym (k .1)) (slots-self numbers)
+  run-slots p (suc n) row numbers row′ numbers′ k =
+      slots-then (run-slots p n row numbers (k .0) (k .1) (k .2)) (noted-slots (p + n) (k .0) (k .1) numbers′ (k .3))
 
   -- before the first detail
   pub run-none : (p : ℕ) (row : Option (List ℕ)) (numbers : List ℕ) → KeyRun setting batch p (p - p) row numbers row numbers
@@ -137,41 +139,25 @@ module _ (setting : Setting) (batch : List ℕ) where
   pub run-next : (p q : ℕ) (row : Option (List ℕ)) (numbers : List ℕ) (r : Option (List ℕ)) (s : List ℕ) (row′ : Option (List ℕ)) (numbers′ : List ℕ)
       → p ≤ q
       → KeyRun setting batch p (q - p) row numbers r s
-      → Marked setting batch q r s numbers′
-      → row′ ≡ next setting r (recordIn batch s q)
+      → DetailWorked setting batch q r row′ s numbers′
       → KeyRun setting batch p (q + 1 - p) row numbers row′ numbers′
-  run-next p q row numbers r s row′ numbers′ l k m e =
+  run-next p q row numbers r s row′ numbers′ l k w =
       let a : q + 1 - p ≡ suc (q - p) = omega arith in
       let b : p + (q - p) ≡ q = omega arith in
-      rw a (r, s, k, rw b m, rw b e)
+      rw a (r, s, k, rw b (w .noted), rw b (w .row-is))
 
   -- ---- details judged on no row
 
-  pub judged-length : (p n : ℕ) (numbers numbers′ : List ℕ) → JudgedRun setting batch p n numbers numbers′ → length numbers′ ≡ length numbers
-  judged-length p zero numbers numbers′ k = ap length k
-  judged-length p (suc n) numbers numbers′ k =
-      marked-length (p + n) none (k .0) numbers′ (k .2) ∙ judged-length p n numbers (k .0) (k .1)
-
-  pub judged-index : (p n : ℕ) (numbers numbers′ : List ℕ) → JudgedRun setting batch p n numbers numbers′
-      → (q : ℕ) → indexIn (getD numbers′ q 0) ≡ indexIn (getD numbers q 0)
-  judged-index p zero numbers numbers′ k q = ap (λ (z : List ℕ). indexIn (getD z q 0)) k
-  judged-index p (suc n) numbers numbers′ k q =
-      marked-index (p + n) none (k .0) numbers′ (k .2) q ∙ judged-index p n numbers (k .0) (k .1) q
-
-  pub judged-record : (p n : ℕ) (numbers numbers′ : List ℕ) → JudgedRun setting batch p n numbers numbers′
-      → (q : ℕ) → recordIn batch numbers′ q ≡ recordIn batch numbers q
-  judged-record p n numbers numbers′ k q = record-same batch numbers numbers′ q (judged-index p n numbers numbers′ k q)
-
-  pub judged-usable : (p n : ℕ) (numbers numbers′ : List ℕ) → JudgedRun setting batch p n numbers numbers′
-      → (e : ℕ) → Usable batch numbers e → Usable batch numbers′ e
-  judged-usable p n numbers numbers′ k e u =
-      usable-same batch numbers e u numbers′ (judged-length p n numbers numbers′ k) (judged-index p n numbers numbers′ k)
+  pub judged-slots : (p n : ℕ) (numbers numbers′ : List ℕ) → JudgedRun setting batch p n numbers numbers′ → SameSlots numbers numbers′
+  judged-slots p zero numbers numbers′ k = subst (SameSlots numbers) (sym k) (slots-self numbers)
+  judged-slots p (suc n) numbers numbers′ k =
+      slots-then (judged-slots p n numbers (k .0) (k .1)) (noted-slots (p + n) none (k .0) numbers′ (k .2))
 
   pub judged-none : (p : ℕ) (numbers : List ℕ) → JudgedRun setting batch p (p - p) numbers numbers
   judged-none p numbers = let z : p - p ≡ 0 = omega arith in rw z refl
 
   pub judged-next : (p q : ℕ) (numbers s numbers′ : List ℕ) → p ≤ q → JudgedRun setting batch p (q - p) numbers s
-      → Marked setting batch q none s numbers′
+      → Noted setting batch q none s numbers′
       → JudgedRun setting batch p (q + 1 - p) numbers numbers′
   judged-next p q numbers s numbers′ l k m =
       let a : q + 1 - p ≡ suc (q - p) = omega arith in
@@ -217,3 +203,41 @@ module _ (setting : Setting) (batch : List ℕ) where
         let d : e - p ≡ (e - (q + 1)) + (q + 1 - p) = omega arith in
         let t : makesRow setting batch numbers p (q + 1 - p) ≡ true = makes-one q l ∙ rw (b, or-true) in
         rw d (more-makes (q + 1 - p) (e - (q + 1)) t)
+
+-- ---- the step and what is written, under every set of names
+
+module _ (state : List ℕ) (year : ℕ) (list batch : List ℕ) (p : ℕ) (case : Option (List ℕ)) (numbers : List ℕ) (i slot number : ℕ) (rec : List ℕ) (given : Bool) (answer : Step) where
+  pub worked-all : i ≡ indexIn (getD numbers p 0)
+      → rec ≡ recordIn batch numbers p
+      → given ≡ isMarked (getD numbers p 0)
+      → UnderNames given rec (λ names. IsStep (settingOf state year list names) case rec answer)
+      → (indexIn slot ≡ indexIn (getD numbers i 0)) × (isMarked slot ≡ isMarked (getD numbers i 0)) × (slot % 2 ^ 19 < 2) × (slot < 2 ^ 43)
+      → Packed number (indexIn slot) (meaning (answer .verdict)) × (isMarked number ≡ isMarked slot)
+      → UnderNames (isMarked (getD numbers p 0)) (recordIn batch numbers p) (λ names.
+      DetailWorked (settingOf state year list names) batch p case (rowOf (answer .case)) numbers (set numbers i number))
+      × SameSlots numbers (set numbers i number)
+  worked-all e r g s x k = (worked, noted-slots (settingOf state year list (n .0)) batch p case numbers (set numbers i number) (worked (n .0) (n .1) .noted))
+    where
+      worked : (names : List (List ℕ)) → isMarked (getD numbers p 0) ≡ isGiven names (recordIn batch numbers p)
+          → DetailWorked (settingOf state year list names) batch p case (rowOf (answer .case)) numbers (set numbers i number)
+      worked names h =
+          let t = s names (g ∙ h ∙ ap (isGiven names) (sym r)) in
+          worked-of (settingOf state year list names) batch p case (rowOf (answer .case)) numbers i slot number rec (meaning (answer .verdict))
+          e r (x .0) (x .1) (t .row-is) (t .verdict-is) (k .0) (k .1)
+
+      n : (names : List (List ℕ)) × (isMarked (getD numbers p 0) ≡ isGiven names (recordIn batch numbers p))
+      n = some-names (recordIn batch numbers p) (isMarked (getD numbers p 0))
+
+-- ---- no name has a say without a row
+
+module _ (state : List ℕ) (year : ℕ) (list batch : List ℕ) where
+  pub alone-noted : (names₁ names₂ : List (List ℕ)) (p : ℕ) (numbers numbers′ : List ℕ)
+      → Noted (settingOf state year list names₁) batch p none numbers numbers′
+      → Noted (settingOf state year list names₂) batch p none numbers numbers′
+  alone-noted names₁ names₂ p numbers numbers′ m =
+      record {
+        number = m .number;
+        set-is = m .set-is;
+        packed = subst (Packed (m .number) _) (alone-judged state year list (recordIn batch numbers p) names₁ names₂) (m .packed);
+        mark-kept = m .mark-kept;
+      }

@@ -12,9 +12,10 @@ use Rattle.text.specs.Fields.{sameBytes}
 use Rattle.layout.specs.Record.{recordKey}
 use Rattle.onecase.specs.Verdict.{judgement}
 use Rattle.onecase.specs.Machine.{next}
-use Rattle.keyorder.specs.Order.{indexIn}
+use Rattle.keyorder.specs.Order.{indexIn, isMarked}
 use Rattle.keyorder.specs.Packed.{Packed}
 use Rattle.judging.specs.State.{isHeld}
+use Rattle.judging.specs.Errors.{isGiven}
 use Rattle.layout.specs.Batch.{recordAt}
 use Rattle.judging.specs.Setting.{Setting}
 
@@ -39,25 +40,45 @@ pub record IsKeyEnd (batch numbers : List ℕ) (p own e : ℕ) : Type 0 where
   pub same : (q : ℕ) → p ≤ q → q < e → keyIn batch numbers q ≡ keyIn batch numbers p
   pub other : (e ≡ own) ⊎ (sameBytes (keyIn batch numbers p) (keyIn batch numbers e) ≡ false)
 
+-- the same indexes and marks
+pub record SameSlots (before after : List ℕ) : Type 0 where
+  pub len : length after ≡ length before
+  pub indexes : (q : ℕ) → indexIn (getD after q 0) ≡ indexIn (getD before q 0)
+  pub marks : (q : ℕ) → isMarked (getD after q 0) ≡ isMarked (getD before q 0)
+
+-- the details at positions p up to e are marked where their names are among some names
+abbrev pub MarkedBy : List (List ℕ) → List ℕ → List ℕ → ℕ → ℕ → Type 0
+MarkedBy names batch numbers p e = (q : ℕ) → p ≤ q → q < e → isMarked (getD numbers q 0) ≡ isGiven names (recordIn batch numbers q)
+
+-- it holds under every set of names by which they are so marked
+abbrev pub UnderMarks : List ℕ → List ℕ → ℕ → ℕ → (List (List ℕ) → Type 0) → Type 0
+UnderMarks batch numbers p e holds = (names : List (List ℕ)) → MarkedBy names batch numbers p e → holds names
+
 module _ (setting : Setting) (batch : List ℕ) where
-  -- the detail at position p judged on a row: its verdict stands beside the index in its own number
-  pub record Marked (p : ℕ) (row : Option (List ℕ)) (numbers numbers′ : List ℕ) : Type 0 where
+  -- the detail at position p judged on a row: its verdict stands beside the index and the mark in its own number
+  pub record Noted (p : ℕ) (row : Option (List ℕ)) (numbers numbers′ : List ℕ) : Type 0 where
     pub number : ℕ
     pub set-is : numbers′ ≡ set numbers (indexIn (getD numbers p 0)) number
     pub packed : Packed number (indexIn (getD numbers (indexIn (getD numbers p 0)) 0))
         (judgement setting row (recordIn batch numbers p))
+    pub mark-kept : isMarked number ≡ isMarked (getD numbers (indexIn (getD numbers p 0)) 0)
+
+  -- one detail worked: the row after it, and its verdict noted
+  pub record DetailWorked (p : ℕ) (row row′ : Option (List ℕ)) (numbers numbers′ : List ℕ) : Type 0 where
+    pub row-is : row′ ≡ next setting row (recordIn batch numbers p)
+    pub noted : Noted p row numbers numbers′
 
   -- n details from position p on, worked one behind the other from a row
   abbrev pub KeyRun : ℕ → ℕ → Option (List ℕ) → List ℕ → Option (List ℕ) → List ℕ → Type 0
   KeyRun p zero row numbers row′ numbers′ = (row′ ≡ row) × (numbers′ ≡ numbers)
   KeyRun p (suc n) row numbers row′ numbers′ =
-      (r : Option (List ℕ)) × (s : List ℕ) × (KeyRun p n row numbers r s) × (Marked (p + n) r s numbers′)
+      (r : Option (List ℕ)) × (s : List ℕ) × (KeyRun p n row numbers r s) × (Noted (p + n) r s numbers′)
       × (row′ ≡ next setting r (recordIn batch s (p + n)))
 
   -- n details from position p on, each judged on no row
   abbrev pub JudgedRun : ℕ → ℕ → List ℕ → List ℕ → Type 0
   JudgedRun p zero numbers numbers′ = numbers′ ≡ numbers
-  JudgedRun p (suc n) numbers numbers′ = (s : List ℕ) × (JudgedRun p n numbers s) × (Marked (p + n) none s numbers′)
+  JudgedRun p (suc n) numbers numbers′ = (s : List ℕ) × (JudgedRun p n numbers s) × (Noted (p + n) none s numbers′)
 
   -- one of n details from position p on makes a row from none
   unfoldable pub makesRow : List ℕ → ℕ → ℕ → Bool

@@ -3,7 +3,7 @@
 use Prim.Native.Nat.{ℕ, _+_, _*_, _/_, _%_, _^_, _≤_, _<_}
 use mathlib.Core.Path.{_≡_}
 use mathlib.Core.List.{List, [], map}
-use mathlib.Core.Bool.{cond}
+use mathlib.Core.Bool.{Bool, cond}
 use mathlib.Core.Logic.{_⊎_}
 use lib.Dec.{eqb}
 use lib.ListN.{length, take, drop, getD}
@@ -43,6 +43,10 @@ pub record InKeyOrder (state : List ℕ) (details : List (List ℕ)) (order : Li
 -- the index that a number of the verdict list holds in its bits 19 to 42
 abbrev pub indexIn : ℕ → ℕ
 indexIn n = n / 2 ^ 19 % 2 ^ 24
+
+-- whether it is marked: its bit 0, set where the name of the detail at that index is given under its key
+abbrev pub isMarked : ℕ → Bool
+isMarked n = eqb (n % 2) 1
 
 -- the indexes in the first d numbers
 abbrev pub indexesIn : ℕ → List ℕ → List ℕ

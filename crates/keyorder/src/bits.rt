@@ -5,14 +5,16 @@
 //   numbered (order)               rank of detail p's key             p
 //   sorted (order)                 rank of the key at position p      index of the detail at position p of the key order
 //
-//                                  bits 63 to 43    bits 42 to 19     bits 18 to 0
-//   indexes kept (order)           0                index, the same   0
-//   worked (key_work, packed)      high part        index, the same   low part
+//                                  bits 63 to 43    bits 42 to 19     bits 18 to 1   bit 0
+//   indexes kept (order)           0                index, the same   0              0
+//   names marked (marks)           0                index, the same   0              mark
+//   worked (key_work, packed)      high part        index, the same   low part       mark, the same
 //
 //   written (the batch's last step)  the number of detail p's set of codes, alone
 //
 // The two parts of a worked number are the verdict on detail p, whose own position is another; the index between them is that of the
-// detail at position p. A set of codes is errors alone, which stand in the low part, or warnings alone, which stand in the high part;
+// detail at position p, and the mark says whether the name of that detail is given by a B record of its key. There is no code 0, so no
+// verdict needs bit 0. A set of codes is errors alone, which stand in the low part, or warnings alone, which stand in the high part;
 // with error 17 the high part is the four stored characters.
 
 // 2 to the power 24: how many indexes there are, and, before and while sorting, the lowest bit of the rank.

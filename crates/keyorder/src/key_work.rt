@@ -1,18 +1,18 @@
 // The details at some positions of the key order, worked through the machine.
-use crate::bits::INDEX_PLACE;
 use crate::packed;
 use layout::records;
 use onecase::case;
 use onecase::case::Case;
 ghost use mathlib.Core.Path.{_≡_};
-ghost use mathlib.Core.Option.{none};
-ghost use Prim.Native.Nat.{_-_, _*_, _+_, _≤_, _<_};
+ghost use mathlib.Core.List.{List};
+ghost use Prim.Native.Nat.{ℕ, _-_, _*_, _+_, _≤_, _<_};
 ghost use lib.ListN.{length, getD};
 ghost use Rattle.text.specs.Fields.{sameBytes};
-ghost use Rattle.onecase.specs.Machine.{next, rowOf};
-ghost use Rattle.keyorder.specs.Order.{indexIn};
-ghost use Rattle.keyorder.specs.KeyWork.{recordIn, keyIn, Usable, IsKeyEnd, Marked, KeyRun, JudgedRun, makesRow};
+ghost use Rattle.onecase.specs.Machine.{rowOf};
+ghost use Rattle.keyorder.specs.Order.{indexIn, isMarked};
+ghost use Rattle.keyorder.specs.KeyWork.{recordIn, keyIn, Usable, IsKeyEnd, SameSlots, UnderMarks, DetailWorked, KeyRun, JudgedRun, makesRow};
 ghost use Rattle.judging.specs.Setting.{settingOf};
+ghost use Rattle.judging.specs.Parts.{UnderNames};
 
 // The record at a position of the key order.
 pub fn record_in(batch: &[u8], numbers: &[u64], p: usize) -> [u8; 245]
@@ -56,8 +56,8 @@ pub fn key_end(batch: &[u8], numbers: &[u64], p: usize, own: usize) -> usize
     e
 }
 
-// The detail at position p judged on a row or none: the verdict goes beside the index in the detail's own number, the new state is
-// handed back.
+// The detail at position p judged on a row or none, its name given where it is marked: the verdict goes beside the index and the mark in
+// the detail's own number, the new state is handed back.
 fn work_detail(
     case: Case,
     batch: &[u8],
@@ -68,16 +68,17 @@ fn work_detail(
     list: &[u8],
 ) -> Case
     requires { ⌜ (p < length (now numbers)) × (indexIn (getD (now numbers) p 0) < length (now numbers)) × (indexIn (getD (now numbers) p 0) * 245 + 245 ≤ length (now batch)) ⌝ }
-    ensures { λ r. ⌜ rowOf r ≡ next (settingOf (now (state .entry)) year (now (list .entry))) (rowOf case) (recordIn (now (batch .entry)) (now (numbers .entry)) p) ⌝ }
-    ensures { λ r. ⌜ Marked (settingOf (now (state .entry)) year (now (list .entry))) (now (batch .entry)) p (rowOf case) (now (numbers .entry)) (now (numbers .exit)) ⌝ }
+    ensures { λ r. ⌜ UnderNames (isMarked (getD (now (numbers .entry)) p 0)) (recordIn (now (batch .entry)) (now (numbers .entry)) p) (λ names.
+        DetailWorked (settingOf (now (state .entry)) year (now (list .entry)) names) (now (batch .entry)) p (rowOf case) (rowOf r) (now (numbers .entry)) (now (numbers .exit))) ⌝ }
+    ensures { λ r. ⌜ SameSlots (now (numbers .entry)) (now (numbers .exit)) ⌝ }
 {
     let i = packed::index_in(numbers[p]);
     let rec = records::record_at(batch, i);
-    let step = case.step(&rec, state, year, list);
+    let given = packed::is_marked(numbers[p]);
+    let step = case.step(&rec, given, state, year, list);
     let verdict = step.verdict;
     let after = step.case;
-    let index = packed::index_in(numbers[i]) as u64;
-    numbers[i] = packed::with_verdict(index * INDEX_PLACE, verdict);
+    numbers[i] = packed::with_verdict(packed::slot_of(numbers[i]), verdict);
     after
 }
 
@@ -93,7 +94,8 @@ pub fn work_key(
     list: &[u8],
 ) -> Case
     requires { ⌜ (p ≤ e) × Usable (now batch) (now numbers) e ⌝ }
-    ensures { λ r. ⌜ KeyRun (settingOf (now (state .entry)) year (now (list .entry))) (now (batch .entry)) p (e - p) (rowOf case) (now (numbers .entry)) (rowOf r) (now (numbers .exit)) ⌝ }
+    ensures { λ r. ⌜ UnderMarks (now (batch .entry)) (now (numbers .entry)) p e (λ names.
+        KeyRun (settingOf (now (state .entry)) year (now (list .entry)) names) (now (batch .entry)) p (e - p) (rowOf case) (now (numbers .entry)) (rowOf r) (now (numbers .exit))) ⌝ }
 {
     let mut c = case;
     let mut q = p;
@@ -104,7 +106,7 @@ pub fn work_key(
     c
 }
 
-// The details at positions p up to e, each judged on no row.
+// The details at positions p up to e, each judged on no row; no name given has a say there.
 pub fn judge_alone(
     batch: &[u8],
     numbers: &mut [u64],
@@ -115,7 +117,8 @@ pub fn judge_alone(
     list: &[u8],
 )
     requires { ⌜ (p ≤ e) × Usable (now batch) (now numbers) e ⌝ }
-    ensures { λ _. ⌜ JudgedRun (settingOf (now (state .entry)) year (now (list .entry))) (now (batch .entry)) p (e - p) (now (numbers .entry)) (now (numbers .exit)) ⌝ }
+    ensures { λ _. ⌜ ((names : List (List ℕ)) →
+        JudgedRun (settingOf (now (state .entry)) year (now (list .entry)) names) (now (batch .entry)) p (e - p) (now (numbers .entry)) (now (numbers .exit))) ⌝ }
 {
     let mut q = p;
     while q < e {
@@ -124,7 +127,7 @@ pub fn judge_alone(
     }
 }
 
-// Whether one of the details at positions p up to e makes a row from none.
+// Whether one of the details at positions p up to e makes a row from none, whatever names are given.
 pub fn some_makes_row(
     batch: &[u8],
     numbers: &[u64],
@@ -135,7 +138,8 @@ pub fn some_makes_row(
     list: &[u8],
 ) -> bool
     requires { ⌜ (p ≤ e) × Usable (now batch) (now numbers) e ⌝ }
-    ensures { λ r. ⌜ r ≡ makesRow (settingOf (now (state .entry)) year (now (list .entry))) (now (batch .entry)) (now (numbers .entry)) p (e - p) ⌝ }
+    ensures { λ r. ⌜ ((names : List (List ℕ)) →
+        r ≡ makesRow (settingOf (now (state .entry)) year (now (list .entry)) names) (now (batch .entry)) (now (numbers .entry)) p (e - p)) ⌝ }
 {
     let mut q = p;
     while q < e {

@@ -6,9 +6,9 @@ use crate::bits::NAMED;
 use onecase::verdict::FourBytes;
 use onecase::verdict::Verdict;
 ghost use mathlib.Core.Path.{_≡_};
-ghost use Prim.Native.Nat.{_+_, _*_, _%_, _^_, _<_};
+ghost use Prim.Native.Nat.{_+_, _*_, _/_, _%_, _^_, _<_};
 ghost use Rattle.onecase.specs.Verdict.{fourBytes, meaning};
-ghost use Rattle.keyorder.specs.Order.{indexIn};
+ghost use Rattle.keyorder.specs.Order.{indexIn, isMarked};
 ghost use Rattle.keyorder.specs.Packed.{characterCode, characterOf, nameNumber, nameIn, Packed, IsVerdictIn};
 
 // The index that a number holds.
@@ -16,6 +16,13 @@ pub fn index_in(number: u64) -> usize
     ensures { λ r. ⌜ (r ≡ indexIn number) × (r < 2 ^ 24) ⌝ }
 {
     (number / INDEX_PLACE % INDEXES) as usize
+}
+
+// Of a number the index and the mark alone.
+pub fn slot_of(number: u64) -> u64
+    ensures { λ r. ⌜ (indexIn r ≡ indexIn number) × (isMarked r ≡ isMarked number) × (r % 2 ^ 19 < 2) × (r < 2 ^ 43) ⌝ }
+{
+    number / INDEX_PLACE % INDEXES * INDEX_PLACE + number % 2
 }
 
 // Five bits for a letter, hyphen or space.
@@ -59,18 +66,25 @@ fn name_in(n: u64) -> FourBytes
     FourBytes { a, b, c, d }
 }
 
-// An index with a set's low part and a high part.
-fn joined(number: u64, set: u64, high: u64) -> u64
-    requires { ⌜ (number % 2 ^ 19 ≡ 0) × (number < 2 ^ 43) × (high < 2 ^ 21) ⌝ }
-    ensures { λ r. ⌜ r ≡ number + set % 2 ^ 19 + high * 2 ^ 43 ⌝ }
+// Whether a number is marked.
+pub fn is_marked(number: u64) -> bool
+    ensures { λ r. ⌜ r ≡ isMarked number ⌝ }
 {
-    number + set % INDEX_PLACE + high * HIGH_PLACE
+    number % 2 == 1
 }
 
-// An index alone, with a verdict beside it.
+// An index and a mark with a set's low part and a high part.
+fn joined(number: u64, set: u64, high: u64) -> u64
+    requires { ⌜ (number % 2 ^ 19 < 2) × (number < 2 ^ 43) × (high < 2 ^ 21) ⌝ }
+    ensures { λ r. ⌜ r ≡ number + set % 2 ^ 19 / 2 * 2 + high * 2 ^ 43 ⌝ }
+{
+    number + set % INDEX_PLACE / 2 * 2 + high * HIGH_PLACE
+}
+
+// An index and a mark, with a verdict beside them.
 pub fn with_verdict(number: u64, v: Verdict) -> u64
-    requires { ⌜ (number % 2 ^ 19 ≡ 0) × (number < 2 ^ 43) ⌝ }
-    ensures { λ r. ⌜ Packed r (indexIn number) (meaning v) ⌝ }
+    requires { ⌜ (number % 2 ^ 19 < 2) × (number < 2 ^ 43) ⌝ }
+    ensures { λ r. ⌜ Packed r (indexIn number) (meaning v) × (isMarked r ≡ isMarked number) ⌝ }
 {
     match v {
         Verdict::Accepted(set) => joined(number, set, set / HIGH_PLACE),
@@ -83,7 +97,7 @@ pub fn with_verdict(number: u64, v: Verdict) -> u64
 pub fn verdict_in(number: u64) -> Verdict
     ensures { λ r. ⌜ IsVerdictIn number r ⌝ }
 {
-    let set = number % INDEX_PLACE;
+    let set = number % INDEX_PLACE / 2 * 2;
     let high = number / HIGH_PLACE;
     if set / NAMED % 2 == 1 {
         return Verdict::RejectedWithName(set, name_in(high));

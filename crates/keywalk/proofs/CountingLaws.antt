@@ -23,9 +23,10 @@ use Rattle.keywalk.proofs.KeysLaws.{indexes-self}
 use Rattle.text.proofs.BlocksLaws.{blocks-split}
 use Rattle.turns.specs.Under.{detailsUnder, runRow}
 use Rattle.turns.specs.Adds.{hasNoRow}
+use Rattle.turns.specs.Settings.{settingUnder}
 use Rattle.text.specs.ByteOrder.{orderOf, isLess, rising}
 
-module _ (f : Fixed) (m numbers : List ℕ) (o : OrderReady (f .setting .state) (f .batch) (f .count) (f .own) numbers)
+module _ (f : Fixed) (m numbers : List ℕ) (o : OrderReady (f .settings .state) (f .batch) (f .count) (f .own) numbers)
     (rise : rising (keysOf (rowsOf (f .end) m)) ≡ true) where
   abbrev details : List (List ℕ)
   details = Keys.details o
@@ -37,7 +38,7 @@ module _ (f : Fixed) (m numbers : List ℕ) (o : OrderReady (f .setting .state) 
   rows = rowsOf (f .end) m
 
   abbrev new : List (List ℕ) → ℕ
-  new ks = newKeys (f .setting) details ks rows
+  new ks = newKeys (f .settings) details ks rows
 
   pub record Counting (s : Count) : Type 0 where
     pub position : s .position ≤ f .own
@@ -108,16 +109,17 @@ module _ (f : Fixed) (m numbers : List ℕ) (o : OrderReady (f .setting .state) 
     found = ap (rowWith k) rows-are ∙ parted-find k front back front-below back-none (rw (← rows-are) rise)
 
     -- the key is new exactly where it has no row and one of its details makes one
-    pub new-is : isNewKey (f .setting) details rows k
-        ≡ (not (isRowOf m at (f .end) (keyIn (f .batch) numbers p)) && makesRow (f .setting) (f .batch) numbers p (e - p))
+    pub new-is : isNewKey (f .settings) details rows k
+        ≡ (not (isRowOf m at (f .end) (keyIn (f .batch) numbers p)) && makesRow (settingUnder (f .settings) (keyIn (f .batch) numbers p)) (f .batch) numbers p (e - p))
     new-is = go (isKeyOf k back) refl
       where
         held : isRowOf m at (f .end) (keyIn (f .batch) numbers p) ≡ isKeyOf k back
         held = ap (isRowOf m at (f .end)) key-is ∙ is-row m k at (f .end) (kc .below .within)
 
-        made : makesRow (f .setting) (f .batch) numbers p (e - p) ≡ not (hasNoRow (runRow (f .setting) none (detailsUnder k details)))
+        made : makesRow (settingUnder (f .settings) (keyIn (f .batch) numbers p)) (f .batch) numbers p (e - p) ≡ not (hasNoRow (runRow (settingUnder (f .settings) k) none (detailsUnder k details)))
         made =
-            makes-run (f .setting) (f .batch) numbers details (Keys.order o) p (e - p)
+            ap (λ (x : List ℕ). makesRow (settingUnder (f .settings) x) (f .batch) numbers p (e - p)) key-is
+            ∙ makes-run (settingUnder (f .settings) k) (f .batch) numbers details (Keys.order o) p (e - p)
             (λ j b. Keys.record-is o (indexes-self numbers) (p + j) (omega (arith, kc .ended .within, kc .ended .later, o .own-in)))
             ∙ rw (Keys.all-under o (indexes-self numbers) l (kc .ended) (g .start l))
 
@@ -130,8 +132,8 @@ module _ (f : Fixed) (m numbers : List ℕ) (o : OrderReady (f .setting .state) 
         present (row ∷ bs) f = rw f
 
         go : (t : Bool) → isKeyOf k back ≡ t
-            → isNewKey (f .setting) details rows k
-            ≡ (not (isRowOf m at (f .end) (keyIn (f .batch) numbers p)) && makesRow (f .setting) (f .batch) numbers p (e - p))
+            → isNewKey (f .settings) details rows k
+            ≡ (not (isRowOf m at (f .end) (keyIn (f .batch) numbers p)) && makesRow (settingUnder (f .settings) (keyIn (f .batch) numbers p)) (f .batch) numbers p (e - p))
         go true t = rw (held, t, found, present back t)
         go false t = rw (held, t, made, found, missing back t)
 
@@ -139,9 +141,9 @@ module _ (f : Fixed) (m numbers : List ℕ) (o : OrderReady (f .setting .state) 
     unfolding newKeys
     counting-next =
         let kn : distinct (drop p (Keys.keys o)) ≡ k ∷ distinct (drop e (Keys.keys o)) = Keys.keys-next o (indexes-self numbers) l (kc .ended) (g .start l) in
-        let c : s .new + (cond (isNewKey (f .setting) details rows k) 1 0 + new (distinct (drop e (Keys.keys o)))) ≡ new (distinct (Keys.keys o)) = rw kn at (g .counted) in
-        let one : s′ .new ≡ s .new + cond (isNewKey (f .setting) details rows k) 1 0 = rw new-is (kc .new-is) in
-        let few : cond (isNewKey (f .setting) details rows k) 1 0 ≤ 1 = most (isNewKey (f .setting) details rows k) in
+        let c : s .new + (cond (isNewKey (f .settings) details rows k) 1 0 + new (distinct (drop e (Keys.keys o)))) ≡ new (distinct (Keys.keys o)) = rw kn at (g .counted) in
+        let one : s′ .new ≡ s .new + cond (isNewKey (f .settings) details rows k) 1 0 = rw new-is (kc .new-is) in
+        let few : cond (isNewKey (f .settings) details rows k) 1 0 ≤ 1 = most (isNewKey (f .settings) details rows k) in
         record {
           position = kc .ended .within;
           start = Keys.start-next o (indexes-self numbers) l (kc .ended) (g .start l);

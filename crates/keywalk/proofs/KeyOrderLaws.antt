@@ -23,7 +23,7 @@ use Rattle.text.proofs.WidthLaws.{All}
 use Rattle.turns.proofs.UnderLaws.{IsRecord, found-final}
 use Rattle.turns.specs.Under.{isUnder, detailsUnder, runRow}
 use Rattle.casemaster.proofs.RowsLaws.{IsWide}
-use Rattle.judging.specs.Setting.{Setting}
+use Rattle.turns.specs.Settings.{Settings, settingUnder}
 
 -- the key of the detail at an index
 abbrev pub keyAt : List (List ℕ) → ℕ → List ℕ
@@ -230,23 +230,23 @@ all-take P zero xs a = tt
 all-take P (suc i) [] a = tt
 all-take P (suc i) (x ∷ xs) a = (a .0, all-take P i xs (a .1))
 
-module _ (setting : Setting) where
+module _ (settings : Settings) where
   -- it is given over the rows that the details before it leave
   pub verdict-at : (rows details : List (List ℕ)) (i : ℕ) (j0 : Judgement) → i < length details
-      → getD (verdictsOn setting rows details) i j0
-      ≡ verdictOn setting (finalRows setting rows (take i details)) (detailAt details i)
+      → getD (verdictsOn settings rows details) i j0
+      ≡ verdictOn settings (finalRows settings rows (take i details)) (detailAt details i)
   unfolding verdictsOn finalRows
   verdict-at rows [] i j0 h = absurd (not-suc-le-zero h)
   verdict-at rows (d ∷ details) zero j0 h = refl
-  verdict-at rows (d ∷ details) (suc i) j0 h = verdict-at (afterDetail setting rows d) details i j0 (le-of-suc-le-suc h)
+  verdict-at rows (d ∷ details) (suc i) j0 h = verdict-at (afterDetail settings rows d) details i j0 (le-of-suc-le-suc h)
 
   -- so it is the machine's, over the details of the key before it
   pub verdict-under : (rows details : List (List ℕ)) (i : ℕ) (j0 : Judgement) → i < length details → All IsRecord details → All IsWide rows
-      → getD (verdictsOn setting rows details) i j0
-      ≡ judgement setting (runRow setting (rowWith (keyAt details i) rows) (detailsUnder (keyAt details i) (take i details)))
+      → getD (verdictsOn settings rows details) i j0
+      ≡ judgement (settingUnder settings (keyAt details i)) (runRow (settingUnder settings (keyAt details i)) (rowWith (keyAt details i) rows) (detailsUnder (keyAt details i) (take i details)))
       (detailAt details i)
   unfolding verdictOn
   verdict-under rows details i j0 h a w =
       verdict-at rows details i j0 h
-      ∙ ap (λ (row : Option (List ℕ)). judgement setting row (detailAt details i))
-      (found-final setting (keyAt details i) rows (take i details) (all-take IsRecord i details a) w)
+      ∙ ap (λ (row : Option (List ℕ)). judgement (settingUnder settings (keyAt details i)) row (detailAt details i))
+      (found-final settings (keyAt details i) rows (take i details) (all-take IsRecord i details a) w)

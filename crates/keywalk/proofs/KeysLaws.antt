@@ -6,7 +6,8 @@ use mathlib.Core.Bool.{true, false, false≢true}
 use mathlib.Core.List.{List, [], _∷_}
 use native.Mathlib.Nat.{eq-or-lt-of-le}
 use native.Mathlib.Omega.{arith}
-use lib.ListN.{length, take, drop, getD}
+use lib.ListN.{length, take, drop, getD, length-map}
+use lib.Seq.{length-take-le, ext-getD}
 use Rattle.text.specs.Fields.{sameBytes}
 use Rattle.text.specs.Blocks.{blocks}
 use Rattle.text.proofs.BlocksLaws.{length-blocks, blocks-get}
@@ -34,6 +35,33 @@ pub record SameIndexes (numbers₀ numbers : List ℕ) : Type 0 where
 
 pub indexes-self : (numbers : List ℕ) → SameIndexes numbers numbers
 indexes-self numbers = record { len = refl; indexes = λ q. refl }
+
+-- numbers with the same indexes are in key order too
+pub order-same : {state batch : List ℕ} {d own : ℕ} {numbers₀ numbers : List ℕ} → OrderReady state batch d own numbers₀
+    → SameIndexes numbers₀ numbers → OrderReady state batch d own numbers
+order-same {state} {batch} {d} {own} {numbers₀} {numbers} o s =
+    record {
+      recorded = o .recorded;
+      numbered = omega (arith, o .numbered, s .len);
+      own-in = o .own-in;
+      in-order = rw e (o .in-order);
+      own-low = rw e (o .own-low);
+      own-high = rw e (o .own-high);
+    }
+  where
+    long : (xs : List ℕ) → d ≤ length xs → length (indexesIn d xs) ≡ d
+    long xs l = length-map (take d xs) indexIn ∙ length-take-le d xs l
+
+    n₀ : length (indexesIn d numbers₀) ≡ d
+    n₀ = long numbers₀ (o .numbered)
+
+    n : length (indexesIn d numbers) ≡ d
+    n = long numbers (omega (arith, o .numbered, s .len))
+
+    e : indexesIn d numbers ≡ indexesIn d numbers₀
+    e =
+        ext-getD 0 (indexesIn d numbers) (indexesIn d numbers₀) (n ∙ sym n₀)
+        (λ q l. let h : q < d = omega (arith, n) in index-at d numbers q h ∙ s .indexes q ∙ sym (index-at d numbers₀ q h))
 
 module _ {state batch : List ℕ} {d own : ℕ} {numbers₀ : List ℕ} (o : OrderReady state batch d own numbers₀) where
   abbrev pub details : List (List ℕ)

@@ -1,7 +1,7 @@
 pub mod KeyOrderLaws
 pub mod GroupLaws
 pub mod PassLaws
-pub mod MarkLaws
+pub mod NotedLaws
 pub mod StandLaws
 pub mod WalkLaws
 pub mod KeysLaws

@@ -35,6 +35,7 @@ use Rattle.keywalk.proofs.KeyOrderLaws.{keyAt, under-none}
 use Rattle.turns.specs.Under.{isUnder, detailsUnder, runRow}
 use Rattle.turns.specs.Adds.{hasNoRow}
 use Rattle.judging.specs.Setting.{Setting}
+use Rattle.turns.specs.Settings.{Settings, settingUnder}
 use Rattle.onecase.proofs.JudgementLaws.{kept-alone}
 use Rattle.text.specs.ByteOrder.{less, orderOf, isLess, isEqual, belowFirst, rising}
 use Rattle.text.proofs.ByteOrderLaws.{less-trans, less-sides, same-order}
@@ -269,29 +270,29 @@ module _ (setting : Setting) (key : List ℕ) where
 
 -- ---- one key worked
 
-module _ (setting : Setting) (details : List (List ℕ)) (a : All IsRecord details) where
+module _ (settings : Settings) (details : List (List ℕ)) (a : All IsRecord details) where
   module _ (k : List ℕ) (rows : List (List ℕ)) (w : All IsWide rows) where
     -- what the machine leaves under the key
     abbrev row : Option (List ℕ)
-    row = keyRow setting details k rows
+    row = keyRow settings details k rows
 
     row-keyed : Each (KeyRow k) row
-    row-keyed = run-keyed setting k (rowWith k rows) details a (go (rowWith k rows) refl (found-all IsWide k rows w))
+    row-keyed = run-keyed (settingUnder settings k) k (rowWith k rows) details a (go (rowWith k rows) refl (found-all IsWide k rows w))
       where
         go : (o : Option (List ℕ)) → rowWith k rows ≡ o → Each IsWide o → Each (KeyRow k) o
         go none e h = tt
         go (some r) e h = record { wide = h; key-is = row-key k rows r e }
 
     -- a row that it leaves has the key
-    pub keyRow-key : (r : List ℕ) → keyRow setting details k rows ≡ some r → rowKey r ≡ k
+    pub keyRow-key : (r : List ℕ) → keyRow settings details k rows ≡ some r → rowKey r ≡ k
     keyRow-key r e = each-some (KeyRow k) row r row-keyed e .key-is
 
-    pub keyRow-wide : (r : List ℕ) → keyRow setting details k rows ≡ some r → length r ≡ 200
+    pub keyRow-wide : (r : List ℕ) → keyRow settings details k rows ≡ some r → length r ≡ 200
     keyRow-wide r e = each-some (KeyRow k) row r row-keyed e .wide
 
     -- under any other key nothing changes
     pub worked-other : (x : List ℕ) → sameBytes k x ≡ false
-        → rowWith x (withStored (keyRow setting details k rows) rows) ≡ rowWith x rows
+        → rowWith x (withStored (keyRow settings details k rows) rows) ≡ rowWith x rows
     worked-other x n = go row row-keyed
       where
         go : (o : Option (List ℕ)) → Each (KeyRow k) o → rowWith x (withStored o rows) ≡ rowWith x rows
@@ -299,18 +300,18 @@ module _ (setting : Setting) (details : List (List ℕ)) (a : All IsRecord detai
         go (some r) h = row-with-other x r rows (rw (h .key-is) n)
 
     -- under the key stands what the machine left
-    pub worked-here : rowWith k (withStored (keyRow setting details k rows) rows) ≡ keyRow setting details k rows
+    pub worked-here : rowWith k (withStored (keyRow settings details k rows) rows) ≡ keyRow settings details k rows
     worked-here = go row refl row-keyed
       where
-        missing : (o : Option (List ℕ)) → runRow setting o (detailsUnder k details) ≡ none → o ≡ none
+        missing : (o : Option (List ℕ)) → runRow (settingUnder settings k) o (detailsUnder k details) ≡ none → o ≡ none
         missing none e = refl
-        missing (some r) e = let s = run-stays setting k (detailsUnder k details) r in cc (s .1)
+        missing (some r) e = let s = run-stays (settingUnder settings k) k (detailsUnder k details) r in cc (s .1)
 
         go : (o : Option (List ℕ)) → row ≡ o → Each (KeyRow k) o → rowWith k (withStored o rows) ≡ o
         go none e h = missing (rowWith k rows) e
         go (some r) e h = row-with-same k r rows (h .key-is)
 
-    pub worked-wide : All IsWide (withStored (keyRow setting details k rows) rows)
+    pub worked-wide : All IsWide (withStored (keyRow settings details k rows) rows)
     worked-wide = go row row-keyed
       where
         go : (o : Option (List ℕ)) → Each (KeyRow k) o → All IsWide (withStored o rows)
@@ -319,14 +320,14 @@ module _ (setting : Setting) (details : List (List ℕ)) (a : All IsRecord detai
 
   -- the rows after a key
   abbrev worked : List ℕ → List (List ℕ) → List (List ℕ)
-  worked k rows = withStored (keyRow setting details k rows) rows
+  worked k rows = withStored (keyRow settings details k rows) rows
 
-  module _ (l : isLocalList (setting .list) ≡ true) (k : List ℕ) (rows : List (List ℕ)) where
+  module _ (l : isLocalList (settings .list) ≡ true) (k : List ℕ) (rows : List (List ℕ)) where
     -- rows stay sound, wide and in order
-    pub worked-fit : Fit rows → Fit (withStored (keyRow setting details k rows) rows)
+    pub worked-fit : Fit rows → Fit (withStored (keyRow settings details k rows) rows)
     worked-fit f =
-        put (keyRow setting details k rows)
-        (run-sound setting k l (rowWith k rows) details a
+        put (keyRow settings details k rows)
+        (run-sound (settingUnder settings k) k l (rowWith k rows) details a
         (go (rowWith k rows) refl (found-all IsWide k rows (f .wide))
         (found-all Sound k rows (every-all isSoundRow rows (each-sound rows (f .sound))))))
       where
@@ -342,13 +343,13 @@ module _ (setting : Setting) (details : List (List ℕ)) (a : All IsRecord detai
         put (some r) h = record { wide = all-put IsWide r rows (h .wide) (f .wide); sound = with-sound r rows (f .sound) (h .sound) }
 
     pub worked-sound : All IsWide rows → areSoundRows rows ≡ true
-        → areSoundRows (withStored (keyRow setting details k rows) rows) ≡ true
+        → areSoundRows (withStored (keyRow settings details k rows) rows) ≡ true
     worked-sound w s = worked-fit (record { wide = w; sound = s }) .sound
 
   -- one row more for a new key, else as many
   pub worked-one : (k : List ℕ) (rows : List (List ℕ)) → All IsWide rows → areSoundRows rows ≡ true
-      → length (withStored (keyRow setting details k rows) rows) ≡ length rows + cond (isNewKey setting details rows k) 1 0
-  worked-one k rows w s = go (keyRow setting details k rows) (row-keyed k rows w) (rowWith k rows) refl
+      → length (withStored (keyRow settings details k rows) rows) ≡ length rows + cond (isNewKey settings details rows k) 1 0
+  worked-one k rows w s = go (keyRow settings details k rows) (row-keyed k rows w) (rowWith k rows) refl
     where
       go : (o : Option (List ℕ)) → Each (KeyRow k) o → (q : Option (List ℕ)) → rowWith k rows ≡ q
           → length (withStored o rows) ≡ length rows + cond (hasNoRow q && not (hasNoRow o)) 1 0
@@ -359,12 +360,12 @@ module _ (setting : Setting) (details : List (List ℕ)) (a : All IsRecord detai
 
   -- whether another key is new stays
   pub new-other : (k x : List ℕ) (rows : List (List ℕ)) → All IsWide rows → sameBytes k x ≡ false
-      → isNewKey setting details (withStored (keyRow setting details k rows) rows) x ≡ isNewKey setting details rows x
+      → isNewKey settings details (withStored (keyRow settings details k rows) rows) x ≡ isNewKey settings details rows x
   new-other k x rows w n =
-      ap (λ (o : Option (List ℕ)). hasNoRow o && not (hasNoRow (runRow setting o (detailsUnder x details)))) (worked-other k rows w x n)
+      ap (λ (o : Option (List ℕ)). hasNoRow o && not (hasNoRow (runRow (settingUnder settings x) o (detailsUnder x details)))) (worked-other k rows w x n)
 
   pub new-others : (k : List ℕ) (ks rows : List (List ℕ)) → All IsWide rows → All (λ (x : List ℕ). sameBytes k x ≡ false) ks
-      → newKeys setting details ks (withStored (keyRow setting details k rows) rows) ≡ newKeys setting details ks rows
+      → newKeys settings details ks (withStored (keyRow settings details k rows) rows) ≡ newKeys settings details ks rows
   unfolding newKeys
   new-others k [] rows w n = refl
   new-others k (x ∷ ks) rows w n = rw (new-other k x rows w (n .0), new-others k ks rows w (n .1))
@@ -372,48 +373,48 @@ module _ (setting : Setting) (details : List (List ℕ)) (a : All IsRecord detai
   -- ---- keys in rising order
 
   -- as many rows come as there are new keys
-  pub worked-length : isLocalList (setting .list) ≡ true → (ks rows : List (List ℕ)) → rising ks ≡ true → All IsWide rows → areSoundRows rows ≡ true
-      → length (workedKeys setting details ks rows) ≡ length rows + newKeys setting details ks rows
+  pub worked-length : isLocalList (settings .list) ≡ true → (ks rows : List (List ℕ)) → rising ks ≡ true → All IsWide rows → areSoundRows rows ≡ true
+      → length (workedKeys settings details ks rows) ≡ length rows + newKeys settings details ks rows
   unfolding workedKeys newKeys
   worked-length l [] rows r w s = omega arith
   worked-length l (k ∷ ks) rows r w s =
       worked-length l ks (worked k rows) (keys-tail k ks r) (worked-wide k rows w) (worked-sound l k rows w s)
       ∙ rw (worked-one k rows w s, new-others k ks rows w (keys-apart k ks r)) (omega arith)
 
-  pub worked-low : isLocalList (setting .list) ≡ true → (ks rows : List (List ℕ)) → rising ks ≡ true → All IsWide rows → areSoundRows rows ≡ true
-      → length rows ≤ length (workedKeys setting details ks rows)
+  pub worked-low : isLocalList (settings .list) ≡ true → (ks rows : List (List ℕ)) → rising ks ≡ true → All IsWide rows → areSoundRows rows ≡ true
+      → length rows ≤ length (workedKeys settings details ks rows)
   worked-low l ks rows r w s = omega (arith, worked-length l ks rows r w s)
 
-  pub workedKeys-fit : isLocalList (setting .list) ≡ true → (ks rows : List (List ℕ)) → Fit rows → Fit (workedKeys setting details ks rows)
+  pub workedKeys-fit : isLocalList (settings .list) ≡ true → (ks rows : List (List ℕ)) → Fit rows → Fit (workedKeys settings details ks rows)
   unfolding workedKeys
   workedKeys-fit l [] rows f = f
   workedKeys-fit l (k ∷ ks) rows f =
-      workedKeys-fit l ks (withStored (keyRow setting details k rows) rows) (worked-fit l k rows f)
+      workedKeys-fit l ks (withStored (keyRow settings details k rows) rows) (worked-fit l k rows f)
 
   -- under a key that is none of them nothing changes
   pub found-apart : (x : List ℕ) (ks rows : List (List ℕ)) → Apart x ks → All IsWide rows
-      → rowWith x (workedKeys setting details ks rows) ≡ rowWith x rows
+      → rowWith x (workedKeys settings details ks rows) ≡ rowWith x rows
   unfolding workedKeys
   found-apart x [] rows n w = refl
   found-apart x (k ∷ ks) rows n w =
-      found-apart x ks (withStored (keyRow setting details k rows) rows) (n .1) (worked-wide k rows w) ∙ worked-other k rows w x (n .0)
+      found-apart x ks (withStored (keyRow settings details k rows) rows) (n .1) (worked-wide k rows w) ∙ worked-other k rows w x (n .0)
 
   -- under each of them stands what the machine leaves of the row at the start
   pub found-among : (x : List ℕ) (ks rows : List (List ℕ)) → rising ks ≡ true → All IsWide rows
-      → (rowWith x (workedKeys setting details ks rows) ≡ keyRow setting details x rows) ⊎ Apart x ks
+      → (rowWith x (workedKeys settings details ks rows) ≡ keyRow settings details x rows) ⊎ Apart x ks
   unfolding workedKeys
   found-among x [] rows r w = inr tt
   found-among x (k ∷ ks) rows r w =
       go (sameBytes k x) refl (found-among x ks (worked k rows) (keys-tail k ks r) (worked-wide k rows w))
     where
       go : (t : Bool) → sameBytes k x ≡ t
-          → (rowWith x (workedKeys setting details ks (worked k rows)) ≡ keyRow setting details x (worked k rows)) ⊎ Apart x ks
-          → (rowWith x (workedKeys setting details ks (worked k rows)) ≡ keyRow setting details x rows) ⊎ Apart x (k ∷ ks)
+          → (rowWith x (workedKeys settings details ks (worked k rows)) ≡ keyRow settings details x (worked k rows)) ⊎ Apart x ks
+          → (rowWith x (workedKeys settings details ks (worked k rows)) ≡ keyRow settings details x rows) ⊎ Apart x (k ∷ ks)
       go true t ih =
           inl (rw (← same-eq k x t)
           (found-apart k ks (worked k rows) (apart-flip k ks (keys-apart k ks r)) (worked-wide k rows w) ∙ worked-here k rows w))
       go false t (inl e) =
-          inl (e ∙ ap (λ (o : Option (List ℕ)). runRow setting o (detailsUnder x details)) (worked-other k rows w x t))
+          inl (e ∙ ap (λ (o : Option (List ℕ)). runRow (settingUnder settings x) o (detailsUnder x details)) (worked-other k rows w x t))
       go false t (inr n) = inr (t, n)
 
 -- ---- the keys of the details in key order
@@ -515,29 +516,29 @@ module _ {state : List ℕ} {details : List (List ℕ)} {order : List ℕ} (o : 
                 let z : rankOf state x ≡ noRank = sym (ap (rankOf state) k) ∙ r in
                 omega (arith, own-below state x t)
 
-module _ (setting : Setting) {details : List (List ℕ)} {order : List ℕ} (o : InKeyOrder (setting .state) details order) (own : ℕ)
-    (own-in : own ≤ length order) (own-low : (q : ℕ) → q < own → rankAt (setting .state) details (getD order q 0) < noRank)
-    (own-high : (q : ℕ) → own ≤ q → q < length order → rankAt (setting .state) details (getD order q 0) ≡ noRank) where
+module _ (settings : Settings) {details : List (List ℕ)} {order : List ℕ} (o : InKeyOrder (settings .state) details order) (own : ℕ)
+    (own-in : own ≤ length order) (own-low : (q : ℕ) → q < own → rankAt (settings .state) details (getD order q 0) < noRank)
+    (own-high : (q : ℕ) → own ≤ q → q < length order → rankAt (settings .state) details (getD order q 0) ≡ noRank) where
   -- the keys worked one behind the other leave the rows that the details leave in batch order
-  pub worked-final : (rows : List (List ℕ)) → isLocalList (setting .list) ≡ true → All IsRecord details
+  pub worked-final : (rows : List (List ℕ)) → isLocalList (settings .list) ≡ true → All IsRecord details
       → All IsWide rows → areSoundRows rows ≡ true
-      → workedKeys setting details (distinct (keysAt details (take own order))) rows ≡ finalRows setting rows details
+      → workedKeys settings details (distinct (keysAt details (take own order))) rows ≡ finalRows settings rows details
   worked-final rows l a w s =
       let f : Fit rows = record { wide = w; sound = s } in
-      same-rows (workedKeys setting details (distinct (keysAt details (take own order))) rows) (finalRows setting rows details)
-      (rows-rise (workedKeys setting details (distinct (keysAt details (take own order))) rows) (workedKeys-fit setting details a l (distinct (keysAt details (take own order))) rows f .sound))
-      (rows-rise (finalRows setting rows details) (final-fit setting l rows details a f .sound))
-      (λ x. at x (found-among setting details a x (distinct (keysAt details (take own order))) rows (keys-rise o own own-in own-low 0) w)
-      ∙ sym (found-final setting x rows details a w))
+      same-rows (workedKeys settings details (distinct (keysAt details (take own order))) rows) (finalRows settings rows details)
+      (rows-rise (workedKeys settings details (distinct (keysAt details (take own order))) rows) (workedKeys-fit settings details a l (distinct (keysAt details (take own order))) rows f .sound))
+      (rows-rise (finalRows settings rows details) (final-fit settings l rows details a f .sound))
+      (λ x. at x (found-among settings details a x (distinct (keysAt details (take own order))) rows (keys-rise o own own-in own-low 0) w)
+      ∙ sym (found-final settings x rows details a w))
     where
-      kept : (x : List ℕ) → Apart x (distinct (keysAt details (take own order))) → (t : Bool) → isOwnKey (setting .state) x ≡ t
-          → rowWith x rows ≡ runRow setting (rowWith x rows) (detailsUnder x details)
-      kept x n true t = sym (run-none setting x (rowWith x rows) (detailsUnder x details) (apart-none o own own-in own-low own-high x t n))
-      kept x n false t = sym (run-other setting x t (rowWith x rows) details a)
+      kept : (x : List ℕ) → Apart x (distinct (keysAt details (take own order))) → (t : Bool) → isOwnKey (settings .state) x ≡ t
+          → rowWith x rows ≡ runRow (settingUnder settings x) (rowWith x rows) (detailsUnder x details)
+      kept x n true t = sym (run-none (settingUnder settings x) x (rowWith x rows) (detailsUnder x details) (apart-none o own own-in own-low own-high x t n))
+      kept x n false t = sym (run-other (settingUnder settings x) x t (rowWith x rows) details a)
 
       at : (x : List ℕ)
-          → (rowWith x (workedKeys setting details (distinct (keysAt details (take own order))) rows) ≡ keyRow setting details x rows) ⊎ Apart x (distinct (keysAt details (take own order)))
-          → rowWith x (workedKeys setting details (distinct (keysAt details (take own order))) rows)
-          ≡ runRow setting (rowWith x rows) (detailsUnder x details)
+          → (rowWith x (workedKeys settings details (distinct (keysAt details (take own order))) rows) ≡ keyRow settings details x rows) ⊎ Apart x (distinct (keysAt details (take own order)))
+          → rowWith x (workedKeys settings details (distinct (keysAt details (take own order))) rows)
+          ≡ runRow (settingUnder settings x) (rowWith x rows) (detailsUnder x details)
       at x (inl e) = e
-      at x (inr n) = found-apart setting details a x (distinct (keysAt details (take own order))) rows n w ∙ kept x n (isOwnKey (setting .state) x) refl
+      at x (inr n) = found-apart settings details a x (distinct (keysAt details (take own order))) rows n w ∙ kept x n (isOwnKey (settings .state) x) refl

@@ -12,11 +12,14 @@ use Rattle.text.specs.Fields.{sameBytes}
 use Rattle.casemaster.specs.Master.{rowsOf}
 use Rattle.casemaster.specs.Search.{AreBelow, RowPut, Pulled}
 use Rattle.text.proofs.FieldsLaws.{and-left}
-use Rattle.keyorder.specs.KeyWork.{keyIn, Usable, IsKeyEnd, KeyRun, makesRow}
-use Rattle.keywalk.specs.Walking.{rowIn, isRowOf, oneOrNone, RowOfPut, Fixed, Stand, keyNow, hasRow, rowNow, KeyCounted, KeyWorked, KeyWalked, StaysBefore}
+use Rattle.keyorder.specs.KeyWork.{recordIn, keyIn, Usable, IsKeyEnd, MarkedBy, UnderMarks, KeyRun, makesRow}
+use Rattle.keywalk.specs.Walking.{rowIn, isRowOf, oneOrNone, RowOfPut, AreMarked, Fixed, Stand, keyNow, hasRow, rowNow, KeyCounted, KeyWorked, KeyWalked, StaysBefore}
 use Rattle.keywalk.specs.declared.walk.Count.{Count}
 use Rattle.text.proofs.BlocksLaws.{kept-further}
 use Rattle.judging.specs.State.{rowIf}
+use Rattle.judging.specs.Setting.{settingOf}
+use Rattle.judging.specs.Errors.{isGiven}
+use Rattle.turns.specs.Settings.{settingUnder}
 
 -- ---- a row written, or none
 
@@ -37,59 +40,68 @@ module _ (f : Fixed) (s : Stand) (stays : StaysBefore f s) (e passed : ℕ) (key
     (ab : AreBelow (s .master) (s .from) (f .end) key passed) (pulled : Pulled (s .master) (s .from) (s .to) passed m₁)
     (held : Bool) (hi : held ≡ isRowOf m₁ (s .from + passed) (f .end) key)
     (start row : Option (List ℕ)) (si : start ≡ rowIf held (rowIn m₁ (s .from + passed))) (numbers′ : List ℕ)
-    (run : KeyRun (f .setting) (f .batch) (s .position) (e - s .position) start (s .numbers) row numbers′) where
-  -- the rows to come are as before
-  held-is : held ≡ hasRow f s passed
-  held-is =
-      hi ∙ ap (λ (x : List ℕ). ltb (s .from + passed) (f .end) && sameBytes (take 12 x) key) (pulled .rest-kept)
-      ∙ ap (isRowOf (s .master) (s .from + passed) (f .end)) ki
+    (marked : AreMarked (f .settings .names) (f .batch) (f .own) (s .numbers))
+    (run : UnderMarks (f .batch) (s .numbers) (s .position) e (λ names.
+    KeyRun (settingOf (f .settings .state) (f .settings .year) (f .settings .list) names) (f .batch) (s .position) (e - s .position) start (s .numbers) row numbers′))
+  where
+    -- the rows to come are as before
+    held-is : held ≡ hasRow f s passed
+    held-is =
+        hi ∙ ap (λ (x : List ℕ). ltb (s .from + passed) (f .end) && sameBytes (take 12 x) key) (pulled .rest-kept)
+        ∙ ap (isRowOf (s .master) (s .from + passed) (f .end)) ki
 
-  start-is : start ≡ rowNow f s passed
-  start-is =
-      si ∙ ap (λ (t : Bool). rowIf t (rowIn m₁ (s .from + passed))) held-is
-      ∙ ap (λ (x : List ℕ). rowIf (hasRow f s passed) (take 200 x)) (pulled .rest-kept)
+    start-is : start ≡ rowNow f s passed
+    start-is =
+        si ∙ ap (λ (t : Bool). rowIf t (rowIn m₁ (s .from + passed))) held-is
+        ∙ ap (λ (x : List ℕ). rowIf (hasRow f s passed) (take 200 x)) (pulled .rest-kept)
 
-  key-worked : KeyWorked f s e passed row numbers′
-  key-worked =
-      record {
-        ended = ke;
-        below = subst (λ (x : List ℕ). AreBelow (s .master) (s .from) (f .end) x passed) ki ab;
-        run =
-            subst (λ (x : Option (List ℕ)). KeyRun (f .setting) (f .batch) (s .position) (e - s .position) x (s .numbers) row numbers′)
-            start-is run;
-      }
+    -- the marks of the key's details are by the names given under it
+    marked-here : MarkedBy (f .settings .names (keyNow f s)) (f .batch) (s .numbers) (s .position) e
+    marked-here q a b =
+        marked q (omega (arith, ke .within))
+        ∙ ap (λ (x : List ℕ). isGiven (f .settings .names x) (recordIn (f .batch) (s .numbers) q)) (ke .same q a b)
 
-  stays-before : s .to + length (oneOrNone row) ≤ s .from + cond held 1 0
-  stays-before =
-      subst (λ (t : Bool). s .to + length (oneOrNone row) ≤ s .from + cond t 1 0) (sym held-is) (stays e passed row numbers′ key-worked)
+    key-worked : KeyWorked f s e passed row numbers′
+    key-worked =
+        record {
+          ended = ke;
+          below = subst (λ (x : List ℕ). AreBelow (s .master) (s .from) (f .end) x passed) ki ab;
+          run =
+              subst (λ (x : Option (List ℕ)). KeyRun (settingUnder (f .settings) (keyNow f s)) (f .batch) (s .position) (e - s .position) x (s .numbers) row numbers′)
+              start-is (run (f .settings .names (keyNow f s)) marked-here);
+        }
 
-  held-in : s .from + passed + cond held 1 0 ≤ f .end
-  held-in = go held hi
-    where
-      go : (t : Bool) → t ≡ isRowOf m₁ (s .from + passed) (f .end) key → s .from + passed + cond t 1 0 ≤ f .end
-      go false x = omega (arith, ab .within)
-      go true x =
-          let a = ltb-true (s .from + passed) (f .end) (and-left (ltb (s .from + passed) (f .end)) _ (sym x)) in
-          omega (arith, a)
+    stays-before : s .to + length (oneOrNone row) ≤ s .from + cond held 1 0
+    stays-before =
+        subst (λ (t : Bool). s .to + length (oneOrNone row) ≤ s .from + cond t 1 0) (sym held-is) (stays e passed row numbers′ key-worked)
 
-  -- the key's row has room in the buffer
-  pub put-room : f .end * 200 ≤ length (s .master) → (s .to + passed + length (oneOrNone row)) * 200 ≤ length m₁
-  put-room l = omega (arith, stays-before, held-in, pulled .same-length)
+    held-in : s .from + passed + cond held 1 0 ≤ f .end
+    held-in = go held hi
+      where
+        go : (t : Bool) → t ≡ isRowOf m₁ (s .from + passed) (f .end) key → s .from + passed + cond t 1 0 ≤ f .end
+        go false x = omega (arith, ab .within)
+        go true x =
+            let a = ltb-true (s .from + passed) (f .end) (and-left (ltb (s .from + passed) (f .end)) _ (sym x)) in
+            omega (arith, a)
 
-  pub key-walked : (m₂ : List ℕ) (next : ℕ) → RowOfPut m₁ (s .to + passed) row m₂ next → (one : ℕ) → one ≡ cond held 1 0
-      → KeyWalked f s (record { position = e; from = s .from + passed + one; to = next; master = m₂; numbers = numbers′ })
-  key-walked m₂ next put one oi =
-      record {
-        passed = passed;
-        row = row;
-        worked = key-worked;
-        from-is = ap (λ (x : ℕ). s .from + passed + x) (oi ∙ ap (λ (t : Bool). cond t 1 0) held-is);
-        to-is = put .next-is;
-        rows-are = put .rows-are ∙ ap (λ (x : List (List ℕ)). x ++ oneOrNone row) (pulled .rows-are);
-        rest-kept =
-            kept-further m₂ m₁ (next * 200) ((s .from + passed + one) * 200) (omega (arith, put .next-is, stays-before, oi)) (put .rest-kept)
-            ∙ kept-further m₁ (s .master) ((s .from + passed) * 200) ((s .from + passed + one) * 200) (omega arith) (pulled .rest-kept);
-      }
+    -- the key's row has room in the buffer
+    pub put-room : f .end * 200 ≤ length (s .master) → (s .to + passed + length (oneOrNone row)) * 200 ≤ length m₁
+    put-room l = omega (arith, stays-before, held-in, pulled .same-length)
+
+    pub key-walked : (m₂ : List ℕ) (next : ℕ) → RowOfPut m₁ (s .to + passed) row m₂ next → (one : ℕ) → one ≡ cond held 1 0
+        → KeyWalked f s (record { position = e; from = s .from + passed + one; to = next; master = m₂; numbers = numbers′ })
+    key-walked m₂ next put one oi =
+        record {
+          passed = passed;
+          row = row;
+          worked = key-worked;
+          from-is = ap (λ (x : ℕ). s .from + passed + x) (oi ∙ ap (λ (t : Bool). cond t 1 0) held-is);
+          to-is = put .next-is;
+          rows-are = put .rows-are ∙ ap (λ (x : List (List ℕ)). x ++ oneOrNone row) (pulled .rows-are);
+          rest-kept =
+              kept-further m₂ m₁ (next * 200) ((s .from + passed + one) * 200) (omega (arith, put .next-is, stays-before, oi)) (put .rest-kept)
+              ∙ kept-further m₁ (s .master) ((s .from + passed) * 200) ((s .from + passed + one) * 200) (omega arith) (pulled .rest-kept);
+        }
 
 -- ---- some of the numbers
 
@@ -106,7 +118,9 @@ usable-less batch numbers own e l u =
 module _ (f : Fixed) (m numbers : List ℕ) (s : Count) where
   pub key-counted : (e passed : ℕ) (key : List ℕ) → IsKeyEnd (f .batch) numbers (s .position) (f .own) e
       → key ≡ keyIn (f .batch) numbers (s .position) → AreBelow m (s .from) (f .end) key passed → (one : ℕ)
-      → one ≡ cond (not (isRowOf m (s .from + passed) (f .end) key) && makesRow (f .setting) (f .batch) numbers (s .position) (e - s .position)) 1 0
+      → ((names : List (List ℕ)) → one
+      ≡ cond (not (isRowOf m (s .from + passed) (f .end) key)
+      && makesRow (settingOf (f .settings .state) (f .settings .year) (f .settings .list) names) (f .batch) numbers (s .position) (e - s .position)) 1 0)
       → KeyCounted f m numbers s (record { position = e; from = s .from + passed; new = s .new + one })
   key-counted e passed key ke ki ab one oi =
       record {
@@ -116,7 +130,9 @@ module _ (f : Fixed) (m numbers : List ℕ) (s : Count) where
         from-is = refl;
         new-is =
             ap (λ (x : ℕ). s .new + x)
-            (oi ∙ ap (λ (x : List ℕ). cond (not (isRowOf m (s .from + passed) (f .end) x) && makesRow (f .setting) (f .batch) numbers (s .position) (e - s .position)) 1 0) ki);
+            (oi (f .settings .names (keyIn (f .batch) numbers (s .position)))
+            ∙ ap (λ (x : List ℕ). cond (not (isRowOf m (s .from + passed) (f .end) x)
+            && makesRow (settingUnder (f .settings) (keyIn (f .batch) numbers (s .position))) (f .batch) numbers (s .position) (e - s .position)) 1 0) ki);
       }
 
 -- a row that has a key is there

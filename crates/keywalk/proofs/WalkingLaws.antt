@@ -8,7 +8,7 @@ use mathlib.Core.Option.{Option, none, some}
 use native.Mathlib.Omega.{arith}
 use borrow.Author.Tests.{ltb-true, ltb-false}
 use lib.Dec.{ltb}
-use lib.ListN.{length, take, drop, length-append, length-drop, drop-of-length-le}
+use lib.ListN.{length, take, drop, getD, length-append, length-drop, drop-of-length-le}
 use Rattle.text.specs.Blocks.{blocks}
 use Rattle.casemaster.specs.Row.{rowKey}
 use Rattle.casemaster.specs.Rows.{rowWith, withStored}
@@ -16,26 +16,32 @@ use Rattle.casemaster.specs.Master.{rowsOf, keysOf}
 use Rattle.text.proofs.BlocksLaws.{length-blocks, blocks-get, blocks-split, kept-further}
 use Rattle.text.proofs.FieldsLaws.{and-left}
 use Rattle.onecase.specs.Verdict.{judgement, noJudgement}
-use Rattle.keyorder.specs.Order.{detailAt}
+use Rattle.keyorder.specs.Order.{detailAt, isMarked}
+use Rattle.keyorder.specs.KeyWork.{recordIn, SameSlots, KeyRun}
+use Rattle.layout.specs.Batch.{recordAt}
+use Rattle.layout.specs.Record.{recordKey}
+use Rattle.judging.specs.Setting.{Setting}
+use Rattle.judging.specs.Errors.{isGiven}
 use Rattle.turns.specs.Turns.{finalRows}
 use Rattle.keywalk.specs.Walk.{distinct, keyRow, workedKeys}
 use Rattle.text.proofs.WidthLaws.{blocks-wide}
 use Rattle.keywalk.proofs.KeyOrderLaws.{verdict-under}
-use Rattle.keywalk.specs.Walking.{isRowOf, rowOfKey, rowsFrom, oneOrNone, HasVerdict, OrderReady, Fixed, Stand, keyNow, hasRow, rowNow, verdictAt, KeyWorked, KeyWalked, WalkReady, Walked}
-use Rattle.keyorder.proofs.KeyWorkLaws.{run-length, run-index}
+use Rattle.keywalk.specs.Walking.{isRowOf, rowOfKey, rowsFrom, oneOrNone, HasVerdict, OrderReady, AreMarked, Fixed, Stand, keyNow, hasRow, rowNow, verdictAt, KeyWorked, KeyWalked, WalkReady, Walked}
+use Rattle.keyorder.proofs.KeyWorkLaws.{run-slots}
 use Rattle.keywalk.proofs.GroupLaws.{detailsFrom, IsStart, Group}
 use Rattle.keywalk.proofs.KeysLaws as Keys
 use Rattle.keywalk.proofs.KeysLaws.{SameIndexes, indexes-self}
 use Rattle.keywalk.proofs.PassLaws.{AllBelow, FirstNotBelow, isKeyOf, firstOf, behindKey, below-append, below-more, parted-find, parted-stored}
 use Rattle.keywalk.proofs.StandLaws.{from-split, below-pass, none-back, first-is, behind-is}
-use Rattle.keywalk.proofs.MarkLaws.{Holding, RunResult, run-result, run-kept, moved}
+use Rattle.keywalk.proofs.NotedLaws.{Holding, RunResult, run-result, run-kept, moved}
 use Rattle.keywalk.proofs.WalkLaws.{worked-low, worked-length, worked-final, worked-fit, worked-other, keyRow-key, length-own, run-stays}
 use Rattle.turns.specs.Under.{detailsUnder, runRow}
+use Rattle.turns.specs.Settings.{settingUnder}
 use Rattle.casemaster.proofs.RowsLaws.{Fit, rows-rise}
 use Rattle.text.specs.ByteOrder.{orderOf, isLess, rising}
 
 module _ (f : Fixed) (s₀ : Stand) (w : WalkReady f s₀) where
-  abbrev o : OrderReady (f .setting .state) (f .batch) (f .count) (f .own) (s₀ .numbers)
+  abbrev o : OrderReady (f .settings .state) (f .batch) (f .count) (f .own) (s₀ .numbers)
   o = w .ordered
 
   abbrev details : List (List ℕ)
@@ -71,13 +77,13 @@ module _ (f : Fixed) (s₀ : Stand) (w : WalkReady f s₀) where
         sound = w .sound;
       }
 
-  final-is : workedKeys (f .setting) details (distinct keys) rows₀ ≡ finalRows (f .setting) rows₀ details
+  final-is : workedKeys (f .settings) details (distinct keys) rows₀ ≡ finalRows (f .settings) rows₀ details
   final-is =
-      worked-final (f .setting) (o .in-order) (f .own) (Keys.own-order o) (o .own-low) (Keys.high o) rows₀ (w .listed) (Keys.records o) (fit₀ .wide) (fit₀ .sound)
+      worked-final (f .settings) (o .in-order) (f .own) (Keys.own-order o) (o .own-low) (Keys.high o) rows₀ (w .listed) (Keys.records o) (fit₀ .wide) (fit₀ .sound)
 
-  final-length : length (finalRows (f .setting) rows₀ details) ≡ f .end
+  final-length : length (finalRows (f .settings) rows₀ details) ≡ f .end
   final-length =
-      let a = worked-length (f .setting) details (Keys.records o) (w .listed) (distinct keys) rows₀ (Keys.rises o 0) (fit₀ .wide) (fit₀ .sound) in
+      let a = worked-length (f .settings) details (Keys.records o) (w .listed) (distinct keys) rows₀ (Keys.rises o 0) (fit₀ .wide) (fit₀ .sound) in
       let b : length rows₀ ≡ f .end - s₀ .from = length-blocks 200 (f .end - s₀ .from) (drop (s₀ .from * 200) (s₀ .master)) in
       ap length (sym final-is) ∙ a ∙ omega (arith, b, w .room, w .within)
 
@@ -92,11 +98,12 @@ module _ (f : Fixed) (s₀ : Stand) (w : WalkReady f s₀) where
     pub rows-kept : drop (f .end * 200) (s .master) ≡ drop (f .end * 200) (s₀ .master)
     pub numbers-kept : drop (f .count) (s .numbers) ≡ drop (f .count) (s₀ .numbers)
     pub same : SameIndexes (s₀ .numbers) (s .numbers)
+    pub marks : (q : ℕ) → isMarked (getD (s .numbers) q 0) ≡ isMarked (getD (s₀ .numbers) q 0)
     pub fit : Fit (rowsAt s)
-    pub whole : workedKeys (f .setting) details (distinct (drop (s .position) keys)) (rowsAt s) ≡ finalRows (f .setting) rows₀ details
+    pub whole : workedKeys (f .settings) details (distinct (drop (s .position) keys)) (rowsAt s) ≡ finalRows (f .settings) rows₀ details
     pub untouched : (q : ℕ) → s .position ≤ q → q < f .own → rowWith (key q) (rowsAt s) ≡ rowWith (key q) rows₀
     pub below : (q : ℕ) → s .position ≤ q → q < f .own → AllBelow (key q) (rowsOf (s .to) (s .master))
-    pub marked : (q : ℕ) → q < s .position → HasVerdict (s .numbers) (at q) (verdictAt f s₀ q)
+    pub noted : (q : ℕ) → q < s .position → HasVerdict (s .numbers) (at q) (verdictAt f s₀ q)
 
   pub walking-start : s₀ .position ≡ 0 → s₀ .to ≡ 0 → Walking s₀
   unfolding blocks
@@ -110,12 +117,19 @@ module _ (f : Fixed) (s₀ : Stand) (w : WalkReady f s₀) where
         rows-kept = refl;
         numbers-kept = refl;
         same = indexes-self (s₀ .numbers);
+        marks = λ q. refl;
         fit = rw te fit₀;
         whole = rw (pe, te) final-is;
         untouched = λ q a b. rw te;
         below = λ q a b. rw te tt;
-        marked = λ q l. absurd (omega (arith, pe));
+        noted = λ q l. absurd (omega (arith, pe));
       }
+
+  -- the marks say at each place what they said at the start
+  pub walking-marked : (s : Stand) → Walking s → AreMarked (f .settings .names) (f .batch) (f .own) (s .numbers)
+  walking-marked s g q l =
+      let r : recordIn (f .batch) (s .numbers) q ≡ recordIn (f .batch) (s₀ .numbers) q = ap (recordAt (f .batch)) (g .same .indexes q) in
+      g .marks q ∙ w .marked q l ∙ ap (λ (x : List ℕ). isGiven (f .settings .names (recordKey x)) x) (sym r)
 
   -- ---- one key
 
@@ -186,7 +200,15 @@ module _ (f : Fixed) (s₀ : Stand) (w : WalkReady f s₀) where
       inside : (q : ℕ) → q < p + (e - p) → q < f .count
       inside q b = omega (arith, kw .ended .within, o .own-in, kw .ended .later)
 
-      holding : Holding (f .setting) (f .batch) details order p (p + (e - p)) (s .numbers)
+      abbrev setting : Setting
+      setting = settingUnder (f .settings) k
+
+      -- the key's details worked under its setting
+      run-here : KeyRun setting (f .batch) p (e - p) (rowNow f s passed) (s .numbers) row numbers′
+      run-here =
+          subst (λ (x : List ℕ). KeyRun (settingUnder (f .settings) x) (f .batch) p (e - p) (rowNow f s passed) (s .numbers) row numbers′) key-is (kw .run)
+
+      holding : Holding setting (f .batch) details order p (p + (e - p)) (s .numbers)
       holding =
           record {
             index-is = λ q a b. Keys.index-is o (g .same) q (inside q b);
@@ -195,17 +217,17 @@ module _ (f : Fixed) (s₀ : Stand) (w : WalkReady f s₀) where
             apart = λ q r a b c. Keys.apart o q r b (inside r c);
           }
 
-      ran : RunResult (f .setting) (f .batch) details order p (e - p) (rowNow f s passed) (s .numbers) row numbers′
-      ran = run-result (f .setting) (f .batch) details order p (e - p) (rowNow f s passed) (s .numbers) row numbers′ holding (kw .run)
+      ran : RunResult setting (f .batch) details order p (e - p) (rowNow f s passed) (s .numbers) row numbers′
+      ran = run-result setting (f .batch) details order p (e - p) (rowNow f s passed) (s .numbers) row numbers′ holding run-here
 
-      row-is : row ≡ keyRow (f .setting) details k here
+      row-is : row ≡ keyRow (f .settings) details k here
       row-is = ran .row-is ∙ rw (start-is, Keys.all-under o (g .same) l (kw .ended) (g .start l))
 
       -- where the machine leaves no row there was none
       none-there : row ≡ none → isKeyOf k back ≡ false
       none-there n = go (isKeyOf k back) refl (firstOf k back) refl (sym row-is ∙ n)
         where
-          go : (t : Bool) → isKeyOf k back ≡ t → (x : Option (List ℕ)) → firstOf k back ≡ x → keyRow (f .setting) details k here ≡ none → t ≡ false
+          go : (t : Bool) → isKeyOf k back ≡ t → (x : Option (List ℕ)) → firstOf k back ≡ x → keyRow (f .settings) details k here ≡ none → t ≡ false
           go false b x e n = refl
           go true b none e n = absurd (gone back b e)
             where
@@ -217,7 +239,7 @@ module _ (f : Fixed) (s₀ : Stand) (w : WalkReady f s₀) where
                   some-none e = let z : _≡_ {A = ℕ} 0 1 = cc in omega arith
           go true b (some x) e n =
               let a : rowWith k here ≡ some x = ap (rowWith k) here-is ∙ parted-find k front back front-below back-none rise ∙ e in
-              let t = run-stays (f .setting) k (detailsUnder k details) x in
+              let t = run-stays setting k (detailsUnder k details) x in
               let c : some (t .0) ≡ none = sym (t .1) ∙ (rw a at n) in
               let z : _≡_ {A = ℕ} 0 1 = cc in
               absurd (omega arith)
@@ -226,26 +248,26 @@ module _ (f : Fixed) (s₀ : Stand) (w : WalkReady f s₀) where
       rest = behindKey k back
 
       -- the rows with the key's row put back
-      stored-is : withStored (keyRow (f .setting) details k here) here ≡ front ++ (oneOrNone row ++ rest)
+      stored-is : withStored (keyRow (f .settings) details k here) here ≡ front ++ (oneOrNone row ++ rest)
       stored-is =
           ap (λ (o : Option (List ℕ)). withStored o here) (sym row-is)
           ∙ ap (withStored row) here-is
           ∙ parted-stored k front back front-below back-none rise row
-          (λ row e. keyRow-key (f .setting) details (Keys.records o) k here (g .fit .wide) row (sym row-is ∙ e)) none-there
+          (λ row e. keyRow-key (f .settings) details (Keys.records o) k here (g .fit .wide) row (sym row-is ∙ e)) none-there
 
-      whole-next : workedKeys (f .setting) details (distinct (drop e keys)) (front ++ (oneOrNone row ++ rest)) ≡ finalRows (f .setting) rows₀ details
+      whole-next : workedKeys (f .settings) details (distinct (drop e keys)) (front ++ (oneOrNone row ++ rest)) ≡ finalRows (f .settings) rows₀ details
       unfolding workedKeys
       whole-next =
-          let a : workedKeys (f .setting) details (k ∷ distinct (drop e keys)) here ≡ finalRows (f .setting) rows₀ details = rw (Keys.keys-next o (g .same) l (kw .ended) (g .start l)) at (g .whole) in
-          subst (λ (x : List (List ℕ)). workedKeys (f .setting) details (distinct (drop e keys)) x ≡ finalRows (f .setting) rows₀ details) stored-is a
+          let a : workedKeys (f .settings) details (k ∷ distinct (drop e keys)) here ≡ finalRows (f .settings) rows₀ details = rw (Keys.keys-next o (g .same) l (kw .ended) (g .start l)) at (g .whole) in
+          subst (λ (x : List (List ℕ)). workedKeys (f .settings) details (distinct (drop e keys)) x ≡ finalRows (f .settings) rows₀ details) stored-is a
 
       fit-next : Fit (front ++ (oneOrNone row ++ rest))
-      fit-next = rw stored-is at (worked-fit (f .setting) details (Keys.records o) (w .listed) k here (g .fit))
+      fit-next = rw stored-is at (worked-fit (f .settings) details (Keys.records o) (w .listed) k here (g .fit))
 
       length-next : length (front ++ (oneOrNone row ++ rest)) ≤ f .end
       length-next =
-          let a = worked-low (f .setting) details (Keys.records o) (w .listed) (distinct (drop e keys)) (front ++ (oneOrNone row ++ rest)) (Keys.rises o e) (fit-next .wide) (fit-next .sound) in
-          let b : length (workedKeys (f .setting) details (distinct (drop e keys)) (front ++ (oneOrNone row ++ rest))) ≡ f .end = ap length whole-next ∙ final-length in
+          let a = worked-low (f .settings) details (Keys.records o) (w .listed) (distinct (drop e keys)) (front ++ (oneOrNone row ++ rest)) (Keys.rises o e) (fit-next .wide) (fit-next .sound) in
+          let b : length (workedKeys (f .settings) details (distinct (drop e keys)) (front ++ (oneOrNone row ++ rest))) ≡ f .end = ap length whole-next ∙ final-length in
           omega (arith, a, b)
 
       rest-from : rowsFrom (place + cond (hasRow f s passed) 1 0) (f .end) m ≡ rest
@@ -283,39 +305,39 @@ module _ (f : Fixed) (s₀ : Stand) (w : WalkReady f s₀) where
           go : (y : Option (List ℕ)) → row ≡ y → AllBelow (key q) (oneOrNone y)
           go none x = tt
           go (some y) x =
-              let r : rowKey y ≡ k = keyRow-key (f .setting) details (Keys.records o) k here (g .fit .wide) y (sym row-is ∙ x) in
+              let r : rowKey y ≡ k = keyRow-key (f .settings) details (Keys.records o) k here (g .fit .wide) y (sym row-is ∙ x) in
               (rw r (later-above q a b), tt)
 
       -- the verdicts on the key's details
-      marked-now : (j : ℕ) → j < e - p → HasVerdict numbers′ (at (p + j)) (verdictAt f s₀ (p + j))
-      marked-now j b =
+      noted-now : (j : ℕ) → j < e - p → HasVerdict numbers′ (at (p + j)) (verdictAt f s₀ (p + j))
+      noted-now j b =
           let kq : key (p + j) ≡ k = group .same (p + j) (omega arith) (omega arith) in
-          let v = verdict-under (f .setting) rows₀ details (at (p + j)) noJudgement (rw (Keys.count-details o) (Keys.at-inside o (p + j) (inside (p + j) (omega arith)))) (Keys.records o) (fit₀ .wide) in
+          let v = verdict-under (f .settings) rows₀ details (at (p + j)) noJudgement (rw (Keys.count-details o) (Keys.at-inside o (p + j) (inside (p + j) (omega arith)))) (Keys.records o) (fit₀ .wide) in
           let u : detailsUnder k (take (at (p + j)) details) ≡ detailsFrom details order p j =
           Keys.some-under o (g .same) l (kw .ended) (g .start l) j b in
           let n : rowNow f s passed ≡ rowWith k rows₀ = start-is ∙ g .untouched p (omega arith) l in
           let x : verdictAt f s₀ (p + j)
-          ≡ judgement (f .setting) (runRow (f .setting) (rowNow f s passed) (detailsFrom details order p j)) (detailAt details (at (p + j))) =
+          ≡ judgement setting (runRow setting (rowNow f s passed) (detailsFrom details order p j)) (detailAt details (at (p + j))) =
           v ∙ rw (kq, u, n) in
-          subst (HasVerdict numbers′ (at (p + j))) (sym x) (ran .marks j b)
+          subst (HasVerdict numbers′ (at (p + j))) (sym x) (ran .notes j b)
 
-      marked-next : (q : ℕ) → q < e → HasVerdict numbers′ (at q) (verdictAt f s₀ q)
-      marked-next q b = go (ltb q p) refl
+      noted-next : (q : ℕ) → q < e → HasVerdict numbers′ (at q) (verdictAt f s₀ q)
+      noted-next q b = go (ltb q p) refl
         where
           go : (t : Bool) → ltb q p ≡ t → HasVerdict numbers′ (at q) (verdictAt f s₀ q)
           go true t =
               let a = ltb-true q p t in
-              moved (f .setting) (f .batch) details order (s .numbers) numbers′ (at q) _
-              (ran .others (at q) (λ j c e. Keys.apart o q (p + j) (omega (arith, a)) (omega (arith, kw .ended .within, o .own-in)) e)) (g .marked q a)
+              moved setting (f .batch) details order (s .numbers) numbers′ (at q) _
+              (ran .others (at q) (λ j c e. Keys.apart o q (p + j) (omega (arith, a)) (omega (arith, kw .ended .within, o .own-in)) e)) (g .noted q a)
           go false t =
               let a = ltb-false q p t in
               let n : p + (q - p) ≡ q = omega (arith, a) in
-              subst (λ (x : ℕ). HasVerdict numbers′ (at x) (verdictAt f s₀ x)) n (marked-now (q - p) (omega (arith, a)))
+              subst (λ (x : ℕ). HasVerdict numbers′ (at x) (verdictAt f s₀ x)) n (noted-now (q - p) (omega (arith, a)))
 
       untouched-next : (q : ℕ) → e ≤ q → q < f .own → rowWith (key q) (front ++ (oneOrNone row ++ rest)) ≡ rowWith (key q) rows₀
       untouched-next q a b =
           ap (rowWith (key q)) (sym stored-is)
-          ∙ worked-other (f .setting) details (Keys.records o) k here (g .fit .wide) (key q) (Keys.other-key o (g .same) l (kw .ended) (g .start l) q a b)
+          ∙ worked-other (f .settings) details (Keys.records o) k here (g .fit .wide) (key q) (Keys.other-key o (g .same) l (kw .ended) (g .start l) q a b)
           ∙ g .untouched q (omega (arith, kw .ended .later)) b
 
     module _ (s′ : Stand) (k : KeyWalked f s s′) (len : length (s′ .master) ≡ length (s .master)) where
@@ -335,6 +357,9 @@ module _ (f : Fixed) (s₀ : Stand) (w : WalkReady f s₀) where
           ∙ rest-from e (k .passed) (k .row) (s′ .numbers) (k .worked) in
           rw (k .rows-are, a) (append-assoc new (oneOrNone (k .row)) (rest e (k .passed) (k .row) (s′ .numbers) (k .worked)))
 
+      slots : SameSlots (s .numbers) (s′ .numbers)
+      slots = run-slots (settingUnder (f .settings) (keyNow f s)) (f .batch) (s .position) (e - s .position) _ (s .numbers) (k .row) (s′ .numbers) (k .worked .run)
+
       pub walking-next : Walking s′
       walking-next =
           let r = walking-room e (k .passed) (k .row) (s′ .numbers) (k .worked) in
@@ -347,7 +372,7 @@ module _ (f : Fixed) (s₀ : Stand) (w : WalkReady f s₀) where
             len = len ∙ g .len;
             rows-kept = kept-further (s′ .master) (s .master) (s′ .from * 200) (f .end * 200) (omega (arith, k .from-is, i)) (k .rest-kept) ∙ g .rows-kept;
             numbers-kept =
-                run-kept (f .setting) (f .batch) details order (f .count) (s .position) (e - s .position) _ (s .numbers) (k .row) (s′ .numbers)
+                run-kept (settingUnder (f .settings) (keyNow f s)) (f .batch) details order (f .count) (s .position) (e - s .position) _ (s .numbers) (k .row) (s′ .numbers)
                 (λ q a b.
                 rw (Keys.index-is o (g .same) q (inside e (k .passed) (k .row) (s′ .numbers) (k .worked) q b))
                 (Keys.at-inside o q (inside e (k .passed) (k .row) (s′ .numbers) (k .worked) q b)))
@@ -355,11 +380,10 @@ module _ (f : Fixed) (s₀ : Stand) (w : WalkReady f s₀) where
                 ∙ g .numbers-kept;
             same =
                 record {
-                  len = run-length (f .setting) (f .batch) (s .position) (e - s .position) _ (s .numbers) (k .row) (s′ .numbers) (k .worked .run) ∙ g .same .len;
-                  indexes = λ q.
-                      run-index (f .setting) (f .batch) (s .position) (e - s .position) _ (s .numbers) (k .row) (s′ .numbers) (k .worked .run) q
-                      ∙ g .same .indexes q;
+                  len = slots .len ∙ g .same .len;
+                  indexes = λ q. slots .indexes q ∙ g .same .indexes q;
                 };
+            marks = λ q. slots .marks q ∙ g .marks q;
             fit = rw stands (fit-next e (k .passed) (k .row) (s′ .numbers) (k .worked));
             whole = rw stands (whole-next e (k .passed) (k .row) (s′ .numbers) (k .worked));
             untouched = λ q a b. rw stands (untouched-next e (k .passed) (k .row) (s′ .numbers) (k .worked) q a b);
@@ -369,7 +393,7 @@ module _ (f : Fixed) (s₀ : Stand) (w : WalkReady f s₀) where
                 (below-more (key (s .position)) (key q) new (Keys.later-above o (g .same) l (k .worked .ended) (g .start l) q a b)
                 (front-below e (k .passed) (k .row) (s′ .numbers) (k .worked)))
                 (row-below e (k .passed) (k .row) (s′ .numbers) (k .worked) q a b));
-            marked = marked-next e (k .passed) (k .row) (s′ .numbers) (k .worked);
+            noted = noted-next e (k .passed) (k .row) (s′ .numbers) (k .worked);
           }
 
   -- ---- the end
@@ -380,7 +404,7 @@ module _ (f : Fixed) (s₀ : Stand) (w : WalkReady f s₀) where
       let e : s .position ≡ f .own = omega (arith, g .position) in
       let n : length keys ≡ f .own = length-own details order (f .own) (Keys.own-order o) in
       let no-more : drop (s .position) keys ≡ [] = drop-of-length-le keys {i = s .position} (rw n l) in
-      let all : rowsAt s ≡ finalRows (f .setting) rows₀ details = rw no-more at (g .whole) in
+      let all : rowsAt s ≡ finalRows (f .settings) rows₀ details = rw no-more at (g .whole) in
       let a : length (rowsOf (s .to) (s .master)) ≡ s .to = length-blocks 200 (s .to) (s .master) in
       let b : length (rowsFrom (s .from) (f .end) (s .master)) ≡ f .end - s .from = length-blocks 200 (f .end - s .from) (drop (s .from * 200) (s .master)) in
       let c : length (rowsAt s) ≡ f .end = ap length all ∙ final-length in
@@ -392,6 +416,6 @@ module _ (f : Fixed) (s₀ : Stand) (w : WalkReady f s₀) where
             ∙ ap (λ (z : ℕ). rowsOf (s .to) (s .master) ++ rowsFrom z (f .end) (s .master)) (sym x) ∙ all;
         rows-kept = g .rows-kept;
         indexes = g .same .indexes;
-        verdicts = λ q b. g .marked q (omega (arith, e));
+        verdicts = λ q b. g .noted q (omega (arith, e));
         numbers-kept = g .numbers-kept;
       }

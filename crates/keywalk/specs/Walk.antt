@@ -10,7 +10,7 @@ use Rattle.layout.specs.Record.{recordKey}
 use Rattle.keyorder.specs.Order.{detailAt}
 use Rattle.turns.specs.Under.{detailsUnder, runRow}
 use Rattle.turns.specs.Adds.{hasNoRow}
-use Rattle.judging.specs.Setting.{Setting}
+use Rattle.turns.specs.Settings.{Settings, settingUnder}
 
 -- the keys of the details at some indexes
 unfoldable pub keysAt : List (List ℕ) → List ℕ → List (List ℕ)
@@ -27,10 +27,10 @@ unfoldable pub distinct : List (List ℕ) → List (List ℕ)
 distinct [] = []
 distinct (k ∷ ks) = cond (isFirst k ks) (distinct ks) (k ∷ distinct ks)
 
-module _ (setting : Setting) (details : List (List ℕ)) where
+module _ (settings : Settings) (details : List (List ℕ)) where
   -- the row that the machine leaves under a key, from the key's row or none
   abbrev pub keyRow : List ℕ → List (List ℕ) → Option (List ℕ)
-  keyRow key rows = runRow setting (rowWith key rows) (detailsUnder key details)
+  keyRow key rows = runRow (settingUnder settings key) (rowWith key rows) (detailsUnder key details)
 
   -- the rows after some keys, one behind the other
   unfoldable pub workedKeys : List (List ℕ) → List (List ℕ) → List (List ℕ)

@@ -15,15 +15,16 @@ use Rattle.casemaster.specs.Master.{rowsOf, areSoundRows}
 use Rattle.casemaster.specs.Search.{AreBelow}
 use Rattle.layout.specs.Batch.{detailCount}
 use Rattle.onecase.specs.Verdict.{Judgement, noJudgement}
-use Rattle.keyorder.specs.Order.{indexIn, indexesIn, rankAt, noRank, InKeyOrder}
+use Rattle.keyorder.specs.Order.{indexIn, isMarked, indexesIn, rankAt, noRank, InKeyOrder}
 use Rattle.keyorder.specs.Packed.{Packed, IsJudged}
-use Rattle.keyorder.specs.KeyWork.{keyIn, IsKeyEnd, KeyRun, makesRow}
+use Rattle.keyorder.specs.KeyWork.{recordIn, keyIn, IsKeyEnd, KeyRun, makesRow}
 use Rattle.turns.specs.Turns.{finalRows, verdictsOn}
 use Rattle.keywalk.specs.Walk.{keysAt, distinct, newKeys}
 use Rattle.keywalk.specs.declared.walk.Count.{Count}
 use Rattle.keywalk.specs.declared.walk.Cursor.{Cursor}
 use Rattle.judging.specs.State.{rowIf}
-use Rattle.judging.specs.Setting.{Setting, settingOf}
+use Rattle.judging.specs.Errors.{isGiven}
+use Rattle.turns.specs.Settings.{Settings, settingUnder, settingsOf}
 
 -- the row at a place
 abbrev pub rowIn : List ℕ → ℕ → List ℕ
@@ -65,9 +66,14 @@ pub record OrderReady (state batch : List ℕ) (d own : ℕ) (numbers : List ℕ
   pub own-low : (q : ℕ) → q < own → rankAt state (blocks 245 d batch) (getD (indexesIn d numbers) q 0) < noRank
   pub own-high : (q : ℕ) → own ≤ q → q < d → rankAt state (blocks 245 d batch) (getD (indexesIn d numbers) q 0) ≡ noRank
 
+-- each of the first own numbers is marked exactly where the name of its detail is among those given under its key
+abbrev pub AreMarked : (List ℕ → List (List ℕ)) → List ℕ → ℕ → List ℕ → Type 0
+AreMarked names batch own numbers =
+    (q : ℕ) → q < own → isMarked (getD numbers q 0) ≡ isGiven (names (keyIn batch numbers q)) (recordIn batch numbers q)
+
 -- what stays the same while the keys are worked
 pub record Fixed : Type 0 where
-  pub setting : Setting
+  pub settings : Settings
   pub batch : List ℕ
   -- how many details there are, and how many of them are of own keys: the first in key order
   pub count : ℕ
@@ -77,7 +83,13 @@ pub record Fixed : Type 0 where
 
 abbrev pub fixedOf : List ℕ → ℕ → List ℕ → List ℕ → ℕ → ℕ → Fixed
 fixedOf state year list batch own end =
-    record { setting = settingOf state year list; batch = batch; count = detailCount batch; own = own; end = end }
+    record {
+      settings = settingsOf state year list (blocks 245 (detailCount batch) batch);
+      batch = batch;
+      count = detailCount batch;
+      own = own;
+      end = end;
+    }
 
 -- where the walk stands: the position in the key order, the first row not yet passed, the place that the next row goes to, the master's
 -- bytes and the numbers of the verdict list
@@ -101,12 +113,12 @@ ownKeys f numbers = keysAt (blocks 245 (f .count) (f .batch)) (take (f .own) (in
 
 -- how many of them, each counted once, are new beside some rows
 abbrev pub newOwnKeys : Fixed → List ℕ → List (List ℕ) → ℕ
-newOwnKeys f numbers rows = newKeys (f .setting) (blocks 245 (f .count) (f .batch)) (distinct (ownKeys f numbers)) rows
+newOwnKeys f numbers rows = newKeys (f .settings) (blocks 245 (f .count) (f .batch)) (distinct (ownKeys f numbers)) rows
 
 -- 1 where the key of the details at positions p up to e has no row at a place and one of them makes one, else 0
 abbrev pub newRow : Fixed → List ℕ → List ℕ → ℕ → ℕ → ℕ → ℕ
 newRow f m numbers p e at =
-    cond (not (isRowOf m at (f .end) (keyIn (f .batch) numbers p)) && makesRow (f .setting) (f .batch) numbers p (e - p)) 1 0
+    cond (not (isRowOf m at (f .end) (keyIn (f .batch) numbers p)) && makesRow (settingUnder (f .settings) (keyIn (f .batch) numbers p)) (f .batch) numbers p (e - p)) 1 0
 
 -- one key counted: the rows below it passed, and one more new row where it has none and one of its details makes one
 pub record KeyCounted (f : Fixed) (m numbers : List ℕ) (s s′ : Count) : Type 0 where
@@ -132,7 +144,7 @@ rowNow f s passed = rowOfKey (s .master) (s .from + passed) (f .end) (keyNow f s
 pub record KeyWorked (f : Fixed) (s : Stand) (e passed : ℕ) (row : Option (List ℕ)) (numbers′ : List ℕ) : Type 0 where
   pub ended : IsKeyEnd (f .batch) (s .numbers) (s .position) (f .own) e
   pub below : AreBelow (s .master) (s .from) (f .end) (keyNow f s) passed
-  pub run : KeyRun (f .setting) (f .batch) (s .position) (e - s .position) (rowNow f s passed) (s .numbers) row numbers′
+  pub run : KeyRun (settingUnder (f .settings) (keyNow f s)) (f .batch) (s .position) (e - s .position) (rowNow f s passed) (s .numbers) row numbers′
 
 -- one key walked: the rows below it passed, its details worked, its row, if it has one then, put in behind them
 pub record KeyWalked (f : Fixed) (s s′ : Stand) : Type 0 where
@@ -151,10 +163,11 @@ StaysBefore f s =
     (e passed : ℕ) (row : Option (List ℕ)) (numbers′ : List ℕ) → KeyWorked f s e passed row numbers′
     → s .to + length (oneOrNone row) ≤ s .from + cond (hasRow f s passed) 1 0
 
--- what the walk is given: all details in key order, the rows from a place on, and before them space for the new ones
+-- what the walk is given: all details in key order and marked by name, the rows from a place on, and before them space for the new ones
 pub record WalkReady (f : Fixed) (s : Stand) : Type 0 where
-  pub listed : isLocalList (f .setting .list) ≡ true
-  pub ordered : OrderReady (f .setting .state) (f .batch) (f .count) (f .own) (s .numbers)
+  pub listed : isLocalList (f .settings .list) ≡ true
+  pub ordered : OrderReady (f .settings .state) (f .batch) (f .count) (f .own) (s .numbers)
+  pub marked : AreMarked (f .settings .names) (f .batch) (f .own) (s .numbers)
   pub within : s .from ≤ f .end
   pub rows-in : f .end * 200 ≤ length (s .master)
   pub sound : areSoundRows (rowsFrom (s .from) (f .end) (s .master)) ≡ true
@@ -163,13 +176,13 @@ pub record WalkReady (f : Fixed) (s : Stand) : Type 0 where
 -- the verdict of the detail at position q of the key order, on the rows that the walk starts from
 abbrev pub verdictAt : Fixed → Stand → ℕ → Judgement
 verdictAt f s q =
-    getD (verdictsOn (f .setting) (rowsFrom (s .from) (f .end) (s .master)) (blocks 245 (f .count) (f .batch)))
+    getD (verdictsOn (f .settings) (rowsFrom (s .from) (f .end) (s .master)) (blocks 245 (f .count) (f .batch)))
     (getD (indexesIn (f .count) (s .numbers)) q 0) noJudgement
 
 -- what it leaves: the rows after all details, and the verdict of each detail of an own key beside an index
 pub record Walked (f : Fixed) (s : Stand) (master′ numbers′ : List ℕ) : Type 0 where
   pub rows-are : rowsOf (f .end) master′
-      ≡ finalRows (f .setting) (rowsFrom (s .from) (f .end) (s .master)) (blocks 245 (f .count) (f .batch))
+      ≡ finalRows (f .settings) (rowsFrom (s .from) (f .end) (s .master)) (blocks 245 (f .count) (f .batch))
   pub rows-kept : drop (f .end * 200) master′ ≡ drop (f .end * 200) (s .master)
   pub indexes : (q : ℕ) → indexIn (getD numbers′ q 0) ≡ indexIn (getD (s .numbers) q 0)
   pub verdicts : (q : ℕ) → q < f .own → HasVerdict numbers′ (getD (indexesIn (f .count) (s .numbers)) q 0) (verdictAt f s q)

@@ -9,7 +9,8 @@ use text::fields;
 use turns::adds;
 ghost use mathlib.Core.Path.{_≡_};
 ghost use mathlib.Core.Bool.{true, not, cond, _&&_};
-ghost use Prim.Native.Nat.{_+_, _*_, _/_, _-_, _≤_, _<_};
+ghost use mathlib.Core.List.{List};
+ghost use Prim.Native.Nat.{ℕ, _+_, _*_, _/_, _-_, _≤_, _<_};
 ghost use lib.ListN.{length};
 ghost use Rattle.layout.specs.Locals.{isLocalList};
 ghost use Rattle.layout.specs.Batch.{detailCount};
@@ -18,7 +19,7 @@ ghost use Rattle.judging.specs.State.{rowIf};
 ghost use Rattle.judging.specs.Setting.{settingOf};
 ghost use Rattle.onecase.specs.Machine.{rowOf};
 ghost use Rattle.keyorder.specs.KeyWork.{Usable, makesRow};
-ghost use Rattle.keywalk.specs.Walking.{rowIn, isRowOf, oneOrNone, RowOfPut, OrderReady, fixedOf, standOf, startOf, newOwnKeys, KeyCounted, KeyWalked, StaysBefore, WalkReady, Walked};
+ghost use Rattle.keywalk.specs.Walking.{rowIn, isRowOf, oneOrNone, RowOfPut, OrderReady, AreMarked, fixedOf, standOf, startOf, newOwnKeys, KeyCounted, KeyWalked, StaysBefore, WalkReady, Walked};
 
 // How far the count of new rows has come: the position in the key order, the first row not yet passed, and the new rows so far.
 pub struct Count {
@@ -74,7 +75,7 @@ fn put_row_of(m: &mut [u8], p: usize, case: Case) -> usize
     p
 }
 
-// 1 where a key has no row at a place and one of its details, at positions p up to e, makes one; else 0.
+// 1 where a key has no row at a place and one of its details, at positions p up to e, makes one, whatever names are given; else 0.
 fn new_row(
     m: &[u8],
     at: usize,
@@ -89,8 +90,8 @@ fn new_row(
     list: &[u8],
 ) -> usize
     requires { ⌜ (at ≤ n) × (n * 200 ≤ length (now m)) × (p ≤ e) × Usable (now batch) (now numbers) e ⌝ }
-    ensures { λ r. ⌜ r ≡ cond (not (isRowOf (now (m .entry)) at n (now (key .entry)))
-        && makesRow (settingOf (now (state .entry)) year (now (list .entry))) (now (batch .entry)) (now (numbers .entry)) p (e - p)) 1 0 ⌝ }
+    ensures { λ r. ⌜ ((names : List (List ℕ)) → r ≡ cond (not (isRowOf (now (m .entry)) at n (now (key .entry)))
+        && makesRow (settingOf (now (state .entry)) year (now (list .entry)) names) (now (batch .entry)) (now (numbers .entry)) p (e - p)) 1 0) ⌝ }
     ensures { λ r. ⌜ r ≤ 1 ⌝ }
 {
     if is_row_of(m, at, n, key) {
@@ -196,6 +197,7 @@ fn walk_key(
     requires { ⌜ (s .position < own) × Usable (now batch) (now numbers) own ⌝ }
     requires { ⌜ (s .to ≤ s .from) × (s .from ≤ end) × (end * 200 ≤ length (now m)) ⌝ }
     requires { ⌜ StaysBefore (fixedOf (now state) year (now list) (now batch) own end) (standOf s (now m) (now numbers)) ⌝ }
+    requires { ⌜ AreMarked (fixedOf (now state) year (now list) (now batch) own end .settings .names) (now batch) own (now numbers) ⌝ }
     ensures { λ r. ⌜ KeyWalked (fixedOf (now (state .entry)) year (now (list .entry)) (now (batch .entry)) own end)
         (standOf s (now (m .entry)) (now (numbers .entry))) (standOf r (now (m .exit)) (now (numbers .exit))) ⌝ }
 {

@@ -1,4 +1,4 @@
--- What the layers above use of a judgement: its codes rise below 64 and are errors alone or warnings alone, it is warned where it isn't
+-- What the layers above use of a judgement: its codes rise below 64, none is 0, and are errors alone or warnings alone, it is warned where it isn't
 -- rejected and has a code, and it has a name exactly with 17, the row's. Each comes from the list of the codes. Assumes nothing.
 use Prim.Native.Nat.{ℕ}
 use mathlib.Core.Path.{_≡_, refl, sym, ap, _∙_}
@@ -6,6 +6,7 @@ use mathlib.Core.List.{List, [], _∷_, _++_}
 use mathlib.Core.Bool.{Bool, true, false, not, cond, _&&_, _||_, and-true, and-false, or-true, or-false, false≢true, Bool·not-not}
 use mathlib.Core.Option.{Option, none, some}
 use borrow.Author.Tests.{not-true, not-false}
+use lib.Dec.{leb}
 use Rattle.text.specs.Fields.{every, any, columns}
 use Rattle.layout.specs.Codes.{RisingCodes}
 use Rattle.text.proofs.FieldsLaws.{and-left}
@@ -51,6 +52,23 @@ module _ (setting : Setting) (row : Option (List ℕ)) (rec : List ℕ) where
   errors-warnings : any isWarning (errors setting row rec) ≡ false
   unfolding errors
   errors-warnings = simp (any-front, any-only)
+
+  -- no code is 0
+  errors-positive : every (leb 1) (errors setting row rec) ≡ true
+  unfolding errors
+  errors-positive = simp (every-front, every-only)
+
+  warnings-positive : every (leb 1) (warnings (setting .list) row rec) ≡ true
+  unfolding warnings
+  warnings-positive = simp (every-front, every-only)
+
+  all-positive : every (leb 1) (judgement setting row rec .codes) ≡ true
+  unfolding judgement codes
+  all-positive = go (isAccepted setting row rec)
+    where
+      go : (b : Bool) → every (leb 1) (cond b (warnings (setting .list) row rec) (errors setting row rec)) ≡ true
+      go true = warnings-positive
+      go false = errors-positive
 
   warnings-warnings : every isWarning (warnings (setting .list) row rec) ≡ true
   unfolding warnings
@@ -102,6 +120,7 @@ module _ (setting : Setting) (row : Option (List ℕ)) (rec : List ℕ) where
 
 pub record Judged (row : Option (List ℕ)) (j : Judgement) : Type 0 where
   pub rises : RisingCodes 0 64 (j .codes)
+  pub positive : every (leb 1) (j .codes) ≡ true
   pub errors : isRejected j ≡ true → every isError (j .codes) ≡ true
   pub warnings : isRejected j ≡ false → every isWarning (j .codes) ≡ true
   pub warned : isWarned j ≡ (not (isRejected j) && not (isEmpty (j .codes)))
@@ -113,6 +132,7 @@ unfolding judgement
 judged setting row rec =
     record {
       rises = codes-rise setting row rec .rises;
+      positive = all-positive setting row rec;
       errors = all-errors setting row rec;
       warnings = all-warnings setting row rec;
       warned =

@@ -15,12 +15,12 @@ use borrow.Author.Tests.{not-true, not-false}
 use Rattle.layout.specs.Key.{isOwnKey}
 use Rattle.layout.specs.Record.{recordKey, isType}
 use Rattle.judging.proofs.OwnKeyLaws.{other-wrong}
-use Rattle.judging.specs.Errors.{error01, error02, error03, error04, error05, error06, error07, error08, error09, error10, error11, error12, error13, error14, error15, error16, error17, error18, isWrongKey, isLiveRow, isOtherName, judged09, judged17, code, errors}
+use Rattle.judging.specs.Errors.{error01, error02, error03, error04, error05, error06, error07, error08, error09, error10, error11, error12, error13, error14, error15, error16, error17, error18, isWrongKey, isLiveRow, isOtherName, isGiven, judged09, judged17, code, errors}
 use Rattle.judging.specs.Warnings.{warning52, isRenamed, warnings}
 use Rattle.onecase.specs.Verdict.{isEmpty, isAccepted, codes, storedName, judgement, hasCode}
 use Rattle.onecase.specs.Machine.{next}
 use Rattle.text.proofs.BoolLaws.{or-left, and-second}
-use Rattle.judging.specs.Setting.{Setting}
+use Rattle.judging.specs.Setting.{Setting, settingOf}
 
 -- ---- no error
 
@@ -202,30 +202,31 @@ module _ (setting : Setting) (rec : List ℕ) (e : length rec ≡ 245) (f : isOw
 -- ---- 17 is judged of a live row alone
 
 module _ (setting : Setting) (row : Option (List ℕ)) (rec : List ℕ) (t : judged17 setting row rec ≡ true) where
-  rest-17 : (not (error05 rec) && (not (error09 row rec) && error17 row rec)) ≡ true
+  rest-17 : (not (error05 rec) && (not (error09 row rec) && error17 (setting .names) row rec)) ≡ true
   unfolding judged17
   rest-17 = and-right (not (isWrongKey setting rec)) _ (and-right (not (error03 rec)) _ t)
 
-  only-17 : (not (error09 row rec) && error17 row rec) ≡ true
-  only-17 = and-right (not (error05 rec)) (not (error09 row rec) && error17 row rec) rest-17
+  only-17 : (not (error09 row rec) && error17 (setting .names) row rec) ≡ true
+  only-17 = and-right (not (error05 rec)) (not (error09 row rec) && error17 (setting .names) row rec) rest-17
+
+  -- another type, and all names differ
+  differs-17 : (not (isType A rec || isType B rec) && (isOtherName row rec && not (isGiven (setting .names) rec))) ≡ true
+  unfolding error17
+  differs-17 = and-right (not (error09 row rec)) (error17 (setting .names) row rec) only-17
 
   other-type : (isType A rec || isType B rec) ≡ false
-  unfolding error17
-  other-type =
-      not-true (isType A rec || isType B rec)
-      (and-left (not (isType A rec || isType B rec)) (isOtherName row rec) (and-right (not (error09 row rec)) (error17 row rec) only-17))
+  other-type = not-true (isType A rec || isType B rec) (and-left (not (isType A rec || isType B rec)) _ differs-17)
 
   other-name : isOtherName row rec ≡ true
-  unfolding error17
   other-name =
-      and-right (not (isType A rec || isType B rec)) (isOtherName row rec)
-      (and-right (not (error09 row rec)) (error17 row rec) only-17)
+      and-left (isOtherName row rec) (not (isGiven (setting .names) rec))
+      (and-right (not (isType A rec || isType B rec)) (isOtherName row rec && not (isGiven (setting .names) rec)) differs-17)
 
   live-17 : isLiveRow row ≡ true
   unfolding error09
   live-17 =
       let a : isType A rec ≡ false = or-left (isType A rec) (isType B rec) other-type in
-      let n : error09 row rec ≡ false = not-true (error09 row rec) (and-left (not (error09 row rec)) (error17 row rec) only-17) in
+      let n : error09 row rec ≡ false = not-true (error09 row rec) (and-left (not (error09 row rec)) (error17 (setting .names) row rec) only-17) in
       let m : not (isLiveRow row) ≡ false = rw a at n in
       not-false (isLiveRow row) m
 
@@ -236,11 +237,40 @@ dead-17 setting row rec d = go (judged17 setting row rec) refl
     go true e = cc (live-17 setting row rec e)
     go false e = e
 
--- ---- a deleted row
+-- ---- no row
 
 none-dead : isLiveRow none ≡ false
 unfolding isLiveRow
 none-dead = refl
+
+-- without a row the names given have no say
+module _ (state : List ℕ) (year : ℕ) (list rec : List ℕ) (names₁ names₂ : List (List ℕ)) where
+  abbrev first : Setting
+  first = settingOf state year list names₁
+
+  abbrev second : Setting
+  second = settingOf state year list names₂
+
+  alone-17 : judged17 first none rec ≡ judged17 second none rec
+  alone-17 = dead-17 first none rec none-dead ∙ sym (dead-17 second none rec none-dead)
+
+  alone-errors : errors first none rec ≡ errors second none rec
+  unfolding errors judged09 isWrongKey
+  alone-errors = rw alone-17
+
+  alone-accepted : isAccepted first none rec ≡ isAccepted second none rec
+  unfolding isAccepted
+  alone-accepted = ap isEmpty alone-errors
+
+  pub alone-judged : judgement first none rec ≡ judgement second none rec
+  unfolding judgement codes
+  alone-judged = rw (alone-accepted, alone-errors, alone-17)
+
+  pub alone-next : next first none rec ≡ next second none rec
+  unfolding next
+  alone-next = rw alone-accepted
+
+-- ---- a deleted row
 
 module _ (setting : Setting) (r : List ℕ) (rec : List ℕ) (d : isLive r ≡ false) where
   dead : isLiveRow (some r) ≡ false

@@ -1,5 +1,5 @@
 -- Document 01, "One-case machine": its state is one row or none, for one key; its step reads the record, the control record's state,
--- the year and the list, nothing else. Assumes nothing.
+-- the year, the list and, by document 02, item 3, the set of names that the key's own records give, nothing else. Assumes nothing.
 use Prim.Native.Nat.{ℕ}
 use mathlib.Core.Path.{_≡_}
 use mathlib.Core.List.{List}

@@ -1,5 +1,5 @@
 -- Document 01, "Proved table": the ten lines (a)–(j) as one statement, over whole records and, where a line names a field, over the field.
--- The control record's state is OH, the year 2007, the list of local codes empty. Assumes nothing.
+-- The control record's state is OH, the year 2007, the list of local codes empty; no name is given. Assumes nothing.
 use Prim.Native.Nat.{ℕ, _+_, _-_, _^_}
 use mathlib.Core.Path.{_≡_}
 use mathlib.Core.List.{List, [], _∷_, _++_}
@@ -88,10 +88,10 @@ liveRow =
 
 -- the verdict on a record, and the row after it
 unfoldable pub verdict : Option (List ℕ) → List ℕ → Judgement
-verdict row rec = judgement (settingOf ohio 2007 []) row rec
+verdict row rec = judgement (settingOf ohio 2007 [] []) row rec
 
 unfoldable pub after : Option (List ℕ) → List ℕ → Option (List ℕ)
-after row rec = next (settingOf ohio 2007 []) row rec
+after row rec = next (settingOf ohio 2007 [] []) row rec
 
 -- the codes of a verdict, no other, and no stored name
 unfoldable pub gets : List ℕ → Judgement

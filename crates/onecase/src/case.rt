@@ -7,11 +7,14 @@ use judging::judge;
 use judging::warnings;
 use layout::record;
 ghost use mathlib.Core.Path.{_≡_};
+ghost use mathlib.Core.List.{List};
 ghost use mathlib.Core.Option.{none};
+ghost use Prim.Native.Nat.{ℕ};
 ghost use Rattle.onecase.specs.Machine.{applied, next, rowOf, IsStep};
 ghost use Rattle.onecase.specs.Verdict.{IsRejection};
 ghost use Rattle.judging.specs.State.{rowIf, isHeld};
 ghost use Rattle.judging.specs.Setting.{settingOf};
+ghost use Rattle.judging.specs.Parts.{UnderNames};
 
 // One row or none: where no row is held, the bytes stand for nothing.
 pub struct Case {
@@ -72,13 +75,15 @@ fn step_row(
     held: bool,
     row: [u8; 200],
     rec: &[u8; 245],
+    given: bool,
     state: &[u8],
     year: u64,
     list: &[u8],
 ) -> Step
-    ensures { λ r. ⌜ IsStep (settingOf (now (state .entry)) year (now (list .entry))) (rowIf held row) (now (rec .entry)) r ⌝ }
+    ensures { λ r. ⌜ UnderNames given (now (rec .entry)) (λ names.
+        IsStep (settingOf (now (state .entry)) year (now (list .entry)) names) (rowIf held row) (now (rec .entry)) r) ⌝ }
 {
-    let judged = judge::judge(rec, held, &row, state, year, list);
+    let judged = judge::judge(rec, held, &row, given, state, year, list);
     let set = judged.set;
     if set == 0 {
         let warned = warnings::warned(rec, held, &row, list);
@@ -94,14 +99,14 @@ fn step_row(
     Step { case, verdict }
 }
 
-// Whether a record makes a row where there is none: an A without an error. Nothing is written for it.
+// Whether a record makes a row where there is none: an A without an error, whatever names are given. Nothing is written for it.
 pub fn makes_row(rec: &[u8; 245], state: &[u8], year: u64, list: &[u8]) -> bool
-    ensures { λ r. ⌜ r ≡ isHeld (next (settingOf (now (state .entry)) year (now (list .entry))) none (now (rec .entry))) ⌝ }
+    ensures { λ r. ⌜ ((names : List (List ℕ)) → r ≡ isHeld (next (settingOf (now (state .entry)) year (now (list .entry)) names) none (now (rec .entry)))) ⌝ }
 {
     let t = rec[72];
     if t == record::ADD {
         let row = [0x40u8; 200];
-        let judged = judge::judge(rec, false, &row, state, year, list);
+        let judged = judge::judge(rec, false, &row, false, state, year, list);
         judged.set == 0
     } else {
         false
@@ -109,12 +114,13 @@ pub fn makes_row(rec: &[u8; 245], state: &[u8], year: u64, list: &[u8]) -> bool
 }
 
 impl Case {
-    // One record: an error changes nothing.
-    pub fn step(self, rec: &[u8; 245], state: &[u8], year: u64, list: &[u8]) -> Step
-        ensures { λ r. ⌜ IsStep (settingOf (now (state .entry)) year (now (list .entry))) (rowOf self) (now (rec .entry)) r ⌝ }
+    // One record, whose name is `given` by a B record of the key or not: an error changes nothing.
+    pub fn step(self, rec: &[u8; 245], given: bool, state: &[u8], year: u64, list: &[u8]) -> Step
+        ensures { λ r. ⌜ UnderNames given (now (rec .entry)) (λ names.
+            IsStep (settingOf (now (state .entry)) year (now (list .entry)) names) (rowOf self) (now (rec .entry)) r) ⌝ }
     {
         let row = self.row;
         let held = self.held;
-        step_row(held, row, rec, state, year, list)
+        step_row(held, row, rec, given, state, year, list)
     }
 }

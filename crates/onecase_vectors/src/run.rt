@@ -5,7 +5,8 @@
 //   row FIELDS         they start from a live row, SMITH JOHN with 50 dollars, with these fields
 //   A FIELDS           a record of type A on that row
 //   +A FIELDS          a record of type A on what the record before left
-// A record's line with a question mark shows the whole row behind it.
+// A record's line with a question mark shows the whole row behind it. With an exclamation mark the record's name is among those that B
+// records of the key give.
 use crate::print;
 use crate::record;
 use crate::scan;
@@ -27,14 +28,19 @@ struct Stand {
     last: Case,
 }
 
-fn step(case: Case, rec: [u8; 245], control: Control) -> Step {
+fn step(case: Case, rec: [u8; 245], given: bool, control: Control) -> Step {
     let state = control.state;
     let year = control.year;
     if control.listed {
-        case.step(&rec, &state, year, b"\xF0\xF0\xF1\xF0\xF0\xF5")
+        case.step(&rec, given, &state, year, b"\xF0\xF0\xF1\xF0\xF0\xF5")
     } else {
-        case.step(&rec, &state, year, b"")
+        case.step(&rec, given, &state, year, b"")
     }
+}
+
+// Whether a text has a character.
+fn has(text: &[u8], character: u8) -> bool {
+    scan::place(text, 0, character) < text.len()
 }
 
 // The row that a record meets.
@@ -47,8 +53,7 @@ fn show(verdict: Verdict, after: Case, text: &[u8]) {
     vector_text::print::text(b" -> ");
     print::verdict(verdict);
     vector_text::print::text(b", ");
-    let question = scan::place(text, 0, b'?');
-    print::case(after, question < text.len());
+    print::case(after, has(text, b'?'));
 }
 
 // A record: its answer, and where the reading then stands.
@@ -56,7 +61,7 @@ fn recorded(stand: Stand, goes_on: bool, base: [u8; 245], text: &[u8]) -> Stand 
     let rec = record::described(base, text);
     let control = stand.control;
     let start = stand.start;
-    let answer = step(before(stand, goes_on), rec, control);
+    let answer = step(before(stand, goes_on), rec, has(text, b'!'), control);
     let verdict = answer.verdict;
     let last = answer.case;
     show(verdict, last, text);

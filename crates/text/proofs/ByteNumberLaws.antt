@@ -23,12 +23,12 @@ pub bytes-of : (s : List ℕ) → ((i : ℕ) → i < length s → getD s i 0 < 2
 bytes-of [] h = tt
 bytes-of (b ∷ s) h = (h 0 (zero-lt-suc (length s)), bytes-of s (λ i l. h (suc i) (suc-le-suc l)))
 
-bytes-take : (n : ℕ) (s : List ℕ) → AreBytes s → AreBytes (take n s)
+pub bytes-take : (n : ℕ) (s : List ℕ) → AreBytes s → AreBytes (take n s)
 bytes-take zero s h = tt
 bytes-take (suc n) [] h = tt
 bytes-take (suc n) (b ∷ s) h = (h .0, bytes-take n s (h .1))
 
-bytes-drop : (n : ℕ) (s : List ℕ) → AreBytes s → AreBytes (drop n s)
+pub bytes-drop : (n : ℕ) (s : List ℕ) → AreBytes s → AreBytes (drop n s)
 bytes-drop zero s h = h
 bytes-drop (suc n) [] h = tt
 bytes-drop (suc n) (b ∷ s) h = bytes-drop n s (h .1)
@@ -130,6 +130,16 @@ number-order s t e p q = go (stand 0 s t e p q)
     go (level h) = rw (h, order-refl t, le-ltb (bytesNumber t) (bytesNumber t) (omega arith))
     go (above h o) =
         rw (le-ltb (bytesNumber s) (bytesNumber t) (omega arith)) (ap isLess (rw (append-nil s, append-nil t) at (o [] [])))
+
+-- bytes of one length and one number are the same
+pub number-same : (s t : List ℕ) → length s ≡ length t → AreBytes s → AreBytes t → bytesNumber s ≡ bytesNumber t → s ≡ t
+unfolding bytesNumber
+number-same s t e p q n = go (stand 0 s t e p q)
+  where
+    go : Stand 0 s t → s ≡ t
+    go (below h o) = absurd (omega (arith, n))
+    go (level h) = h
+    go (above h o) = absurd (omega (arith, n))
 
 -- in two parts, of which the first decides where it differs
 parts-order : (s t u v : List ℕ) → length s ≡ length t → length u ≡ length v → AreBytes s → AreBytes t → AreBytes u → AreBytes v

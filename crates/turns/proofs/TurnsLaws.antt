@@ -24,6 +24,7 @@ use Rattle.text.proofs.WidthLaws.{All, every-all}
 use Rattle.casemaster.proofs.RowsLaws.{each-sound, found-all, all-put, Each, IsWide, Fit, rows-rise}
 use Rattle.turns.specs.Adds.{hasNoRow, isNew, addsWithoutRow}
 use Rattle.judging.specs.Setting.{Setting}
+use Rattle.turns.specs.Settings.{Settings, settingUnder}
 
 -- ---- the row that a detail finds
 
@@ -74,111 +75,115 @@ module _ (setting : Setting) where
   none-stays none detail e = refl
   none-stays (some row) detail e = let s = row-stays setting row detail in cc (s .1)
 
-  module _ (rows : List (List ℕ)) (detail : List ℕ) (e : length detail ≡ 245) where
-    abbrev after : List (List ℕ)
-    after = afterDetail setting rows detail
+-- the setting is that of the detail's key
+module _ (settings : Settings) (rows : List (List ℕ)) (detail : List ℕ) (e : length detail ≡ 245) where
+  abbrev setting : Setting
+  setting = settingUnder settings (recordKey detail)
 
-    abbrev step : Option (List ℕ)
-    step = next setting (rowWith (recordKey detail) rows) detail
+  abbrev after : List (List ℕ)
+  after = afterDetail settings rows detail
 
-    -- ---- what is found afterwards
+  abbrev step : Option (List ℕ)
+  step = next setting (rowWith (recordKey detail) rows) detail
 
-    step-keyed : All IsWide rows → Each (Keyed detail) step
-    step-keyed w = next-keyed setting (rowWith (recordKey detail) rows) detail e (found-keyed rows detail w)
+  -- ---- what is found afterwards
 
-    -- under the detail's key, what the machine made of the row there
-    pub after-here : All IsWide rows
-        → rowWith (recordKey detail) (afterDetail setting rows detail) ≡ next setting (rowWith (recordKey detail) rows) detail
-    unfolding afterDetail
-    after-here w = go step refl (step-keyed w)
-      where
-        go : (o : Option (List ℕ)) → step ≡ o → Each (Keyed detail) o → rowWith (recordKey detail) (withStored o rows) ≡ o
-        go none h k = none-stays (rowWith (recordKey detail) rows) detail h
-        go (some row) h k = row-with-same (recordKey detail) row rows (k .key)
+  step-keyed : All IsWide rows → Each (Keyed detail) step
+  step-keyed w = next-keyed setting (rowWith (recordKey detail) rows) detail e (found-keyed rows detail w)
 
-    -- under any other, what stood there
-    pub after-other : (key : List ℕ) → All IsWide rows → sameBytes (recordKey detail) key ≡ false
-        → rowWith key (afterDetail setting rows detail) ≡ rowWith key rows
-    unfolding afterDetail
-    after-other key w n = stored-other key rows detail step (step-keyed w) n
+  -- under the detail's key, what the machine made of the row there
+  pub after-here : All IsWide rows
+      → rowWith (recordKey detail) (afterDetail settings rows detail) ≡ next setting (rowWith (recordKey detail) rows) detail
+  unfolding afterDetail
+  after-here w = go step refl (step-keyed w)
+    where
+      go : (o : Option (List ℕ)) → step ≡ o → Each (Keyed detail) o → rowWith (recordKey detail) (withStored o rows) ≡ o
+      go none h k = none-stays setting (rowWith (recordKey detail) rows) detail h
+      go (some row) h k = row-with-same (recordKey detail) row rows (k .key)
 
-    -- ---- rows stay sound, wide and in order
+  -- under any other, what stood there
+  pub after-other : (key : List ℕ) → All IsWide rows → sameBytes (recordKey detail) key ≡ false
+      → rowWith key (afterDetail settings rows detail) ≡ rowWith key rows
+  unfolding afterDetail
+  after-other key w n = stored-other key rows detail step (step-keyed w) n
 
-    pub after-fit : isLocalList (setting .list) ≡ true → Fit rows → Fit (afterDetail setting rows detail)
-    unfolding afterDetail
-    after-fit l f =
-        stored-fit rows detail (next setting (rowWith (recordKey detail) rows) detail)
-        (next-good setting (rowWith (recordKey detail) rows) detail e l (found-good rows detail f)) f
+  -- ---- rows stay sound, wide and in order
 
-    pub after-wide : All IsWide rows → All IsWide (afterDetail setting rows detail)
-    unfolding afterDetail
-    after-wide w = go step (step-keyed w)
-      where
-        go : (o : Option (List ℕ)) → Each (Keyed detail) o → All IsWide (withStored o rows)
-        go none k = w
-        go (some row) k = all-put IsWide row rows (k .wide) w
+  pub after-fit : isLocalList (settings .list) ≡ true → Fit rows → Fit (afterDetail settings rows detail)
+  unfolding afterDetail
+  after-fit l f =
+      stored-fit rows detail (next setting (rowWith (recordKey detail) rows) detail)
+      (next-good setting (rowWith (recordKey detail) rows) detail e l (found-good rows detail f)) f
 
-    pub after-sound : isLocalList (setting .list) ≡ true → All IsWide rows → areSoundRows rows ≡ true
-        → areSoundRows (afterDetail setting rows detail) ≡ true
-    after-sound l w s = after-fit l (record { wide = w; sound = s }) .sound
+  pub after-wide : All IsWide rows → All IsWide (afterDetail settings rows detail)
+  unfolding afterDetail
+  after-wide w = go step (step-keyed w)
+    where
+      go : (o : Option (List ℕ)) → Each (Keyed detail) o → All IsWide (withStored o rows)
+      go none k = w
+      go (some row) k = all-put IsWide row rows (k .wide) w
 
-    -- ---- how many rows there are
+  pub after-sound : isLocalList (settings .list) ≡ true → All IsWide rows → areSoundRows rows ≡ true
+      → areSoundRows (afterDetail settings rows detail) ≡ true
+  after-sound l w s = after-fit l (record { wide = w; sound = s }) .sound
 
-    -- at most one more, and only for a new key
-    pub after-length : All IsWide rows → areSoundRows rows ≡ true
-        → length (afterDetail setting rows detail) ≤ length rows + cond (isNew rows detail) 1 0
-    unfolding afterDetail
-    after-length w s = go step refl (step-keyed w)
-      where
-        put : (row : List ℕ) → step ≡ some row → rowKey row ≡ recordKey detail → (o : Option (List ℕ)) → rowWith (recordKey detail) rows ≡ o
-            → length (withRow row rows) ≤ length rows + cond (isType A detail && hasNoRow o) 1 0
-        put row h k none q =
-            let a : isType A detail ≡ true = only-add-makes setting detail row (rw q at h) in
-            let n : length (withRow row rows) ≡ suc (length rows) = length-added row rows (rw k q) in
-            rw a (omega arith)
-        put row h k (some old) q =
-            let n : length (withRow row rows) ≡ length rows = length-replaced row rows old (rows-rise rows s) (rw k q) in
-            omega arith
+  -- ---- how many rows there are
 
-        go : (o : Option (List ℕ)) → step ≡ o → Each (Keyed detail) o → length (withStored o rows) ≤ length rows + cond (isNew rows detail) 1 0
-        go none h k = omega arith
-        go (some row) h k = put row h (k .key) (rowWith (recordKey detail) rows) refl
+  -- at most one more, and only for a new key
+  pub after-length : All IsWide rows → areSoundRows rows ≡ true
+      → length (afterDetail settings rows detail) ≤ length rows + cond (isNew rows detail) 1 0
+  unfolding afterDetail
+  after-length w s = go step refl (step-keyed w)
+    where
+      put : (row : List ℕ) → step ≡ some row → rowKey row ≡ recordKey detail → (o : Option (List ℕ)) → rowWith (recordKey detail) rows ≡ o
+          → length (withRow row rows) ≤ length rows + cond (isType A detail && hasNoRow o) 1 0
+      put row h k none q =
+          let a : isType A detail ≡ true = only-add-makes setting detail row (rw q at h) in
+          let n : length (withRow row rows) ≡ suc (length rows) = length-added row rows (rw k q) in
+          rw a (omega arith)
+      put row h k (some old) q =
+          let n : length (withRow row rows) ≡ length rows = length-replaced row rows old (rows-rise rows s) (rw k q) in
+          omega arith
 
-    -- a key that has a row keeps it
-    pub missing-after : (key : List ℕ) → All IsWide rows
-        → hasNoRow (rowWith key (afterDetail setting rows detail)) ≡ true → hasNoRow (rowWith key rows) ≡ true
-    missing-after key w m = go (sameBytes (recordKey detail) key) refl
-      where
-        stays : (o : Option (List ℕ)) → hasNoRow (next setting o detail) ≡ true → hasNoRow o ≡ true
-        stays none h = refl
-        stays (some row) h = let t = row-stays setting row detail in rw (t .1) at h
+      go : (o : Option (List ℕ)) → step ≡ o → Each (Keyed detail) o → length (withStored o rows) ≤ length rows + cond (isNew rows detail) 1 0
+      go none h k = omega arith
+      go (some row) h k = put row h (k .key) (rowWith (recordKey detail) rows) refl
 
-        go : (t : Bool) → sameBytes (recordKey detail) key ≡ t → hasNoRow (rowWith key rows) ≡ true
-        go true t =
-            let k : recordKey detail ≡ key = same-eq (recordKey detail) key t in
-            let h : rowWith key after ≡ next setting (rowWith key rows) detail = rw k at (after-here w) in
-            stays (rowWith key rows) (rw h at m)
-        go false t = rw (after-other key w t) at m
+  -- a key that has a row keeps it
+  pub missing-after : (key : List ℕ) → All IsWide rows
+      → hasNoRow (rowWith key (afterDetail settings rows detail)) ≡ true → hasNoRow (rowWith key rows) ≡ true
+  missing-after key w m = go (sameBytes (recordKey detail) key) refl
+    where
+      stays : (o : Option (List ℕ)) → hasNoRow (next (settingUnder settings key) o detail) ≡ true → hasNoRow o ≡ true
+      stays none h = refl
+      stays (some row) h = let t = row-stays (settingUnder settings key) row detail in rw (t .1) at h
 
-    -- so no more details than before have a new key
-    pub new-rows-after : All IsWide rows → (details : List (List ℕ))
-        → addsWithoutRow (afterDetail setting rows detail) details ≤ addsWithoutRow rows details
-    unfolding addsWithoutRow
-    new-rows-after w [] = le-refl 0
-    new-rows-after w (d ∷ details) =
-        omega (
-          arith,
-          new-rows-after w details,
-          go (isType A d) (hasNoRow (rowWith (recordKey d) after)) (hasNoRow (rowWith (recordKey d) rows)) (missing-after (recordKey d) w),
-        )
-      where
-        go : (a b c : Bool) → (b ≡ true → c ≡ true) → cond (a && b) 1 0 ≤ cond (a && c) 1 0
-        go a false c h = rw (and-false a) (omega arith)
-        go a true c h = rw (h refl) (le-refl (cond (a && true) 1 0))
+      go : (t : Bool) → sameBytes (recordKey detail) key ≡ t → hasNoRow (rowWith key rows) ≡ true
+      go true t =
+          let k : recordKey detail ≡ key = same-eq (recordKey detail) key t in
+          let h : rowWith key after ≡ next (settingUnder settings key) (rowWith key rows) detail = rw k at (after-here w) in
+          stays (rowWith key rows) (rw h at m)
+      go false t = rw (after-other key w t) at m
 
-    -- the rows and the details to come with a new key stay within a limit
-    pub room-after : All IsWide rows → areSoundRows rows ≡ true → (details : List (List ℕ))
-        → length (afterDetail setting rows detail) + addsWithoutRow (afterDetail setting rows detail) details
-        ≤ length rows + addsWithoutRow rows (detail ∷ details)
-    unfolding addsWithoutRow
-    room-after w s details = omega (arith, after-length w s, new-rows-after w details)
+  -- so no more details than before have a new key
+  pub new-rows-after : All IsWide rows → (details : List (List ℕ))
+      → addsWithoutRow (afterDetail settings rows detail) details ≤ addsWithoutRow rows details
+  unfolding addsWithoutRow
+  new-rows-after w [] = le-refl 0
+  new-rows-after w (d ∷ details) =
+      omega (
+        arith,
+        new-rows-after w details,
+        go (isType A d) (hasNoRow (rowWith (recordKey d) after)) (hasNoRow (rowWith (recordKey d) rows)) (missing-after (recordKey d) w),
+      )
+    where
+      go : (a b c : Bool) → (b ≡ true → c ≡ true) → cond (a && b) 1 0 ≤ cond (a && c) 1 0
+      go a false c h = rw (and-false a) (omega arith)
+      go a true c h = rw (h refl) (le-refl (cond (a && true) 1 0))
+
+  -- the rows and the details to come with a new key stay within a limit
+  pub room-after : All IsWide rows → areSoundRows rows ≡ true → (details : List (List ℕ))
+      → length (afterDetail settings rows detail) + addsWithoutRow (afterDetail settings rows detail) details
+      ≤ length rows + addsWithoutRow rows (detail ∷ details)
+  unfolding addsWithoutRow
+  room-after w s details = omega (arith, after-length w s, new-rows-after w details)

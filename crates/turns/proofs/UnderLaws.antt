@@ -14,12 +14,13 @@ use Rattle.text.proofs.FieldsLaws.{length-columns}
 use Rattle.text.proofs.SameLaws.{same-eq}
 use Rattle.layout.specs.Record.{recordKey}
 use Rattle.onecase.specs.Verdict.{Judgement, judgement}
+use Rattle.onecase.specs.Machine.{next}
 use Rattle.turns.specs.Turns.{afterDetail, verdictOn, finalRows, verdictsOn}
 use Rattle.text.proofs.WidthLaws.{All}
 use Rattle.turns.proofs.TurnsLaws.{after-here, after-other, after-fit, after-wide}
 use Rattle.turns.specs.Under.{isUnder, detailsUnder, verdictsUnder, runRow, runVerdicts, IsKey}
 use Rattle.casemaster.proofs.RowsLaws.{IsWide, Fit}
-use Rattle.judging.specs.Setting.{Setting}
+use Rattle.turns.specs.Settings.{Settings, settingUnder}
 
 -- a record is 245 bytes
 abbrev pub IsRecord : List ℕ → Type 0
@@ -27,45 +28,50 @@ IsRecord detail = length detail ≡ 245
 
 -- ---- the machine's run
 
-module _ (setting : Setting) where
-  pub final-fit : isLocalList (setting .list) ≡ true → (rows details : List (List ℕ)) → All IsRecord details → Fit rows
-      → Fit (finalRows setting rows details)
+module _ (settings : Settings) where
+  pub final-fit : isLocalList (settings .list) ≡ true → (rows details : List (List ℕ)) → All IsRecord details → Fit rows
+      → Fit (finalRows settings rows details)
   unfolding finalRows
   final-fit l rows [] a f = f
-  final-fit l rows (d ∷ details) a f = final-fit l (afterDetail setting rows d) details (a .1) (after-fit setting rows d (a .0) l f)
+  final-fit l rows (d ∷ details) a f = final-fit l (afterDetail settings rows d) details (a .1) (after-fit settings rows d (a .0) l f)
 
   -- after all details: the row under a key
   pub found-final : (key : List ℕ) (rows details : List (List ℕ)) → All IsRecord details → All IsWide rows
-      → rowWith key (finalRows setting rows details) ≡ runRow setting (rowWith key rows) (detailsUnder key details)
+      → rowWith key (finalRows settings rows details) ≡ runRow (settingUnder settings key) (rowWith key rows) (detailsUnder key details)
   unfolding finalRows runRow detailsUnder
   found-final key rows [] a w = refl
   found-final key rows (d ∷ details) a w =
-      found-final key (afterDetail setting rows d) details (a .1) (after-wide setting rows d (a .0) w) ∙ go (isUnder key d) refl
+      found-final key (afterDetail settings rows d) details (a .1) (after-wide settings rows d (a .0) w) ∙ go (isUnder key d) refl
     where
       go : (t : Bool) → isUnder key d ≡ t
-          → runRow setting (rowWith key (afterDetail setting rows d)) (detailsUnder key details)
-          ≡ runRow setting (rowWith key rows) (cond t (d ∷ detailsUnder key details) (detailsUnder key details))
-      go true t = rw (← same-eq (recordKey d) key t, after-here setting rows d (a .0) w)
-      go false t = rw (after-other setting rows d (a .0) key w t)
+          → runRow (settingUnder settings key) (rowWith key (afterDetail settings rows d)) (detailsUnder key details)
+          ≡ runRow (settingUnder settings key) (rowWith key rows) (cond t (d ∷ detailsUnder key details) (detailsUnder key details))
+      go true t = rw (← same-eq (recordKey d) key t, after-here settings rows d (a .0) w)
+      go false t = rw (after-other settings rows d (a .0) key w t)
 
   -- the verdicts under a key
   pub under-verdicts : (key : List ℕ) (rows details : List (List ℕ)) → All IsRecord details → All IsWide rows
-      → verdictsUnder key details (verdictsOn setting rows details)
-      ≡ runVerdicts setting (rowWith key rows) (detailsUnder key details)
+      → verdictsUnder key details (verdictsOn settings rows details)
+      ≡ runVerdicts (settingUnder settings key) (rowWith key rows) (detailsUnder key details)
   unfolding verdictsOn verdictOn runVerdicts detailsUnder verdictsUnder
   under-verdicts key rows [] a w = refl
   under-verdicts key rows (d ∷ details) a w =
-      go (isUnder key d) refl (under-verdicts key (afterDetail setting rows d) details (a .1) (after-wide setting rows d (a .0) w))
+      go (isUnder key d) refl (under-verdicts key (afterDetail settings rows d) details (a .1) (after-wide settings rows d (a .0) w))
     where
       rest : List Judgement
-      rest = verdictsUnder key details (verdictsOn setting (afterDetail setting rows d) details)
+      rest = verdictsUnder key details (verdictsOn settings (afterDetail settings rows d) details)
 
       go : (t : Bool) → isUnder key d ≡ t
-          → rest ≡ runVerdicts setting (rowWith key (afterDetail setting rows d)) (detailsUnder key details)
-          → cond t (judgement setting (rowWith (recordKey d) rows) d ∷ rest) rest
-          ≡ runVerdicts setting (rowWith key rows) (cond t (d ∷ detailsUnder key details) (detailsUnder key details))
-      go true t ih = rw (ih, ← same-eq (recordKey d) key t, after-here setting rows d (a .0) w)
-      go false t ih = ih ∙ rw (after-other setting rows d (a .0) key w t)
+          → rest ≡ runVerdicts (settingUnder settings key) (rowWith key (afterDetail settings rows d)) (detailsUnder key details)
+          → cond t (judgement (settingUnder settings (recordKey d)) (rowWith (recordKey d) rows) d ∷ rest) rest
+          ≡ runVerdicts (settingUnder settings key) (rowWith key rows) (cond t (d ∷ detailsUnder key details) (detailsUnder key details))
+      go true t ih =
+          let e : recordKey d ≡ key = same-eq (recordKey d) key t in
+          let h : rowWith key (afterDetail settings rows d) ≡ next (settingUnder settings key) (rowWith key rows) d = rw e at (after-here settings rows d (a .0) w) in
+          let j : judgement (settingUnder settings (recordKey d)) (rowWith (recordKey d) rows) d ≡ judgement (settingUnder settings key) (rowWith key rows) d =
+          ap (λ (k : List ℕ). judgement (settingUnder settings k) (rowWith k rows) d) e in
+          rw (ih, h, j)
+      go false t ih = ih ∙ rw (after-other settings rows d (a .0) key w t)
 
 -- ---- keys that have details
 
@@ -95,8 +101,8 @@ under-key key (d ∷ details) a = go (isUnder key d) refl (under-key key details
 
 -- ---- a verdict for each detail
 
-module _ (setting : Setting) where
-  pub length-verdicts : (rows details : List (List ℕ)) → length (verdictsOn setting rows details) ≡ length details
+module _ (settings : Settings) where
+  pub length-verdicts : (rows details : List (List ℕ)) → length (verdictsOn settings rows details) ≡ length details
   unfolding verdictsOn
   length-verdicts rows [] = refl
-  length-verdicts rows (d ∷ details) = ap suc (length-verdicts (afterDetail setting rows d) details)
+  length-verdicts rows (d ∷ details) = ap suc (length-verdicts (afterDetail settings rows d) details)

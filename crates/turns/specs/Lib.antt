@@ -1,3 +1,4 @@
 pub mod Turns
 pub mod Under
+pub mod Settings
 pub mod Adds

@@ -82,6 +82,14 @@ pub fn falling(name: &str, count: usize) -> Input {
     input(name, 0, count, &details, (count as f64).powi(2) / 2.0)
 }
 
+/// Details of one key alone, half of them B with different names, half M; the names of the Ms are
+/// those of Bs if `given`, else of none.
+pub fn renames(name: &str, rows: usize, count: usize, given: bool) -> Input {
+    let mut rng = Rng::new(13);
+    let details = bulk::renames(&mut rng, STATE, 2 * (rows / 2), count, given);
+    input(name, rows, rows, &details, 0.0)
+}
+
 /// 65,535 rows, and keys of rows for find.
 pub fn lookup(keys: usize) -> (Vec<u8>, Vec<Vec<u8>>, [u8; 2]) {
     let master = bulk::rows(STATE, MOST, 2);

@@ -12,7 +12,7 @@ use std::time::{Duration, Instant, SystemTime, UNIX_EPOCH};
 
 use clock::seconds;
 use convert::{converting, Conversions};
-use input::{adds, changes, falling, lookup, Input, MOST};
+use input::{adds, changes, falling, lookup, renames, Input, MOST};
 
 const COPIED: usize = 13_107_000;
 const ENGINES: usize = 3;
@@ -95,9 +95,10 @@ fn main() {
     for count in [8192, 16_384, 32_768, 65_535] {
         doubled.push(bench.line(&changes(&format!("{count}"), count, count)));
     }
+    let crowded = bench.crowded();
     let looked = [bench.finding(), bench.reconciling()];
     let converted = converting(bench.repetitions);
-    print(&bench, &applied, &doubled, &looked, &converted);
+    print(&bench, &applied, &doubled, &crowded, &looked, &converted);
 }
 
 fn median(times: &[f64]) -> f64 {
@@ -197,6 +198,20 @@ impl Bench {
         }
     }
 
+    /// As many details under one key as on distinct keys, the latter first.
+    fn crowded(&mut self) -> Vec<Line> {
+        let name = format!("{MOST} details on distinct keys");
+        let mut lines = vec![self.line(&changes(&name, MOST, MOST))];
+        for (given, name) in [
+            (true, "of one key, M with names of Bs"),
+            (false, "of one key, M with other names"),
+        ] {
+            let name = format!("{MOST} {name}");
+            lines.push(self.line(&renames(&name, MOST, MOST, given)));
+        }
+        lines
+    }
+
     /// Finding, per call.
     fn finding(&mut self) -> Line {
         let (master, keys, _) = lookup(if self.quick { 100 } else { 1000 });
@@ -267,6 +282,7 @@ fn print(
     bench: &Bench,
     applied: &[Line],
     doubled: &[Line],
+    crowded: &[Line],
     looked: &[Line],
     converted: &Conversions,
 ) {
@@ -301,25 +317,15 @@ fn print(
         "doubling: n rows, n changes", "library", "reference", "speed engine"
     );
     for (at, line) in doubled.iter().enumerate() {
-        let before = at
-            .checked_sub(1)
-            .map_or([None; ENGINES], |at| doubled[at].times);
-        let cells: Vec<String> = line
-            .times
-            .iter()
-            .zip(before)
-            .map(|(time, before)| match (time, before) {
-                (Some(time), Some(before)) => {
-                    format!("{:>9.2} ms   x {:.2}", time * 1e3, time / before)
-                }
-                (Some(time), None) => format!("{:>9.2} ms         ", time * 1e3),
-                _ => "left out".to_string(),
-            })
-            .collect();
-        println!(
-            "{:<40}{:>22}{:>22}{:>22}",
-            line.name, cells[0], cells[1], cells[2]
-        );
+        print_beside(line, at.checked_sub(1).map(|at| &doubled[at]));
+    }
+    println!();
+    println!(
+        "{:<40}{:>22}{:>22}{:>22}",
+        "half B, half M, beside distinct keys", "library", "reference", "speed engine"
+    );
+    for (at, line) in crowded.iter().enumerate() {
+        print_beside(line, (at > 0).then_some(&crowded[0]));
     }
     println!();
     println!("{:<40}{:>22}{:>22}", "65535 rows", "library", "reference");
@@ -329,6 +335,25 @@ fn print(
     }
     println!();
     converted.print();
+}
+
+/// A line with its times as multiples of another's.
+fn print_beside(line: &Line, other: Option<&Line>) {
+    let others = other.map_or([None; ENGINES], |other| other.times);
+    let pairs = line.times.iter().zip(others);
+    let cells: Vec<String> = pairs
+        .map(|(time, other)| match (time, other) {
+            (Some(time), Some(other)) => {
+                format!("{:>9.2} ms   x {:.2}", time * 1e3, time / other)
+            }
+            (Some(time), None) => format!("{:>9.2} ms         ", time * 1e3),
+            _ => "left out".to_string(),
+        })
+        .collect();
+    println!(
+        "{:<40}{:>22}{:>22}{:>22}",
+        line.name, cells[0], cells[1], cells[2]
+    );
 }
 
 fn machine() -> String {

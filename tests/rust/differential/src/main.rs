@@ -1,5 +1,6 @@
 //! Compares the library with the reference on random cases; see the README for the options.
 
+mod names;
 mod run;
 
 use std::collections::HashSet;
@@ -8,6 +9,7 @@ use std::time::{Instant, SystemTime, UNIX_EPOCH};
 
 use generator::rng::mix;
 use generator::{ApplyCase, Case};
+use names::Names;
 use run::{account, codes, run, Outcome};
 
 /// The most failing cases whose seeds are printed.
@@ -40,6 +42,7 @@ struct Seen {
     deleted: u64,
     renamed: u64,
     kept_room: u64,
+    names: Names,
     records: u64,
     limits: u64,
     failed: u64,
@@ -69,6 +72,7 @@ impl Seen {
                     }
                 }
                 self.note_rows(case, after);
+                self.names.note(case, after);
                 self.kept_room += u64::from(after.result[4] < (case.master.len() / 200) as u64);
             }
             (_, Case::Reconcile(after)) => self.records += after.records,
@@ -144,9 +148,10 @@ impl Seen {
                 .collect();
             println!("{}", cells.join("   "));
         }
+        self.names.print();
     }
 
-    /// Refusals and codes that no case brought about.
+    /// Refusals, codes and names that no case brought about.
     fn missing(&self) -> Vec<String> {
         let mut missing = Vec::new();
         for number in 1..ANSWERS {
@@ -159,6 +164,7 @@ impl Seen {
                 missing.push(format!("code {code:02}"));
             }
         }
+        missing.extend(self.names.missing());
         missing
     }
 }

@@ -3,7 +3,7 @@
 use crate::records::{Record, RECORD};
 use crate::rng::Rng;
 use crate::rows::ROW;
-use crate::text::{byte, digits, put, put_text, SPACE};
+use crate::text::{blank, byte, digits, put, put_text, SPACE};
 
 /// The SSN and case type of a key number (below some 160 million).
 fn numbered(number: usize) -> (Vec<u8>, u8) {
@@ -88,4 +88,40 @@ pub fn change(rng: &mut Rng, state: [u8; 2], number: usize, types: &[u8]) -> Rec
         _ => {}
     }
     record
+}
+
+/// Four letters by a number below 26 to the power 4.
+fn name(number: usize) -> Vec<u8> {
+    let letter = |place: u32| byte(b'A' + (number / 26usize.pow(place) % 26) as u8);
+    (0..4).map(letter).collect()
+}
+
+/// Right records of one key, half of them B with different names, half M, in scattered order. The
+/// names of the Ms are those of Bs if `given`, else of none.
+pub fn renames(
+    rng: &mut Rng,
+    state: [u8; 2],
+    number: usize,
+    count: usize,
+    given: bool,
+) -> Vec<Record> {
+    let half = count / 2;
+    let first = if given { 0 } else { half };
+    let mut details: Vec<Record> = (0..count)
+        .map(|at| {
+            if at < half {
+                let mut record = start(state, number, b'B');
+                put_text(&mut record, 30, "                    JILL");
+                put(&mut record, 30, &name(at));
+                record
+            } else {
+                let mut record = change(rng, state, number, b"M");
+                blank(&mut record, 30, 49);
+                put(&mut record, 30, &name(first + rng.below(half)));
+                record
+            }
+        })
+        .collect();
+    rng.shuffle(&mut details);
+    details
 }

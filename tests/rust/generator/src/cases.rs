@@ -3,6 +3,7 @@
 use std::collections::BTreeSet;
 
 use crate::bulk;
+use crate::crowd;
 use crate::files::{convert_case, ConvertCase};
 use crate::records::{control, detail, totals, Record, RECORD};
 use crate::rng::Rng;
@@ -109,8 +110,12 @@ fn numbers(rng: &mut Rng, length: usize) -> Vec<u64> {
 }
 
 fn apply_case(rng: &mut Rng) -> ApplyCase {
-    let entry = size(rng);
-    let extra = rng.below(8);
+    let crowded = rng.percent(30);
+    let (entry, extra) = if crowded {
+        (rng.below(4), rng.between(1, 2))
+    } else {
+        (size(rng), rng.below(8))
+    };
     let mut world = World::new(rng, entry, extra);
     let mut master = rows(rng, &world);
     let at_entry = world.clone();
@@ -121,7 +126,11 @@ fn apply_case(rng: &mut Rng) -> ApplyCase {
     };
     let wide = count >= 998;
     let care = rng.pick(&[50, 80, 80, 90, 100]);
-    let mut details: Vec<Record> = (0..count).map(|_| detail(rng, &mut world, care)).collect();
+    let mut details: Vec<Record> = if crowded {
+        crowd::details(rng, &world, count)
+    } else {
+        (0..count).map(|_| detail(rng, &mut world, care)).collect()
+    };
     if wide {
         // Sums around the eleven digits that a total can hold.
         for record in &mut details {
@@ -527,7 +536,7 @@ fn wild(rng: &mut Rng) -> Case {
 /// Cases at the limits of 65,535 rows and 65,536 records.
 fn giant(rng: &mut Rng) -> ApplyCase {
     let state = [0xD6, 0xC8];
-    let kind = rng.below(6);
+    let kind = rng.below(8);
     let (rows, room, details) = match kind {
         // A row too many at entry.
         0 => (65_536, 65_536, 1),
@@ -538,14 +547,19 @@ fn giant(rng: &mut Rng) -> ApplyCase {
         // As many records as there can be, and one more.
         3 => (40, 50, 65_535),
         4 => (40, 50, 65_536),
+        // All of them under one key.
+        5 | 6 => (2, 2, 65_535),
         _ => (65_535, 65_535, 20),
     };
     let mut master = bulk::rows(state, rows, 2);
     master.resize(room * ROW, 0xA5);
     let list = text("001002");
-    let mut details: Vec<Record> = (0..details)
-        .map(|_| bulk::change(rng, state, 2 * rng.clone().below(rows), b"MCBLRZSTD"))
-        .collect();
+    let mut details: Vec<Record> = match kind {
+        5 | 6 => bulk::renames(rng, state, 2, details, kind == 5),
+        _ => (0..details)
+            .map(|_| bulk::change(rng, state, 2 * rng.clone().below(rows), b"MCBLRZSTD"))
+            .collect(),
+    };
     if kind <= 2 {
         details[0] = bulk::add(state, 2 * rng.below(rows) + 1);
     }

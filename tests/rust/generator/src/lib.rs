@@ -2,6 +2,7 @@
 
 pub mod bulk;
 pub mod cases;
+pub mod crowd;
 pub mod files;
 pub mod records;
 pub mod rng;

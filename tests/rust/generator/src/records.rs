@@ -16,7 +16,7 @@ const DATES: [&str; 28] = [
     "20070931", "20071131", "20071231", "20071301", "20070001", "20070100", "20070132", "00000000",
     "2007013 ", " 2007013", "20 70101", "20070230",
 ];
-const BAD_NAMES: [&str; 13] = [
+pub const BAD_NAMES: [&str; 13] = [
     "    ", "O NE", " LI ", "--  ", "-   ", "----", "L1  ", "A,B ", "A.B ", "smit", "LI X", "-- A",
     "   A",
 ];
@@ -223,7 +223,7 @@ fn noise(rng: &mut Rng, world: &World, record: &mut Record) {
 }
 
 /// Writes the fields that a type reads.
-fn fields(rng: &mut Rng, world: &World, kind: u8, known: &Known, record: &mut Record) {
+pub fn fields(rng: &mut Rng, world: &World, kind: u8, known: &Known, record: &mut Record) {
     match kind {
         b'A' => {
             blank(record, 15, 29);

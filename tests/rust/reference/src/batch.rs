@@ -1,8 +1,8 @@
-//! Applying a batch ("Applying a batch" in document 01).
+//! Applying a batch ("Applying a batch" in document 01, with item 3 of document 02).
 
 use std::collections::BTreeMap;
 
-use crate::errors::{code_digits, is_type, Surroundings};
+use crate::errors::{code_digits, given_name, is_type, Names, Surroundings};
 use crate::machine::{step, Verdict};
 use crate::row::{refusal_03, refusal_04, row_key, rows_of, Key, Row, MOST_ROWS, ROW};
 use crate::text::{
@@ -184,12 +184,23 @@ fn cases_of(master: &[u8], rows: usize) -> BTreeMap<Key, Row> {
     cases
 }
 
+/// By key, the names that its B records give, "anywhere in the batch".
+fn names_of(details: &[&[u8]], around: &Surroundings) -> BTreeMap<Key, Names> {
+    let mut names: BTreeMap<Key, Names> = BTreeMap::new();
+    for record in details {
+        let own = names.entry(record_key(record)).or_default();
+        own.extend(given_name(record, around));
+    }
+    names
+}
+
 /// "The machine runs on each detail in turn."
 fn run(cases: &mut BTreeMap<Key, Row>, details: &[&[u8]], around: &Surroundings) -> Vec<Verdict> {
+    let names = names_of(details, around);
     let mut given = Vec::new();
     for record in details {
         let key = record_key(record);
-        let (row, verdict) = step(cases.get(&key).copied(), record, around);
+        let (row, verdict) = step(cases.get(&key).copied(), record, &names[&key], around);
         if let Some(row) = row {
             cases.insert(key, row);
         }

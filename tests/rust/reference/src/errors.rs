@@ -1,4 +1,7 @@
-//! A record's errors and warnings ("A record's errors" in document 01), a function each.
+//! A record's errors and warnings ("A record's errors" in document 01, with item 3 of document 02),
+//! a function each.
+
+use std::collections::BTreeSet;
 
 use crate::row::{is_live, Row};
 use crate::text::{
@@ -14,6 +17,12 @@ pub struct Surroundings<'a> {
     pub year: u64,
     pub list: &'a [u8],
 }
+
+/// The first four characters of a last name.
+pub type Name = [u8; 4];
+
+/// The names that the B records of a key give.
+pub type Names = BTreeSet<Name>;
 
 /// The record's type (column 73) is one of these letters.
 pub fn is_type(record: &[u8], letters: &[u8]) -> bool {
@@ -176,9 +185,37 @@ pub fn error_16(record: &[u8]) -> bool {
     is_type(record, b"AR") && exclusion_set(record).is_none()
 }
 
-/// "(all but A, B): 30–33 differ from the stored 31–34"
-pub fn error_17(record: &[u8], row: &Row) -> bool {
-    !is_type(record, b"AB") && columns(record, 30, 33) != columns(row, 31, 34)
+/// A record's columns 30–33.
+pub fn record_name(record: &[u8]) -> Name {
+    let mut name = [SPACE; 4];
+    name.copy_from_slice(columns(record, 30, 33));
+    name
+}
+
+/// A row's columns 31–34.
+pub fn stored_name(row: &Row) -> Name {
+    let mut name = [SPACE; 4];
+    name.copy_from_slice(columns(row, 31, 34));
+    name
+}
+
+/// The name that a record gives: "any B record .. that has none of errors 01 to 06 or 18".
+pub fn given_name(record: &[u8], around: &Surroundings) -> Option<Name> {
+    let wrong = error_01(record, around)
+        || error_02(record)
+        || error_03(record)
+        || error_04(record)
+        || error_05(record)
+        || error_06(record)
+        || error_18(record);
+    (is_type(record, b"B") && !wrong).then(|| record_name(record))
+}
+
+/// "For types other than A and B, columns 30–33 may match the stored name, or those of any B
+/// record of the same key"; "error 17 holds exactly if all differ".
+pub fn error_17(record: &[u8], row: &Row, names: &Names) -> bool {
+    let name = record_name(record);
+    !is_type(record, b"AB") && name != stored_name(row) && !names.contains(&name)
 }
 
 /// "228–244 not spaces"

@@ -1,4 +1,5 @@
-//! Document 01 and item 1 of document 02 written out rule by rule, in their order and words; simple before fast.
+//! Document 01 and items 1 and 3 of document 02 written out rule by rule, in their order and words;
+//! simple before fast.
 //! Nothing here panics: every length is looked at by a refusal before it is relied on.
 
 pub mod batch;

@@ -1,4 +1,5 @@
-//! The one-case machine ("One-case machine" in document 01).
+//! The one-case machine ("One-case machine" in document 01). By item 3 of document 02 it also reads
+//! the names that the key's own B records give; they are the same at each step.
 
 use crate::errors::*;
 use crate::row::{is_live, Row, DELETED, ROW};
@@ -12,7 +13,7 @@ pub struct Verdict {
     /// The sum of 2 to the power c over the codes c.
     pub codes: u64,
     /// The stored 31–34 where 17 holds.
-    pub stored: Option<[u8; 4]>,
+    pub stored: Option<Name>,
 }
 
 impl Verdict {
@@ -38,7 +39,7 @@ impl Verdict {
 }
 
 /// The set of codes of a record whose key's row is `row`.
-pub fn judge(row: Option<&Row>, record: &[u8], around: &Surroundings) -> Verdict {
+pub fn judge(row: Option<&Row>, record: &[u8], names: &Names, around: &Surroundings) -> Verdict {
     let mut verdict = Verdict::default();
     verdict.add(1, error_01(record, around));
     verdict.add(2, error_02(record));
@@ -48,7 +49,8 @@ pub fn judge(row: Option<&Row>, record: &[u8], around: &Surroundings) -> Verdict
     verdict.add(18, error_18(record));
     // "With 03, only 01, 02, 04, 05, 18 are judged."
     if !verdict.has(3) {
-        judge_by_type(&mut verdict, row, record, around);
+        judge_by_type(&mut verdict, record, around);
+        judge_by_row(&mut verdict, row, record, names);
     }
     // "Warnings come only without errors, and join the set."
     if !verdict.rejected() {
@@ -59,7 +61,7 @@ pub fn judge(row: Option<&Row>, record: &[u8], around: &Surroundings) -> Verdict
     verdict
 }
 
-fn judge_by_type(verdict: &mut Verdict, row: Option<&Row>, record: &[u8], around: &Surroundings) {
+fn judge_by_type(verdict: &mut Verdict, record: &[u8], around: &Surroundings) {
     verdict.add(6, error_06(record));
     verdict.add(7, error_07(record));
     verdict.add(8, error_08(record));
@@ -70,6 +72,9 @@ fn judge_by_type(verdict: &mut Verdict, row: Option<&Row>, record: &[u8], around
     verdict.add(14, error_14(record));
     verdict.add(15, error_15(record));
     verdict.add(16, error_16(record));
+}
+
+fn judge_by_row(verdict: &mut Verdict, row: Option<&Row>, record: &[u8], names: &Names) {
     // "With 01, 02 or 04, 09 and 17 aren't."
     if verdict.has(1) || verdict.has(2) || verdict.has(4) {
         return;
@@ -80,18 +85,21 @@ fn judge_by_type(verdict: &mut Verdict, row: Option<&Row>, record: &[u8], around
         return;
     }
     if let Some(row) = live(row) {
-        if error_17(record, row) {
+        if error_17(record, row, names) {
             verdict.add(17, true);
-            let mut stored = [SPACE; 4];
-            stored.copy_from_slice(columns(row, 31, 34));
-            verdict.stored = Some(stored);
+            verdict.stored = Some(stored_name(row));
         }
     }
 }
 
 /// One step: the new row or none, and the verdict. "An error changes nothing."
-pub fn step(row: Option<Row>, record: &[u8], around: &Surroundings) -> (Option<Row>, Verdict) {
-    let verdict = judge(row.as_ref(), record, around);
+pub fn step(
+    row: Option<Row>,
+    record: &[u8],
+    names: &Names,
+    around: &Surroundings,
+) -> (Option<Row>, Verdict) {
+    let verdict = judge(row.as_ref(), record, names, around);
     if verdict.rejected() {
         return (row, verdict);
     }

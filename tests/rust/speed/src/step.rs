@@ -52,9 +52,16 @@ fn bit(code: u32, holds: bool) -> u64 {
     u64::from(holds) << code
 }
 
-/// Works one record; `key_errors` are 01, 02 and 04, already judged.
+/// Works one record; `key_errors` are 01, 02 and 04, already judged, and `given` tells whether a B
+/// record of the key gives a name.
 #[inline]
-pub fn step(record: &Record, key_errors: u64, place: Place, context: &Context) -> Verdict {
+pub fn step(
+    record: &Record,
+    key_errors: u64,
+    place: Place,
+    given: impl Fn(&[u8; 4]) -> bool,
+    context: &Context,
+) -> Verdict {
     let mut codes = key_errors | bit(18, !blank::<17>(record, 227));
     let kind = record[72];
     if kind == 0xC1 {
@@ -85,7 +92,7 @@ pub fn step(record: &Record, key_errors: u64, place: Place, context: &Context) -
         if four != name {
             if name_wrong(four, false) {
                 codes |= 1 << 5;
-            } else {
+            } else if !given(four) {
                 codes |= 1 << 17;
                 stored = *name;
             }

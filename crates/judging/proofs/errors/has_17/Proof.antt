@@ -1,4 +1,5 @@
--- `errors::has_17` meets its contract: another name is one that differs from a held row's. Assumes nothing.
+-- `errors::has_17` meets its contract: another name is one that differs from a held row's, and is not given. Assumes nothing.
+use mathlib.Core.Path.{sym}
 use borrow.Author.Needs.{needs}
 use Rattle.judging.specs.Errors.{error17}
 use Rattle.judging.proofs.HeldLaws.{other-held}
@@ -19,7 +20,7 @@ same-requires c κs = search needs
 
 returns : tie.Need-returns
 unfolding error17
-returns c = rw (other-held (c .before .before .before .before .before .before .args .held) (c .before .before .before .before .before .before .args .row .now) (c .before .before .before .before .before .before .args .rec .now), c .same .ensures, c .before .field2 .ensures, c .before .before .before .field .ensures)
+returns c names g = rw (other-held (c .before .before .before .before .before .before .args .held) (c .before .before .before .before .before .before .args .row .now) (c .before .before .before .before .before .before .args .rec .now), c .same .ensures, c .before .field2 .ensures, c .before .before .before .field .ensures, sym g)
 
 pub has-17-spec : {M : Type 1} → statement M
 has-17-spec =

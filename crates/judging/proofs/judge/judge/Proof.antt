@@ -40,14 +40,14 @@ add-set-4 : tie.Need-add-set-4
 add-set-4 c = search needs
 
 returns : tie.Need-returns
-returns c = (
-  judged-set (settingOf (c .before .before .before .before .before .before .before .before .before .before .args .state .now) (c .before .before .before .before .before .before .before .before .before .before .args .year) (c .before .before .before .before .before .before .before .before .before .before .args .list .now)) (rowIf (c .before .before .before .before .before .before .before .before .before .before .args .held) (c .before .before .before .before .before .before .before .before .before .before .args .row .now)) (c .before .before .before .before .before .before .before .before .before .before .args .rec .now) (c .before .before .before .before .before .before .before .judge-first .result) (c .before .before .before .before .before .before .judge-last .result) (c .before .before .before .before .before .before .before .judge-first .ensures) (c .before .before .before .before .before .before .judge-last .ensures) _ _ _ _ _
+returns c names g = (
+  judged-set (settingOf (c .before .before .before .before .before .before .before .before .before .before .args .state .now) (c .before .before .before .before .before .before .before .before .before .before .args .year) (c .before .before .before .before .before .before .before .before .before .before .args .list .now) names) (rowIf (c .before .before .before .before .before .before .before .before .before .before .args .held) (c .before .before .before .before .before .before .before .before .before .before .args .row .now)) (c .before .before .before .before .before .before .before .before .before .before .args .rec .now) (c .before .before .before .before .before .before .before .judge-first .result) (c .before .before .before .before .before .before .judge-last .result) (c .before .before .before .before .before .before .before .judge-first .ensures) (c .before .before .before .before .before .before .judge-last .ensures names g) _ _ _ _ _
       (c .before .before .before .before .set-first .ensures .0)
       (c .before .before .before .set-06-to-08 .ensures .0)
       (c .before .before .set-10-to-13 .ensures .0)
       (c .before .set-14-to-16 .ensures .0)
       (c .set-last .ensures .0),
-  named-is (settingOf (c .before .before .before .before .before .before .before .before .before .before .args .state .now) (c .before .before .before .before .before .before .before .before .before .before .args .year) (c .before .before .before .before .before .before .before .before .before .before .args .list .now)) (rowIf (c .before .before .before .before .before .before .before .before .before .before .args .held) (c .before .before .before .before .before .before .before .before .before .before .args .row .now)) (c .before .before .before .before .before .before .before .before .before .before .args .rec .now) (c .before .before .before .before .before .before .before .judge-first .result) (c .before .before .before .before .before .before .judge-last .result) (c .before .before .before .before .before .before .before .judge-first .ensures) (c .before .before .before .before .before .before .judge-last .ensures),
+  named-is (settingOf (c .before .before .before .before .before .before .before .before .before .before .args .state .now) (c .before .before .before .before .before .before .before .before .before .before .args .year) (c .before .before .before .before .before .before .before .before .before .before .args .list .now) names) (rowIf (c .before .before .before .before .before .before .before .before .before .before .args .held) (c .before .before .before .before .before .before .before .before .before .before .args .row .now)) (c .before .before .before .before .before .before .before .before .before .before .args .rec .now) (c .before .before .before .before .before .before .before .judge-first .result) (c .before .before .before .before .before .before .judge-last .result) (c .before .before .before .before .before .before .before .judge-first .ensures) (c .before .before .before .before .before .before .judge-last .ensures names g),
 )
 
 pub judge-spec : {M : Type 1} → statement M

@@ -13,10 +13,10 @@ has-18-requires : tie.Need-has-18-requires
 has-18-requires c κs = search needs
 
 returns : tie.Need-returns
-returns c =
+returns c names g =
     record {
       has09 = rw (c .before .before .before .has-09 .ensures);
-      has17 = rw (c .before .before .has-17 .ensures, c .before .before .before .has-09 .ensures);
+      has17 = rw (c .before .before .has-17 .ensures names g, c .before .before .before .has-09 .ensures);
       has18 = c .has-18 .ensures;
     }
 

@@ -1,12 +1,12 @@
--- `key_work::work_detail`: the number written holds the index that stood there, and that of no other number. Assumes nothing.
 use mathlib.Core.Path.{ap, _∙_}
-use borrow.Author.Needs.{needs}
+use Rattle.layout.specs.Batch.{recordAt}
 use Rattle.onecase.specs.Machine.{rowOf}
-use Rattle.keyorder.proofs.KeyWorkLaws.{next-here, marked-of}
+use Rattle.keyorder.proofs.KeyWorkLaws.{worked-all}
+-- `key_work::work_detail`: the number written holds the index and the mark that stood there, and those of no other number.
+-- Assumes nothing.
+use borrow.Author.Needs.{needs}
 use Rattle.keyorder.proofs.key_work.work_detail.Statement.{statement}
 use Rattle.keyorder.proofs.key_work.work_detail.Tie as tie
-use Rattle.layout.specs.Batch.{recordAt}
-use Rattle.judging.specs.Setting.{settingOf}
 
 mul-index-in : tie.Need-mul-index-in
 mul-index-in c = search needs
@@ -20,20 +20,26 @@ index-in-requires c κs = search needs
 record-at-requires : tie.Need-record-at-requires
 record-at-requires c κs = search needs
 
+mul-is-marked : tie.Need-mul-is-marked
+mul-is-marked c = search needs
+
+slice-read-is-marked : tie.Need-slice-read-is-marked
+slice-read-is-marked c = search needs
+
+is-marked-requires : tie.Need-is-marked-requires
+is-marked-requires c κs = search needs
+
 step-requires : tie.Need-step-requires
 step-requires c κs = search needs
 
-mul-index-in-2 : tie.Need-mul-index-in-2
-mul-index-in-2 c = search needs
+mul-slot-of : tie.Need-mul-slot-of
+mul-slot-of c = search needs
 
-slice-read-index-in-2 : tie.Need-slice-read-index-in-2
-slice-read-index-in-2 c = search needs
+slice-read-slot-of : tie.Need-slice-read-slot-of
+slice-read-slot-of c = search needs
 
-index-in-requires-2 : tie.Need-index-in-requires-2
-index-in-requires-2 c κs = search needs
-
-mul-with-verdict : tie.Need-mul-with-verdict
-mul-with-verdict c = search needs
+slot-of-requires : tie.Need-slot-of-requires
+slot-of-requires c κs = search needs
 
 with-verdict-requires : tie.Need-with-verdict-requires
 with-verdict-requires c κs = search needs
@@ -49,15 +55,11 @@ same-length c = search needs
 
 returns : tie.Need-returns
 returns c =
-    let a = c .before .before .before .before .before .before .before .before .before .before .before .before .before .args in
-    let i = c .before .before .before .before .before .before .before .index-in .ensures in
-    let r = c .before .before .before .before .before .before .record-at .ensures ∙ ap (recordAt (a .batch .now)) (i .0) in
-    let s = c .before .before .before .before .step .ensures in
-    let x = c .before .index-in2 .ensures in (
-      next-here (settingOf (a .state .now) (a .year) (a .list .now)) (a .batch .now) (rowOf (a .case)) _ _ _ (s .row-is) r,
-      marked-of (settingOf (a .state .now) (a .year) (a .list .now)) (a .batch .now) (a .p) (rowOf (a .case)) (a .numbers .now) _ _ _ _ _
-          (i .0) r (x .0) (x .1) (s .verdict-is) (c .with-verdict .ensures),
-    )
+    let a = c .before .before .before .before .before .before .before .before .before .before .before .before .before .before .before .args in
+    let i = c .before .before .before .before .before .before .before .before .before .index-in .ensures in
+    let r = c .before .before .before .before .before .before .before .before .record-at .ensures ∙ ap (recordAt (a .batch .now)) (i .0) in
+    worked-all (a .state .now) (a .year) (a .list .now) (a .batch .now) (a .p) (rowOf (a .case)) (a .numbers .now) _ _ _ _ _ _
+    (i .0) r (c .before .before .before .before .before .before .is-marked .ensures) (c .before .before .before .before .step .ensures) (c .before .slot-of .ensures) (c .with-verdict .ensures)
 
 pub work-detail-spec : {M : Type 1} → statement M
 work-detail-spec =
@@ -67,11 +69,13 @@ work-detail-spec =
     slice-read-index-in
     index-in-requires
     record-at-requires
+    mul-is-marked
+    slice-read-is-marked
+    is-marked-requires
     step-requires
-    mul-index-in-2
-    slice-read-index-in-2
-    index-in-requires-2
-    mul-with-verdict
+    mul-slot-of
+    slice-read-slot-of
+    slot-of-requires
     with-verdict-requires
     mul-numbers
     slice-write-numbers

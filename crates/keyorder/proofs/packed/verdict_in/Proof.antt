@@ -4,6 +4,9 @@ use borrow.Author.Needs.{needs}
 use Rattle.keyorder.proofs.packed.verdict_in.Statement.{statement}
 use Rattle.keyorder.proofs.packed.verdict_in.Tie as tie
 
+mul-set : tie.Need-mul-set
+mul-set c = search needs
+
 name-in-requires : tie.Need-name-in-requires
 name-in-requires c κs = search needs
 
@@ -20,4 +23,4 @@ returns-3 : tie.Need-returns-3
 returns-3 c = without-errors (c .before .before .args .number) (c .before .if1 .left) (c .if2 .left)
 
 pub verdict-in-spec : {M : Type 1} → statement M
-verdict-in-spec = tie.close (tie.spec name-in-requires returns returns-2 mul-t4 returns-3)
+verdict-in-spec = tie.close (tie.spec mul-set name-in-requires returns returns-2 mul-t4 returns-3)

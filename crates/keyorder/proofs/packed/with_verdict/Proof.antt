@@ -9,7 +9,7 @@ use Rattle.onecase.specs.Verdict.{meaning, fourBytes}
 use Rattle.onecase.specs.declared.verdict.Verdict.{Verdict}
 use Rattle.keyorder.specs.Order.{indexIn}
 use Rattle.keyorder.specs.Packed.{Packed}
-use Rattle.keyorder.proofs.PackedLaws.{packed-set, packed-name}
+use Rattle.keyorder.proofs.PackedLaws.{packed-set, packed-name, mark-joined}
 use Rattle.keyorder.proofs.packed.with_verdict.Statement.{statement}
 use Rattle.keyorder.proofs.packed.with_verdict.Tie as tie
 
@@ -38,27 +38,33 @@ returns : tie.Need-returns
 returns c =
     let a = c .before .before .before .before .args in
     let g = c .before .before .v .given in
-    let f : Fits w64 (g .0 .0) = search needs in
-    subst (λ (w : Verdict). Packed (c .joined .result) (indexIn (a .number)) (meaning w)) (sym (g .1))
-    (packed-set (a .number) (g .0 .0) (c .joined .result) (f .fits) (c .before .before .before .before .pre) (c .joined .ensures))
+    let f : Fits w64 (g .0 .0) = search needs in (
+      subst (λ (w : Verdict). Packed (c .joined .result) (indexIn (a .number)) (meaning w)) (sym (g .1))
+          (packed-set (a .number) (g .0 .0) (c .joined .result) (f .fits) (c .before .before .before .before .pre) (c .joined .ensures)),
+      mark-joined (a .number) _ _ (c .joined .result) (c .joined .ensures),
+    )
 
 returns-2 : tie.Need-returns-2
 returns-2 c =
     let a = c .before .before .before .before .args in
     let g = c .before .before .v2 .given in
-    let f : Fits w64 (g .0 .0) = search needs in
-    subst (λ (w : Verdict). Packed (c .joined2 .result) (indexIn (a .number)) (meaning w)) (sym (g .1))
-    (packed-set (a .number) (g .0 .0) (c .joined2 .result) (f .fits) (c .before .before .before .before .pre) (c .joined2 .ensures))
+    let f : Fits w64 (g .0 .0) = search needs in (
+      subst (λ (w : Verdict). Packed (c .joined2 .result) (indexIn (a .number)) (meaning w)) (sym (g .1))
+          (packed-set (a .number) (g .0 .0) (c .joined2 .result) (f .fits) (c .before .before .before .before .pre) (c .joined2 .ensures)),
+      mark-joined (a .number) _ _ (c .joined2 .result) (c .joined2 .ensures),
+    )
 
 returns-3 : tie.Need-returns-3
 returns-3 c =
     let a = c .before .before .before .before .before .args in
     let g = c .before .before .before .v3 .given in
     let f : Fits w64 (g .0 .0) = search needs in
-    let n = c .before .name-number .ensures in
-    subst (λ (w : Verdict). Packed (c .joined3 .result) (indexIn (a .number)) (meaning w)) (sym (g .1))
-    (packed-name (a .number) (g .0 .0) (c .joined3 .result) (f .fits) (c .before .before .before .before .before .pre)
-    (fourBytes (g .0 .1 .0)) (omega (arith, n .0, n .1)) (rw (← n .0) (c .joined3 .ensures)))
+    let n = c .before .name-number .ensures in (
+      subst (λ (w : Verdict). Packed (c .joined3 .result) (indexIn (a .number)) (meaning w)) (sym (g .1))
+          (packed-name (a .number) (g .0 .0) (c .joined3 .result) (f .fits) (c .before .before .before .before .before .pre)
+          (fourBytes (g .0 .1 .0)) (omega (arith, n .0, n .1)) (rw (← n .0) (c .joined3 .ensures))),
+      mark-joined (a .number) _ _ (c .joined3 .result) (c .joined3 .ensures),
+    )
 
 pub with-verdict-spec : {M : Type 1} → statement M
 with-verdict-spec =

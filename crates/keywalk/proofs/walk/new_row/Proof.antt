@@ -9,16 +9,16 @@ is-row-of-requires : tie.Need-is-row-of-requires
 is-row-of-requires c κs = search needs
 
 returns : tie.Need-returns
-returns c = (rw (sym (c .before .is-row-of .ensures) ∙ c .if1 .taken), omega arith)
+returns c = (λ names. rw (sym (c .before .is-row-of .ensures) ∙ c .if1 .taken), omega arith)
 
 some-makes-row-requires : tie.Need-some-makes-row-requires
 some-makes-row-requires c κs = search needs
 
 returns-2 : tie.Need-returns-2
-returns-2 c = (rw (sym (c .before .before .before .is-row-of .ensures) ∙ c .before .before .if1 .left, sym (c .before .some-makes-row .ensures) ∙ c .if2 .taken), omega arith)
+returns-2 c = (λ names. rw (sym (c .before .before .before .is-row-of .ensures) ∙ c .before .before .if1 .left, sym (c .before .some-makes-row .ensures names) ∙ c .if2 .taken), omega arith)
 
 returns-3 : tie.Need-returns-3
-returns-3 c = (rw (sym (c .before .before .before .is-row-of .ensures) ∙ c .before .before .if1 .left, sym (c .before .some-makes-row .ensures) ∙ c .if2 .left), omega arith)
+returns-3 c = (λ names. rw (sym (c .before .before .before .is-row-of .ensures) ∙ c .before .before .if1 .left, sym (c .before .some-makes-row .ensures names) ∙ c .if2 .left), omega arith)
 
 pub new-row-spec : {M : Type 1} → statement M
 new-row-spec =

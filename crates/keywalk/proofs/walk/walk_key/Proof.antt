@@ -51,11 +51,11 @@ put-row-of-requires : tie.Need-put-row-of-requires
 put-row-of-requires c κs =
     let a = c .before .before .before .before .before .before .before .before .before .before .before .before .before .before .before .before .before .before .before .before .before .before .before .before .before .before .args in
     put-room (fixedOf (a .state .now) (a .year) (a .list .now) (a .batch .now) (a .own) (a .end)) (standOf (a .s) (a .m .now) (a .numbers .now))
-    (c .before .before .before .before .before .before .before .before .before .before .before .before .before .before .before .before .before .before .before .before .before .before .before .before .before .before .pre .1 .1) _ _ _ _
+    (c .before .before .before .before .before .before .before .before .before .before .before .before .before .before .before .before .before .before .before .before .before .before .before .before .before .before .pre .1 .1 .0) _ _ _ _
     (c .before .before .before .before .before .before .before .before .before .before .before .before .before .before .before .before .before .before .before .key-end .ensures) (c .before .before .before .before .before .before .before .before .before .before .before .before .before .before .before .before .before .key-in .ensures)
     (c .before .before .before .before .before .before .before .before .before .before .before .before .before .before .rows-below .ensures) (c .before .before .before .before .before .before .before .before .before .before .before .before .pull-rows .ensures) _
     (c .before .before .before .before .before .before .before .is-row-of .ensures) _ _ (c .before .before .before .before .before .case-at .ensures) _
-    (c .before .before .before .work-key .ensures)
+    (c .before .before .before .before .before .before .before .before .before .before .before .before .before .before .before .before .before .before .before .before .before .before .before .before .before .before .pre .1 .1 .1) (c .before .before .before .work-key .ensures)
     (c .before .before .before .before .before .before .before .before .before .before .before .before .before .before .before .before .before .before .before .before .before .before .before .before .before .before .pre .1 .0 .2)
 
 one-if-requires : tie.Need-one-if-requires
@@ -76,11 +76,11 @@ returns : tie.Need-returns
 returns c =
     let a = c .before .before .before .before .before .before .before .before .before .before .before .before .before .before .before .before .before .before .before .before .before .before .before .before .before .before .before .before .before .before .args in
     key-walked (fixedOf (a .state .now) (a .year) (a .list .now) (a .batch .now) (a .own) (a .end)) (standOf (a .s) (a .m .now) (a .numbers .now))
-    (c .before .before .before .before .before .before .before .before .before .before .before .before .before .before .before .before .before .before .before .before .before .before .before .before .before .before .before .before .before .before .pre .1 .1) _ _ _ _
+    (c .before .before .before .before .before .before .before .before .before .before .before .before .before .before .before .before .before .before .before .before .before .before .before .before .before .before .before .before .before .before .pre .1 .1 .0) _ _ _ _
     (c .before .before .before .before .before .before .before .before .before .before .before .before .before .before .before .before .before .before .before .before .before .before .before .key-end .ensures) (c .before .before .before .before .before .before .before .before .before .before .before .before .before .before .before .before .before .before .before .before .before .key-in .ensures)
     (c .before .before .before .before .before .before .before .before .before .before .before .before .before .before .before .before .before .before .rows-below .ensures) (c .before .before .before .before .before .before .before .before .before .before .before .before .before .before .before .before .pull-rows .ensures) _
     (c .before .before .before .before .before .before .before .before .before .before .before .is-row-of .ensures) _ _ (c .before .before .before .before .before .before .before .before .before .case-at .ensures) _
-    (c .before .before .before .before .before .before .before .work-key .ensures) _ _ (c .before .before .before .put-row-of .ensures) _ (c .one-if .ensures .0)
+    (c .before .before .before .before .before .before .before .before .before .before .before .before .before .before .before .before .before .before .before .before .before .before .before .before .before .before .before .before .before .before .pre .1 .1 .1) (c .before .before .before .before .before .before .before .work-key .ensures) _ _ (c .before .before .before .put-row-of .ensures) _ (c .one-if .ensures .0)
 
 pub walk-key-spec : {M : Type 1} → statement M
 walk-key-spec =

@@ -5,7 +5,7 @@ use Prim.Native.Nat.{_-_}
 use native.Mathlib.Omega.{arith}
 use Rattle.keywalk.specs.Walking.{WalkReady, fixedOf, standOf, startOf}
 use Rattle.keywalk.proofs.KeysLaws.{usable}
-use Rattle.keywalk.proofs.WalkingLaws.{Walking, walking-start, walking-room, walking-next, walking-done}
+use Rattle.keywalk.proofs.WalkingLaws.{Walking, walking-start, walking-room, walking-marked, walking-next, walking-done}
 use Rattle.keywalk.proofs.walk.walk_keys.Statement.{statement}
 use Rattle.keywalk.proofs.walk.walk_keys.Tie as tie
 
@@ -30,7 +30,13 @@ walk-key-requires c κs =
     let g = c .before .before .before .before .loop .inv .1 in
     let t = c .before .before .if1 .taken in (
       (t, usable (w .ordered) (g .same) (a .own) (w .ordered .own-in)),
-      ((g .low, g .within, omega (arith, g .len, w .rows-in)), walking-room (fixedOf (a .state .now) (a .year) (a .list .now) (a .batch .now) (a .own) (a .end)) (startOf (a .from) (a .m .now) (a .numbers .now)) w _ g t),
+      (
+        (g .low, g .within, omega (arith, g .len, w .rows-in)),
+        (
+          walking-room (fixedOf (a .state .now) (a .year) (a .list .now) (a .batch .now) (a .own) (a .end)) (startOf (a .from) (a .m .now) (a .numbers .now)) w _ g t,
+          walking-marked (fixedOf (a .state .now) (a .year) (a .list .now) (a .batch .now) (a .own) (a .end)) (startOf (a .from) (a .m .now) (a .numbers .now)) w _ g,
+        ),
+      ),
     )
 
 loop-less : tie.Need-loop-less Inv-loop μ-loop

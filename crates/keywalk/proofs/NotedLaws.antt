@@ -11,9 +11,9 @@ use lib.Seq.{getD-set-same, getD-set-other, drop-set-lt}
 use Rattle.onecase.specs.Verdict.{Judgement, judgement}
 use Rattle.keyorder.specs.Order.{indexIn, detailAt}
 use Rattle.keyorder.specs.Packed.{Packed}
-use Rattle.keyorder.specs.KeyWork.{recordIn, Marked, KeyRun, JudgedRun}
+use Rattle.keyorder.specs.KeyWork.{recordIn, Noted, KeyRun, JudgedRun}
 use Rattle.keywalk.specs.Walking.{HasVerdict}
-use Rattle.keyorder.proofs.KeyWorkLaws.{run-length, run-index, judged-length, judged-index}
+use Rattle.keyorder.proofs.KeyWorkLaws.{run-slots, judged-slots}
 use Rattle.keywalk.proofs.GroupLaws.{detailsFrom, run-more}
 use Rattle.turns.specs.Under.{runRow}
 use Rattle.layout.specs.Batch.{recordAt}
@@ -32,17 +32,17 @@ module _ (setting : Setting) (batch : List ℕ) (details : List (List ℕ)) (ord
 
   -- ---- one detail
 
-  module _ (q : ℕ) (row : Option (List ℕ)) (s numbers′ : List ℕ) (m : Marked setting batch q row s numbers′)
+  module _ (q : ℕ) (row : Option (List ℕ)) (s numbers′ : List ℕ) (m : Noted setting batch q row s numbers′)
       (i : indexIn (getD s q 0) ≡ at q) (l : at q < length s) (r : recordAt batch (at q) ≡ detailAt details (at q)) where
-    pub marked-here : HasVerdict numbers′ (at q) (judgement setting row (detailAt details (at q)))
-    marked-here =
+    pub noted-here : HasVerdict numbers′ (at q) (judgement setting row (detailAt details (at q)))
+    noted-here =
         let a : numbers′ ≡ set s (at q) (m .number) = rw (← i) (m .set-is) in
         let b : getD numbers′ (at q) 0 ≡ m .number = rw a (getD-set-same s (at q) (m .number) 0 l) in
         let c : recordIn batch s q ≡ detailAt details (at q) = rw i r in
         (_, subst (λ (x : ℕ). Packed x _ (judgement setting row (detailAt details (at q)))) (sym b) (rw c at (m .packed)))
 
-    pub marked-other : (k : ℕ) → (k ≡ at q → ⊥) → getD numbers′ k 0 ≡ getD s k 0
-    marked-other k n =
+    pub noted-other : (k : ℕ) → (k ≡ at q → ⊥) → getD numbers′ k 0 ≡ getD s k 0
+    noted-other k n =
         let a : numbers′ ≡ set s (at q) (m .number) = rw (← i) (m .set-is) in
         rw a (getD-set-other s (at q) k (m .number) 0 n)
 
@@ -51,7 +51,7 @@ module _ (setting : Setting) (batch : List ℕ) (details : List (List ℕ)) (ord
   -- n details from p on worked from a row: the row left, the verdict of each, and all other numbers kept
   pub record RunResult (p n : ℕ) (row : Option (List ℕ)) (numbers : List ℕ) (row′ : Option (List ℕ)) (numbers′ : List ℕ) : Type 0 where
     pub row-is : row′ ≡ runRow setting row (detailsFrom details order p n)
-    pub marks : (j : ℕ) → j < n
+    pub notes : (j : ℕ) → j < n
         → HasVerdict numbers′ (at (p + j)) (judgement setting (runRow setting row (detailsFrom details order p j)) (detailAt details (at (p + j))))
     pub others : (k : ℕ) → ((j : ℕ) → j < n → k ≡ at (p + j) → ⊥) → getD numbers′ k 0 ≡ getD numbers k 0
 
@@ -64,7 +64,7 @@ module _ (setting : Setting) (batch : List ℕ) (details : List (List ℕ)) (ord
   run-result p zero row numbers row′ numbers′ h k =
       record {
         row-is = k .0;
-        marks = λ j l. absurd (omega arith);
+        notes = λ j l. absurd (omega arith);
         others = λ i f. ap (λ (z : List ℕ). getD z i 0) (k .1);
       }
   run-result p (suc n) row numbers row′ numbers′ h k =
@@ -80,24 +80,24 @@ module _ (setting : Setting) (batch : List ℕ) (details : List (List ℕ)) (ord
       } in
       let ih = run-result p n row numbers r s earlier (k .2) in
       let i : indexIn (getD s (p + n) 0) ≡ at (p + n) =
-      run-index setting batch p n row numbers r s (k .2) (p + n) ∙ h .index-is (p + n) (omega arith) (omega arith) in
-      let w : length s ≡ length numbers = run-length setting batch p n row numbers r s (k .2) in
+      run-slots setting batch p n row numbers r s (k .2) .indexes (p + n) ∙ h .index-is (p + n) (omega arith) (omega arith) in
+      let w : length s ≡ length numbers = run-slots setting batch p n row numbers r s (k .2) .len in
       let l : at (p + n) < length s = rw w (h .there (p + n) (omega arith) (omega arith)) in
       let d = h .detail-is (p + n) (omega arith) (omega arith) in
       let rec : recordIn batch s (p + n) ≡ detailAt details (at (p + n)) = rw i d in
       record {
         row-is =
             k .4 ∙ rw (rec, ih .row-is) (sym (run-more setting row (detailsFrom details order p n) (detailAt details (at (p + n)))));
-        marks = λ j b. go j (ih .marks) (eq-or-lt-of-le (le-of-suc-le-suc b)) m i l d (ih .row-is);
+        notes = λ j b. go j (ih .notes) (eq-or-lt-of-le (le-of-suc-le-suc b)) m i l d (ih .row-is);
         others = λ x f.
-            marked-other (p + n) r s numbers′ m i l d x (λ e. f n (omega arith) e) ∙ ih .others x (λ j b e. f j (omega arith) e);
+            noted-other (p + n) r s numbers′ m i l d x (λ e. f n (omega arith) e) ∙ ih .others x (λ j b e. f j (omega arith) e);
       }
     where
       go : (j : ℕ)
           → ((j : ℕ) → j < n
           → HasVerdict (k .1) (at (p + j)) (judgement setting (runRow setting row (detailsFrom details order p j)) (detailAt details (at (p + j)))))
           → (j ≡ n) ⊎ (j < n)
-          → Marked setting batch (p + n) (k .0) (k .1) numbers′
+          → Noted setting batch (p + n) (k .0) (k .1) numbers′
           → indexIn (getD (k .1) (p + n) 0) ≡ at (p + n)
           → at (p + n) < length (k .1)
           → recordAt batch (at (p + n)) ≡ detailAt details (at (p + n))
@@ -106,20 +106,20 @@ module _ (setting : Setting) (batch : List ℕ) (details : List (List ℕ)) (ord
       go j before (inl e) m i l d r =
           subst (λ (x : ℕ). HasVerdict numbers′ (at (p + x)) (judgement setting (runRow setting row (detailsFrom details order p x)) (detailAt details (at (p + x))))) (sym e)
           (subst (λ (x : Option (List ℕ)). HasVerdict numbers′ (at (p + n)) (judgement setting x (detailAt details (at (p + n))))) r
-          (marked-here (p + n) (k .0) (k .1) numbers′ m i l d))
+          (noted-here (p + n) (k .0) (k .1) numbers′ m i l d))
       go j before (inr b) m i l d r =
-          moved (k .1) numbers′ (at (p + j)) _ (marked-other (p + n) (k .0) (k .1) numbers′ m i l d (at (p + j)) (λ e. h .apart (p + j) (p + n) (omega arith) (omega arith) (omega arith) e))
+          moved (k .1) numbers′ (at (p + j)) _ (noted-other (p + n) (k .0) (k .1) numbers′ m i l d (at (p + j)) (λ e. h .apart (p + j) (p + n) (omega arith) (omega arith) (omega arith) e))
           (before j b)
 
   -- n details from p on, each judged on no row: the verdict of each, and all other numbers kept
   pub record JudgedResult (p n : ℕ) (numbers numbers′ : List ℕ) : Type 0 where
-    pub marks : (j : ℕ) → j < n → HasVerdict numbers′ (at (p + j)) (judgement setting none (detailAt details (at (p + j))))
+    pub notes : (j : ℕ) → j < n → HasVerdict numbers′ (at (p + j)) (judgement setting none (detailAt details (at (p + j))))
     pub others : (k : ℕ) → ((j : ℕ) → j < n → k ≡ at (p + j) → ⊥) → getD numbers′ k 0 ≡ getD numbers k 0
 
   pub judged-result : (p n : ℕ) (numbers numbers′ : List ℕ) → Holding p (p + n) numbers → JudgedRun setting batch p n numbers numbers′
       → JudgedResult p n numbers numbers′
   judged-result p zero numbers numbers′ h k =
-      record { marks = λ j l. absurd (omega arith); others = λ i f. ap (λ (z : List ℕ). getD z i 0) k }
+      record { notes = λ j l. absurd (omega arith); others = λ i f. ap (λ (z : List ℕ). getD z i 0) k }
   judged-result p (suc n) numbers numbers′ h k =
       let s : List ℕ = k .0 in
       let m = k .2 in
@@ -132,29 +132,29 @@ module _ (setting : Setting) (batch : List ℕ) (details : List (List ℕ)) (ord
       } in
       let ih = judged-result p n numbers s earlier (k .1) in
       let i : indexIn (getD s (p + n) 0) ≡ at (p + n) =
-      judged-index setting batch p n numbers s (k .1) (p + n) ∙ h .index-is (p + n) (omega arith) (omega arith) in
-      let w : length s ≡ length numbers = judged-length setting batch p n numbers s (k .1) in
+      judged-slots setting batch p n numbers s (k .1) .indexes (p + n) ∙ h .index-is (p + n) (omega arith) (omega arith) in
+      let w : length s ≡ length numbers = judged-slots setting batch p n numbers s (k .1) .len in
       let l : at (p + n) < length s = rw w (h .there (p + n) (omega arith) (omega arith)) in
       let d = h .detail-is (p + n) (omega arith) (omega arith) in
       record {
-        marks = λ j b. go j (ih .marks) (eq-or-lt-of-le (le-of-suc-le-suc b)) m i l d;
+        notes = λ j b. go j (ih .notes) (eq-or-lt-of-le (le-of-suc-le-suc b)) m i l d;
         others = λ x f.
-            marked-other (p + n) none s numbers′ m i l d x (λ e. f n (omega arith) e) ∙ ih .others x (λ j b e. f j (omega arith) e);
+            noted-other (p + n) none s numbers′ m i l d x (λ e. f n (omega arith) e) ∙ ih .others x (λ j b e. f j (omega arith) e);
       }
     where
       go : (j : ℕ)
           → ((j : ℕ) → j < n → HasVerdict (k .0) (at (p + j)) (judgement setting none (detailAt details (at (p + j)))))
           → (j ≡ n) ⊎ (j < n)
-          → Marked setting batch (p + n) none (k .0) numbers′
+          → Noted setting batch (p + n) none (k .0) numbers′
           → indexIn (getD (k .0) (p + n) 0) ≡ at (p + n)
           → at (p + n) < length (k .0)
           → recordAt batch (at (p + n)) ≡ detailAt details (at (p + n))
           → HasVerdict numbers′ (at (p + j)) (judgement setting none (detailAt details (at (p + j))))
       go j before (inl e) m i l d =
           subst (λ (x : ℕ). HasVerdict numbers′ (at (p + x)) (judgement setting none (detailAt details (at (p + x))))) (sym e)
-          (marked-here (p + n) none (k .0) numbers′ m i l d)
+          (noted-here (p + n) none (k .0) numbers′ m i l d)
       go j before (inr b) m i l d =
-          moved (k .0) numbers′ (at (p + j)) _ (marked-other (p + n) none (k .0) numbers′ m i l d (at (p + j)) (λ e. h .apart (p + j) (p + n) (omega arith) (omega arith) (omega arith) e))
+          moved (k .0) numbers′ (at (p + j)) _ (noted-other (p + n) none (k .0) numbers′ m i l d (at (p + j)) (λ e. h .apart (p + j) (p + n) (omega arith) (omega arith) (omega arith) e))
           (before j b)
 
   -- ---- the numbers behind
@@ -165,7 +165,7 @@ module _ (setting : Setting) (batch : List ℕ) (details : List (List ℕ)) (ord
   run-kept d p zero row numbers row′ numbers′ h k = ap (drop d) (k .1)
   run-kept d p (suc n) row numbers row′ numbers′ h k =
       let i : indexIn (getD (k .1) (p + n) 0) < d =
-      rw (run-index setting batch p n row numbers (k .0) (k .1) (k .2) (p + n)) (h (p + n) (omega arith) (omega arith)) in
+      rw (run-slots setting batch p n row numbers (k .0) (k .1) (k .2) .indexes (p + n)) (h (p + n) (omega arith) (omega arith)) in
       ap (drop d) (k .3 .set-is) ∙ drop-set-lt d (k .1) (indexIn (getD (k .1) (p + n) 0)) (k .3 .number) i
       ∙ run-kept d p n row numbers (k .0) (k .1) (λ q a b. h q a (omega arith)) (k .2)
 
@@ -175,6 +175,6 @@ module _ (setting : Setting) (batch : List ℕ) (details : List (List ℕ)) (ord
   judged-kept d p zero numbers numbers′ h k = ap (drop d) k
   judged-kept d p (suc n) numbers numbers′ h k =
       let i : indexIn (getD (k .0) (p + n) 0) < d =
-      rw (judged-index setting batch p n numbers (k .0) (k .1) (p + n)) (h (p + n) (omega arith) (omega arith)) in
+      rw (judged-slots setting batch p n numbers (k .0) (k .1) .indexes (p + n)) (h (p + n) (omega arith) (omega arith)) in
       ap (drop d) (k .2 .set-is) ∙ drop-set-lt d (k .0) (indexIn (getD (k .0) (p + n) 0)) (k .2 .number) i
       ∙ judged-kept d p n numbers (k .0) (λ q a b. h q a (omega arith)) (k .1)
