@@ -1,20 +1,22 @@
 /* fantanolive.h: the C interface of the Fantanolive library, libfantanolive.a.
  *
- * The library keeps a state's copy of the federal offset case master. It has five calls:
+ * The library keeps a state's copy of the federal offset case master. It has seven calls:
  *
- *     fantanolive_apply      applies a submission batch to a master
- *     fantanolive_find       finds a case's row in a master
- *     fantanolive_reconcile  writes the reconciliation file of a state
- *     fantanolive_to_ebcdic  turns a file from ASCII into EBCDIC
- *     fantanolive_to_ascii   turns a file from EBCDIC into ASCII
+ *     fantanolive_apply            applies a submission batch to a master
+ *     fantanolive_find             finds a case's row in a master
+ *     fantanolive_reconcile        writes the reconciliation file of a state
+ *     fantanolive_to_ebcdic        turns a file from ASCII into EBCDIC
+ *     fantanolive_to_ascii         turns a file from EBCDIC into ASCII
+ *     fantanolive_contacts_update  reads a contact file into a table of contact records
+ *     fantanolive_contacts_codes   writes the local codes of a state in such a table
  *
- * What the words here mean (row, record, detail, key, sound, code) and which columns the fields have is said in
- * document 01 and its charts. Columns count from 1: column 1 is byte 0.
+ * What the words here mean (row, record, detail, key, sound, code, faulty) and which columns the fields have is said in
+ * documents 01 and 02 and their charts. Columns count from 1: column 1 is byte 0.
  *
  * Bytes. All text is EBCDIC: letters C1-C9, D1-D9, E2-E9, digits F0-F9, space 40, hyphen 60, comma 6B (hexadecimal).
  * A batch typed in ASCII is turned into EBCDIC by fantanolive_to_ebcdic first; the other calls convert nothing.
  *
- * Answers. Each call answers 0 (FANTANOLIVE_DONE) when it was carried out, else the number of a refusal, 1 to 17.
+ * Answers. Each call answers 0 (FANTANOLIVE_DONE) when it was carried out, else the number of a refusal, 1 to 19.
  * A call answers the first refusal that holds, in the order that is given with it. On a refusal nothing at all is
  * written: no byte of any buffer, and no number of the result but the place that goes with refusal 16.
  *
@@ -23,7 +25,8 @@
  *
  * Pointers. A pointer must be valid for the length that goes with it: readable where it is const, else readable and
  * writable. No pointer may be NULL, not even with a length of 0; any other pointer of the right alignment does then.
- * Pointers to uint64_t must be aligned as uint64_t is (8 bytes); those to bytes may have any address.
+ * Pointers to uint64_t must be aligned as uint64_t is (8 bytes), those to uint16_t as uint16_t is (2 bytes); those to
+ * bytes may have any address.
  * The calls do not check this, and a call that breaks it has no defined outcome.
  *
  * Overlap. A buffer that a call writes must not overlap any other argument of the call. Buffers that are only read may
@@ -33,7 +36,10 @@
  * writes is read or written by another. Any number of fantanolive_find and fantanolive_reconcile calls may read the same
  * master at once.
  *
- * Limits. A master has at most 65,535 rows, a batch at most 65,536 records (65,535 details and the control record).
+ * Stack. fantanolive_contacts_update takes some 270 kilobytes of stack, the other calls a few.
+ *
+ * Limits. A master has at most 65,535 rows, a batch at most 65,536 records (65,535 details and the control record), a
+ * contact file at most 65,535 records; a table of contact records has no limit of its own.
  * Numbers and lengths outside the limits are refused, not cut.
  */
 #ifndef FANTANOLIVE_H
@@ -50,6 +56,9 @@ extern "C" {
 #define FANTANOLIVE_ROW 200
 #define FANTANOLIVE_RECORD 245
 
+/* Size in bytes of a contact record (Chart A-3), in a file and in a table. */
+#define FANTANOLIVE_CONTACT 220
+
 /* Sizes in bytes of a key (columns 1-12 of a row), a state, a date and a local code. */
 #define FANTANOLIVE_KEY 12
 #define FANTANOLIVE_STATE 2
@@ -59,6 +68,7 @@ extern "C" {
 /* Limits. */
 #define FANTANOLIVE_MAX_ROWS 65535
 #define FANTANOLIVE_MAX_RECORDS 65536
+#define FANTANOLIVE_MAX_CONTACTS 65535
 
 /* Sizes that are always enough, as size_t. The arguments are numbers of details or rows.
  *   verdicts of fantanolive_apply:  one number per detail
@@ -66,10 +76,15 @@ extern "C" {
  *   master of fantanolive_apply:    FANTANOLIVE_MASTER_SIZE(rows + details of type A) bytes, for at most
  *                                   FANTANOLIVE_MAX_ROWS rows
  *   out of fantanolive_reconcile:   FANTANOLIVE_OUT_SIZE(rows) bytes
+ *   table of fantanolive_contacts_update:   FANTANOLIVE_TABLE_SIZE(count + records of the file) bytes
+ *   faulty of fantanolive_contacts_update:  one number per record of the file; fewer are refused (19)
+ *   out of fantanolive_contacts_codes:      FANTANOLIVE_CODES_SIZE(count) bytes
  * The details of a batch are its records less one: batch_length / FANTANOLIVE_RECORD - 1. */
 #define FANTANOLIVE_MASTER_SIZE(rows) ((size_t)FANTANOLIVE_ROW * (size_t)(rows))
 #define FANTANOLIVE_REJECTS_SIZE(details) ((size_t)FANTANOLIVE_RECORD * ((size_t)(details) + 1))
 #define FANTANOLIVE_OUT_SIZE(rows) ((size_t)FANTANOLIVE_RECORD * ((size_t)(rows) + 1))
+#define FANTANOLIVE_TABLE_SIZE(records) ((size_t)FANTANOLIVE_CONTACT * (size_t)(records))
+#define FANTANOLIVE_CODES_SIZE(records) ((size_t)FANTANOLIVE_LOCAL_CODE * (size_t)(records))
 
 /* The numbers of fantanolive_apply's result, by their index. */
 #define FANTANOLIVE_ACCEPTED 0 /* details of case type A or N without an error, warned ones included */
@@ -78,6 +93,11 @@ extern "C" {
 #define FANTANOLIVE_NEITHER 3  /* details of neither case type; they are in none of the three above */
 #define FANTANOLIVE_ROWS 4     /* rows of the master afterwards, deleted ones included */
 #define FANTANOLIVE_RESULTS 5  /* how many numbers the result has */
+
+/* The numbers of fantanolive_contacts_update's result, by their index. */
+#define FANTANOLIVE_CONTACTS 0        /* records of the table afterwards */
+#define FANTANOLIVE_FAULTY 1          /* faulty records of the file, whose numbers are in the list */
+#define FANTANOLIVE_CONTACT_RESULTS 2 /* how many numbers the result has */
 
 /* The answers: 0, and the refusals' numbers. */
 #define FANTANOLIVE_DONE 0            /* carried out */
@@ -98,6 +118,8 @@ extern "C" {
 #define FANTANOLIVE_NO_SUCH_ROW 15    /* no row with this key */
 #define FANTANOLIVE_NO_COUNTERPART 16 /* a byte without a counterpart */
 #define FANTANOLIVE_SHORT_FILE 17     /* output shorter than the input */
+#define FANTANOLIVE_WRONG_CONTACTS 18 /* contact file or table of a wrong length or count, table faulty or out of order */
+#define FANTANOLIVE_SHORT_CONTACTS 19 /* no space in the table, a list or an output of codes too short */
 
 /* A verdict is a number of 64 bits: the sum of 2 to the power c over the codes c that the detail got. Errors are the
  * codes 1 to 18, warnings 51 and 52; a verdict of 0 has none. A detail with an error is rejected and changes nothing.
@@ -238,6 +260,66 @@ uint64_t fantanolive_to_ascii(
     const uint8_t *in, size_t in_length,
     uint8_t *out, size_t out_length,
     uint64_t *place);
+
+/* fantanolive_contacts_update: reads a contact file into a table of contact records.
+ *
+ * The records of the file act in file order. A good one replaces whole the table's record of its state and code (columns
+ * 1-5), or else is put in at its place; of several good ones of a key the last stays. A faulty one is skipped, and its
+ * number goes to the list. Code 000 is the state's own. A record is good by Chart A-3 where its state is in the table of
+ * 54, its code three digits, telephone 1 of the form (301) 555-1212, telephone 2 of this form or blank, each extension
+ * digits with only spaces behind or blank, CHILD SUPPORT or FAMILY SUPPORT in the agency name, neither IRS nor FMS a
+ * whole run of letters in the name or an address line, one of lines 1 to 3 and line 4 not blank, and the filler blank.
+ *
+ * table, table_length     The records, 220 bytes each, in rising order of columns 1-5, and the space for new ones. The
+ *                         length is in bytes and a multiple of 220. Bytes behind the last record may hold anything.
+ * count                   How many records the table has at entry; 0 for an empty table.
+ * file, file_length       The records that are read. The length is in bytes; 0 for an empty file, which is read.
+ * faulty, faulty_length   Where the numbers of the faulty records go. The length counts numbers, not bytes; at least one
+ *                         per record of the file, however few are faulty.
+ * result                  Where the two numbers of the result go (FANTANOLIVE_CONTACTS and FANTANOLIVE_FAULTY).
+ *
+ * Returns, in the order of checking:
+ *   18  FANTANOLIVE_WRONG_CONTACTS  file_length or table_length no multiple of 220, over 65,535 records in the file,
+ *                                   count above table_length / 220, a record of the table faulty, or their keys not
+ *                                   strictly rising
+ *   19  FANTANOLIVE_SHORT_CONTACTS  count plus the records of the file, faulty and repeated ones counted, whose key no
+ *                                   record of the table has at entry exceed table_length / 220; or faulty_length below
+ *                                   the number of records of the file
+ *   0   FANTANOLIVE_DONE            carried out
+ *
+ * Written when carried out: the records of the table, result[FANTANOLIVE_CONTACTS] of them, in rising order of key; the
+ * numbers of the faulty records, the first record of the file being 1, in file order; the two numbers of result.
+ * Kept: the bytes of table behind the last record, the numbers of faulty behind the last one; file. */
+uint64_t fantanolive_contacts_update(
+    uint8_t *table, size_t table_length, size_t count,
+    const uint8_t *file, size_t file_length,
+    uint16_t *faulty, size_t faulty_length,
+    uint64_t result[FANTANOLIVE_CONTACT_RESULTS]);
+
+/* fantanolive_contacts_codes: writes the local codes of a state, all but 000, three bytes each and rising. What it writes
+ * is a list of local codes as fantanolive_apply takes it.
+ *
+ * table, table_length     The records, 220 bytes each; the length is in bytes and a multiple of 220.
+ * count                   How many records the table has.
+ * state, state_length     The state, two bytes. The length is in bytes.
+ * out, out_length         Where the codes go. The length is in bytes, at least 3 x (records of the state with a code other
+ *                         than 000).
+ * codes                   Where the number of codes goes.
+ *
+ * Returns, in the order of checking:
+ *   18  FANTANOLIVE_WRONG_CONTACTS  table_length no multiple of 220, count above table_length / 220, a record of the table
+ *                                   faulty, or their keys not strictly rising
+ *   12  FANTANOLIVE_WRONG_STATE     state_length not 2, or state not in the table of 54
+ *   19  FANTANOLIVE_SHORT_CONTACTS  out_length below 3 x codes
+ *   0   FANTANOLIVE_DONE            carried out
+ *
+ * Written when carried out: the codes at the front of out; *codes, how many they are, which may be 0.
+ * Kept: the bytes of out behind the codes; all else. */
+uint64_t fantanolive_contacts_codes(
+    const uint8_t *table, size_t table_length, size_t count,
+    const uint8_t *state, size_t state_length,
+    uint8_t *out, size_t out_length,
+    uint64_t *codes);
 
 #ifdef __cplusplus
 }

@@ -1,5 +1,5 @@
 #!/usr/bin/env bash
-# Builds each example, runs it and compares what it prints with its expected.txt. A line for each; status 1 at the first that
+# Builds each example, runs it and compares what it prints with what was worked out by hand. A line for each; status 1 at the first that
 # differs or fails. The library is built where it is missing or older than a file of crates/.
 set -eu
 cd -- "$(dirname -- "$(readlink -f -- "$0")")/.."
@@ -13,16 +13,18 @@ if ! bin/build-library $only >"$log" 2>&1; then
     exit 1
 fi
 
+# the folder, the program, and the file in the folder that has what it must print
 compare() {
-    if target/examples/"$2" >target/examples/"$2".out && diff "$1/expected.txt" target/examples/"$2".out; then
-        echo "$1: passed"
+    if target/examples/"$2" >target/examples/"$2".out && diff "$1/${3-expected.txt}" target/examples/"$2".out; then
+        echo "$1 $2: passed"
     else
-        echo "$1: failed"
+        echo "$1 $2: failed"
         exit 1
     fi
 }
 
 compare examples/c apply-c
+compare examples/c contacts-c contacts-expected.txt
 if command -v cobc >/dev/null; then
     compare examples/cobol apply-cobol
 else

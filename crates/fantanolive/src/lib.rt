@@ -1,6 +1,7 @@
 // The C functions of the static library: each runs one public call, returns 0 or the refusal's number, and writes the result numbers
 // of a call that is carried out. Every argument may be anything that its type can hold.
 pub mod codepage_calls;
+pub mod contacts_calls;
 
 use batch::apply;
 use batch::apply::Applied;

@@ -1,9 +1,10 @@
 //! Times of the library, the reference and the speed engine, each also as a multiple of one
-//! memcpy of 13,107,000 bytes measured in the same run; converting as a multiple of one memcpy of
-//! the file. `--quick` leaves out what is predicted to
-//! take more than two seconds.
+//! memcpy of 13,107,000 bytes measured in the same run; converting and reading contacts as a
+//! multiple of one memcpy of the file. `--quick` leaves out what is predicted to take more than
+//! two seconds.
 
 mod clock;
+mod contacts;
 mod convert;
 mod input;
 
@@ -11,6 +12,7 @@ use std::hint::black_box;
 use std::time::{Duration, Instant, SystemTime, UNIX_EPOCH};
 
 use clock::seconds;
+use contacts::{updating, Updates};
 use convert::{converting, Conversions};
 use input::{adds, changes, falling, lookup, renames, Input, MOST};
 
@@ -98,7 +100,9 @@ fn main() {
     let crowded = bench.crowded();
     let looked = [bench.finding(), bench.reconciling()];
     let converted = converting(bench.repetitions);
-    print(&bench, &applied, &doubled, &crowded, &looked, &converted);
+    let updated = updating(bench.repetitions);
+    print(&bench, &applied, &doubled, &crowded, &looked);
+    print_files(&converted, &updated);
 }
 
 fn median(times: &[f64]) -> f64 {
@@ -278,14 +282,7 @@ fn cell(time: Option<f64>, copy: f64) -> String {
     }
 }
 
-fn print(
-    bench: &Bench,
-    applied: &[Line],
-    doubled: &[Line],
-    crowded: &[Line],
-    looked: &[Line],
-    converted: &Conversions,
-) {
+fn print(bench: &Bench, applied: &[Line], doubled: &[Line], crowded: &[Line], looked: &[Line]) {
     let copy = bench.copies.median();
     let copies = bench.copies.times.len();
     println!("machine: {}", machine());
@@ -317,7 +314,7 @@ fn print(
         "doubling: n rows, n changes", "library", "reference", "speed engine"
     );
     for (at, line) in doubled.iter().enumerate() {
-        print_beside(line, at.checked_sub(1).map(|at| &doubled[at]));
+        print_beside(line, at.checked_sub(1).map(|at| &doubled[at]), ENGINES);
     }
     println!();
     println!(
@@ -325,7 +322,7 @@ fn print(
         "half B, half M, beside distinct keys", "library", "reference", "speed engine"
     );
     for (at, line) in crowded.iter().enumerate() {
-        print_beside(line, (at > 0).then_some(&crowded[0]));
+        print_beside(line, (at > 0).then_some(&crowded[0]), ENGINES);
     }
     println!();
     println!("{:<40}{:>22}{:>22}", "65535 rows", "library", "reference");
@@ -333,14 +330,20 @@ fn print(
         let [library, reference, _] = line.times.map(|time| cell(time, copy));
         println!("{:<40}{library:>22}{reference:>22}", line.name);
     }
-    println!();
-    converted.print();
 }
 
-/// A line with its times as multiples of another's.
-fn print_beside(line: &Line, other: Option<&Line>) {
+/// The calls over other files than a master and a batch.
+fn print_files(converted: &Conversions, updated: &Updates) {
+    println!();
+    converted.print();
+    println!();
+    updated.print();
+}
+
+/// A line with the times of the first engines, as multiples of another line's.
+fn print_beside(line: &Line, other: Option<&Line>, engines: usize) {
     let others = other.map_or([None; ENGINES], |other| other.times);
-    let pairs = line.times.iter().zip(others);
+    let pairs = line.times.iter().zip(others).take(engines);
     let cells: Vec<String> = pairs
         .map(|(time, other)| match (time, other) {
             (Some(time), Some(other)) => {
@@ -349,11 +352,9 @@ fn print_beside(line: &Line, other: Option<&Line>) {
             (Some(time), None) => format!("{:>9.2} ms         ", time * 1e3),
             _ => "left out".to_string(),
         })
+        .map(|cell| format!("{cell:>22}"))
         .collect();
-    println!(
-        "{:<40}{:>22}{:>22}{:>22}",
-        line.name, cells[0], cells[1], cells[2]
-    );
+    println!("{:<40}{}", line.name, cells.concat());
 }
 
 fn machine() -> String {

@@ -1,22 +1,37 @@
 //! Compares the library with the reference on random cases; see the README for the options.
 
+mod contacts;
 mod names;
 mod run;
+mod tally;
 
 use std::collections::HashSet;
 use std::process::ExitCode;
 use std::time::{Instant, SystemTime, UNIX_EPOCH};
 
+use contacts::Contacts;
 use generator::rng::mix;
 use generator::{ApplyCase, Case};
 use names::Names;
 use run::{account, codes, run, Outcome};
+use tally::Tally;
 
 /// The most failing cases whose seeds are printed.
 const SHOWN: u64 = 20;
-const CALLS: [&str; 5] = ["apply", "find", "reconcile", "to_ebcdic", "to_ascii"];
-/// The refusals have the numbers 1 to 17.
-const ANSWERS: usize = 18;
+/// From so many cases on, each refusal, code and situation must have been seen.
+const ENOUGH: u64 = 5000;
+/// The calls with their refusals in order.
+const CALLS: [(&str, &[usize]); 7] = [
+    ("apply", &[1, 2, 3, 4, 5, 6, 7, 8, 9, 10, 11]),
+    ("find", &[3, 4, 14, 15]),
+    ("reconcile", &[3, 4, 12, 13, 11]),
+    ("to_ebcdic", &[16, 17]),
+    ("to_ascii", &[16, 17]),
+    ("contacts", &[18, 19]),
+    ("codes", &[18, 12, 19]),
+];
+/// The refusals have the numbers 1 to 19.
+const ANSWERS: usize = 20;
 const CODES: [usize; 20] = [
     1, 2, 3, 4, 5, 6, 7, 8, 9, 10, 11, 12, 13, 14, 15, 16, 17, 18, 51, 52,
 ];
@@ -43,6 +58,7 @@ struct Seen {
     renamed: u64,
     kept_room: u64,
     names: Names,
+    contacts: Contacts,
     records: u64,
     limits: u64,
     failed: u64,
@@ -57,6 +73,9 @@ impl Seen {
         }
         self.answers[outcome.call][number] += 1;
         if number != 0 {
+            if let Case::Update(case) = before {
+                self.contacts.note_refused(case, number);
+            }
             return;
         }
         match (before, &outcome.after) {
@@ -76,6 +95,10 @@ impl Seen {
                 self.kept_room += u64::from(after.result[4] < (case.master.len() / 200) as u64);
             }
             (_, Case::Reconcile(after)) => self.records += after.records,
+            (Case::Update(case), _) => self.contacts.note_update(case),
+            (Case::Codes(case), Case::Codes(after)) => {
+                self.contacts.note_codes(case, after.codes);
+            }
             _ => {}
         }
     }
@@ -107,7 +130,7 @@ impl Seen {
     }
 
     fn print(&self) {
-        let names = CALLS.map(|call| format!("{call:>11}"));
+        let names = CALLS.map(|(call, _)| format!("{call:>11}"));
         println!("{:<14}{}", "", names.concat());
         for number in 0..ANSWERS {
             let name = if number == 0 {
@@ -148,23 +171,32 @@ impl Seen {
                 .collect();
             println!("{}", cells.join("   "));
         }
-        self.names.print();
+        for tally in self.tallies() {
+            tally.print();
+        }
     }
 
-    /// Refusals, codes and names that no case brought about.
+    fn tallies(&self) -> Vec<&Tally> {
+        let mut tallies = vec![&self.names.0];
+        tallies.extend(self.contacts.tallies());
+        tallies
+    }
+
+    /// Refusals, codes and situations that no case brought about.
     fn missing(&self) -> Vec<String> {
         let mut missing = Vec::new();
-        for number in 1..ANSWERS {
-            if self.answers.iter().all(|call| call[number] == 0) {
-                missing.push(format!("refusal {number}"));
-            }
+        for ((call, refusals), answers) in CALLS.iter().zip(&self.answers) {
+            let never = refusals.iter().filter(|&&number| answers[number] == 0);
+            missing.extend(never.map(|number| format!("refusal {number} of {call}")));
         }
         for code in CODES {
             if self.codes[code] == 0 {
                 missing.push(format!("code {code:02}"));
             }
         }
-        missing.extend(self.names.missing());
+        for tally in self.tallies() {
+            missing.extend(tally.missing());
+        }
         missing
     }
 }
@@ -237,7 +269,7 @@ fn main() -> ExitCode {
             if seen.failed <= SHOWN {
                 println!(
                     "case {seed} ({}) differs: {}",
-                    CALLS[outcome.call], outcome.differences[0]
+                    CALLS[outcome.call].0, outcome.differences[0]
                 );
             }
         }
@@ -250,7 +282,7 @@ fn main() -> ExitCode {
         seen.failed
     );
     let missing = seen.missing();
-    if options.cases >= 2000 && !missing.is_empty() {
+    if options.cases >= ENOUGH && !missing.is_empty() {
         println!("never seen: {}", missing.join(", "));
         return ExitCode::FAILURE;
     }

@@ -4,10 +4,12 @@ use std::collections::{HashMap, HashSet};
 
 use generator::ApplyCase;
 
+use crate::tally::Tally;
+
 type Key = [u8; 12];
 type Name = [u8; 4];
 
-/// What is counted, over the details on which 17 is judged.
+/// Over the details on which 17 is judged.
 const LABELS: [&str; 11] = [
     "stored",
     "of a B before",
@@ -22,8 +24,13 @@ const LABELS: [&str; 11] = [
     "17, old, behind a B",
 ];
 
-#[derive(Default)]
-pub struct Names([u64; LABELS.len()]);
+pub struct Names(pub Tally);
+
+impl Default for Names {
+    fn default() -> Names {
+        Names(Tally::new("names where 17 is judged", LABELS))
+    }
+}
 
 struct Detail {
     key: Key,
@@ -89,43 +96,31 @@ impl Names {
         let same = same.map_or(&[][..], |same| same);
         let giving =
             |&&(_, other): &&(usize, &Detail)| !has(other.verdict, &[1, 2, 3, 4, 5, 6, 18]);
+        let tally = &mut self.0;
         if has(detail.verdict, &[17]) {
-            for (at, code) in [5, 6, 18].into_iter().enumerate() {
+            for (label, code) in LABELS[6..].iter().zip([5, 6, 18]) {
                 let spoilt = same.iter().any(|(_, other)| has(other.verdict, &[code]));
-                self.0[6 + at] += u64::from(spoilt);
+                tally.add(label, spoilt);
             }
             let mut twin = detail.key;
             twin[11] ^= 0xC1 ^ 0xD5;
             let twin = renames.get(&(twin, detail.name));
-            self.0[9] += u64::from(twin.is_some_and(|same| same.iter().any(|one| giving(&one))));
-            self.0[10] += u64::from(was);
+            let given = twin.is_some_and(|same| same.iter().any(|one| giving(&one)));
+            tally.add("17, of a B of the other case type", given);
+            tally.add("17, old, behind a B", was);
         } else if is {
-            self.0[0] += 1;
+            tally.add("stored", true);
         } else {
             let mut givers = same.iter().filter(giving);
             let before = givers.clone().any(|&(other, _)| other < place);
             let behind = givers.clone().any(|&(other, _)| other > place);
-            self.0[1] += u64::from(before && !behind);
-            self.0[2] += u64::from(behind && !before);
-            self.0[3] += u64::from(before && behind);
-            self.0[4] += u64::from(givers.all(|(_, other)| has(other.verdict, &[9])));
-            self.0[5] += u64::from(was);
+            tally.add("of a B before", before && !behind);
+            tally.add("of a B behind", behind && !before);
+            tally.add("of Bs before and behind", before && behind);
+            let rejected = givers.all(|(_, other)| has(other.verdict, &[9]));
+            tally.add("of a B with 09", rejected);
+            tally.add("old, of another B", was);
         }
-    }
-
-    pub fn print(&self) {
-        println!("names of details on which 17 is judged:");
-        for (label, count) in LABELS.iter().zip(self.0) {
-            println!("  {label:<36}{count:>9}");
-        }
-    }
-
-    /// What no detail brought about.
-    pub fn missing(&self) -> impl Iterator<Item = String> + '_ {
-        let counts = LABELS.iter().zip(self.0);
-        counts
-            .filter(|&(_, count)| count == 0)
-            .map(|(label, _)| format!("a name {label}"))
     }
 }
 

@@ -1,5 +1,7 @@
 //! Runs one case on both sides and compares the number answered, the results and every byte lent.
 
+mod contacts;
+
 use generator::text::shown;
 use generator::{ApplyCase, Case, ConvertCase, Direction, FindCase, ReconcileCase};
 use reference::code_page::Refusal;
@@ -58,6 +60,8 @@ pub fn run(case: Case) -> Outcome {
         Case::Find(case) => run_find(case),
         Case::Reconcile(case) => run_reconcile(case),
         Case::Convert(case) => run_convert(case),
+        Case::Update(case) => contacts::run_update(case),
+        Case::Codes(case) => contacts::run_codes(case),
     }
 }
 
@@ -330,6 +334,8 @@ pub fn account(before: &Case, outcome: &Outcome) {
             );
             println!("  input {:02x?}", case.input);
         }
+        (Case::Update(case), _) => contacts::account_update(case),
+        (Case::Codes(case), _) => contacts::account_codes(case),
         _ => {}
     }
     println!("reference answers {}", outcome.number);

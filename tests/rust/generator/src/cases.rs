@@ -3,6 +3,7 @@
 use std::collections::BTreeSet;
 
 use crate::bulk;
+use crate::contacts::{self, CodesCase, UpdateCase};
 use crate::crowd;
 use crate::files::{convert_case, ConvertCase};
 use crate::records::{control, detail, totals, Record, RECORD};
@@ -47,6 +48,8 @@ pub enum Case {
     Find(FindCase),
     Reconcile(ReconcileCase),
     Convert(ConvertCase),
+    Update(UpdateCase),
+    Codes(CodesCase),
 }
 
 /// The case of a seed.
@@ -55,13 +58,18 @@ pub fn case(seed: u64) -> Case {
     if rng.once_in(2500) {
         return Case::Apply(giant(&mut rng));
     }
+    if rng.once_in(4000) {
+        return Case::Update(contacts::giant(&mut rng));
+    }
     if rng.once_in(200) {
         return wild(&mut rng);
     }
-    match rng.below(10) {
+    match rng.below(12) {
         0 => Case::Find(find_case(&mut rng)),
         1 => Case::Reconcile(reconcile_case(&mut rng)),
         2 => Case::Convert(convert_case(&mut rng)),
+        3 => Case::Update(contacts::update_case(&mut rng)),
+        4 => Case::Codes(contacts::codes_case(&mut rng)),
         _ => Case::Apply(apply_case(&mut rng)),
     }
 }
@@ -501,7 +509,7 @@ fn wild(rng: &mut Rng) -> Case {
         1 => rng.below(4),
         _ => rng.number() as usize,
     };
-    match rng.below(3) {
+    match rng.below(5) {
         0 => Case::Find(FindCase {
             master: any(rng),
             rows,
@@ -516,6 +524,8 @@ fn wild(rng: &mut Rng) -> Case {
             out: any(rng),
             records: rng.number(),
         }),
+        2 => Case::Update(contacts::wild_update(rng)),
+        3 => Case::Codes(contacts::wild_codes(rng)),
         _ => Case::Apply(ApplyCase {
             master: any(rng),
             rows,

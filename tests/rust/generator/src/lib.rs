@@ -2,6 +2,7 @@
 
 pub mod bulk;
 pub mod cases;
+pub mod contacts;
 pub mod crowd;
 pub mod files;
 pub mod records;
@@ -11,4 +12,5 @@ pub mod text;
 pub mod world;
 
 pub use cases::{apply_only, case, ApplyCase, Case, FindCase, ReconcileCase};
+pub use contacts::{CodesCase, UpdateCase};
 pub use files::{ConvertCase, Direction};

@@ -30,6 +30,8 @@ pub fn byte(character: u8) -> u8 {
         b',' => 0x6B,
         b'.' => 0x4B,
         b'/' => 0x61,
+        b'(' => 0x4D,
+        b')' => 0x5D,
         _ => SPACE,
     }
 }
@@ -50,7 +52,7 @@ pub fn shown(bytes: &[u8]) -> String {
         .map(|&shown| {
             (b' '..=b'z')
                 .filter(|character| {
-                    character.is_ascii_alphanumeric() || b" -,./".contains(character)
+                    character.is_ascii_alphanumeric() || b" -,./()".contains(character)
                 })
                 .find(|&character| byte(character) == shown)
                 .map_or('?', char::from)

@@ -51,6 +51,26 @@ extern "C" {
         out_length: usize,
         place: *mut u64,
     ) -> u64;
+    fn fantanolive_contacts_update(
+        table: *mut u8,
+        table_length: usize,
+        count: usize,
+        file: *const u8,
+        file_length: usize,
+        faulty: *mut u16,
+        faulty_length: usize,
+        result: *mut u64,
+    ) -> u64;
+    fn fantanolive_contacts_codes(
+        table: *const u8,
+        table_length: usize,
+        count: usize,
+        state: *const u8,
+        state_length: usize,
+        out: *mut u8,
+        out_length: usize,
+        codes: *mut u64,
+    ) -> u64;
 }
 
 /// Answers 0 when carried out, else the refusal's number.
@@ -150,6 +170,52 @@ pub fn to_ascii(input: &[u8], out: &mut [u8], place: &mut u64) -> u64 {
             out.as_mut_ptr(),
             out.len(),
             place,
+        )
+    }
+}
+
+/// Answers 0 when carried out, else the refusal's number.
+pub fn contacts_update(
+    table: &mut [u8],
+    count: usize,
+    file: &[u8],
+    faulty: &mut [u16],
+    result: &mut [u64; 2],
+) -> u64 {
+    // SAFETY: each pointer comes with the length of its slice.
+    unsafe {
+        fantanolive_contacts_update(
+            table.as_mut_ptr(),
+            table.len(),
+            count,
+            file.as_ptr(),
+            file.len(),
+            faulty.as_mut_ptr(),
+            faulty.len(),
+            result.as_mut_ptr(),
+        )
+    }
+}
+
+/// Answers 0 when carried out, else the refusal's number.
+pub fn contacts_codes(
+    table: &[u8],
+    count: usize,
+    state: &[u8],
+    out: &mut [u8],
+    codes: &mut u64,
+) -> u64 {
+    // SAFETY: each pointer comes with the length of its slice.
+    unsafe {
+        fantanolive_contacts_codes(
+            table.as_ptr(),
+            table.len(),
+            count,
+            state.as_ptr(),
+            state.len(),
+            out.as_mut_ptr(),
+            out.len(),
+            codes,
         )
     }
 }

@@ -1,9 +1,10 @@
-//! Document 01 and items 1 and 3 of document 02 written out rule by rule, in their order and words;
+//! Document 01 and items 1, 3 and 4 of document 02 written out rule by rule, in their order and words;
 //! simple before fast.
 //! Nothing here panics: every length is looked at by a refusal before it is relied on.
 
 pub mod batch;
 pub mod code_page;
+pub mod contacts;
 pub mod errors;
 pub mod lookup;
 pub mod machine;

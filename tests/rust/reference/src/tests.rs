@@ -1,5 +1,6 @@
 //! The paper's example, its table (a)–(j), and the edges of the refusals.
 
+mod contacts;
 mod names;
 
 use crate::batch::{apply, Counts, RECORD};

@@ -1,0 +1,2 @@
+pub mod WordingLaws
+pub mod ContactLaws

@@ -1,0 +1,3 @@
+pub mod ChartA3
+pub mod Wording
+pub mod Contact

@@ -1,0 +1,59 @@
+// What a field contains, and its runs of letters.
+use text::characters;
+use text::fields;
+ghost use mathlib.Core.Path.{_≡_};
+ghost use mathlib.Core.Bool.{cond};
+ghost use Prim.Native.Nat.{_<_};
+ghost use lib.ListN.{length};
+ghost use Rattle.contactrecord.specs.Wording.{startsWith, contains, hasRun};
+
+// Whether the text stands at the front of s.
+fn starts_with(s: &[u8], text: &[u8]) -> bool
+    ensures { λ r. ⌜ r ≡ startsWith (now (text .entry)) (now (s .entry)) ⌝ }
+{
+    let n = text.len();
+    if s.len() < n {
+        return false;
+    }
+    fields::same(&s[0..n], text)
+}
+
+// Whether s contains the text.
+pub fn holds_text(s: &[u8], text: &[u8]) -> bool
+    ensures { λ r. ⌜ r ≡ contains (now (text .entry)) (now (s .entry)) ⌝ }
+{
+    let mut i: usize = 0;
+    while i < s.len() {
+        if starts_with(&s[i..], text) {
+            return true;
+        }
+        i += 1;
+    }
+    false
+}
+
+// Where the present run of letters starts, behind a byte.
+fn run_start(letter: bool, start: usize, next: usize) -> usize
+    ensures { λ r. ⌜ r ≡ cond letter start next ⌝ }
+{
+    if letter { start } else { next }
+}
+
+// Whether the word, which isn't empty, is a whole run of letters of s.
+pub fn has_run(s: &[u8], word: &[u8]) -> bool
+    requires { ⌜ 0 < length (now word) ⌝ }
+    ensures { λ r. ⌜ r ≡ hasRun (now (word .entry)) (now (s .entry)) ⌝ }
+{
+    let mut start: usize = 0;
+    let mut i: usize = 0;
+    while i < s.len() {
+        let letter = characters::is_letter(s[i]);
+        let ends = fields::same(word, &s[start..i]) & !letter;
+        if ends {
+            return true;
+        }
+        i += 1;
+        start = run_start(letter, start, i);
+    }
+    fields::same(word, &s[start..i])
+}

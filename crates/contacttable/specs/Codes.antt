@@ -1,0 +1,63 @@
+-- Document 02, item 4: the codes of one state but 000, three bytes each and rising, or a refusal. Assumes nothing.
+use Prim.Native.Nat.{ℕ, _*_}
+use mathlib.Core.List.{List, [], _∷_, _++_}
+use mathlib.Core.Bool.{Bool, not, cond, _&&_}
+use lib.ListN.{length}
+use lib.Dec.{eqb, ltb}
+use Rattle.text.specs.Characters.{zeroDigit}
+use Rattle.text.specs.Fields.{sameBytes}
+use Rattle.text.specs.Blocks.{joined, over}
+use Rattle.layout.specs.States.{isState}
+use Rattle.casemaster.specs.Refusals.{orElse}
+use Rattle.contactrecord.specs.ChartA3.{contactState, contactCode}
+use Rattle.contacttable.specs.Table.{contactsOf, isWrongTable}
+use Rattle.contacttable.specs.declared.codes.Codes.{Codes}
+use Rattle.contacttable.specs.declared.codes.Codes.the-variants.{Done, Refused}
+
+-- 000 is the state's own
+abbrev pub ownCode : List ℕ
+ownCode = zeroDigit ∷ zeroDigit ∷ zeroDigit ∷ []
+
+-- a record of the state with a code other than 000
+unfoldable pub isLocalOf : List ℕ → List ℕ → Bool
+isLocalOf state rec = sameBytes (contactState rec) state && not (sameBytes (contactCode rec) ownCode)
+
+-- the codes of one state but 000, in the table's order
+unfoldable pub localCodes : List ℕ → List (List ℕ) → List (List ℕ)
+localCodes state [] = []
+localCodes state (rec ∷ table) = cond (isLocalOf state rec) (contactCode rec ∷ []) [] ++ localCodes state table
+
+-- refused, in order: 18; 12, a state not in the table, one that isn't two bytes included; 19, an output too short
+unfoldable pub codesRefusal : List ℕ → ℕ → List ℕ → List ℕ → ℕ
+codesRefusal table count state out =
+    orElse (isWrongTable table count) 18
+    (orElse (not (isState state)) 12
+    (orElse (ltb (length out) (length (localCodes state (contactsOf count table)) * 3)) 19 0))
+
+-- the result counts the codes, or is a refusal's number
+pub data CodesResult : Type 0 where
+  codes : ℕ → CodesResult
+  refused : ℕ → CodesResult
+
+-- what each answer of the call stands for
+abbrev pub codesAnswered : Codes → CodesResult
+codesAnswered (Done n) = codes n
+codesAnswered (Refused n) = refused n
+
+pub record CodesOutcome : Type 0 where
+  pub result : CodesResult
+  pub out : List ℕ
+
+-- the answer of the call and the output that it leaves
+abbrev pub codesAs : Codes → List ℕ → CodesOutcome
+codesAs answer out = record { result = codesAnswered answer; out = out }
+
+-- bytes behind the codes are kept; a refusal leaves the output alone
+unfoldable pub codesOutcome : List ℕ → ℕ → List ℕ → List ℕ → CodesOutcome
+codesOutcome table count state out =
+    cond (eqb (codesRefusal table count state out) 0)
+    (record {
+      result = codes (length (localCodes state (contactsOf count table)));
+      out = over (joined (localCodes state (contactsOf count table))) out;
+    })
+    (record { result = refused (codesRefusal table count state out); out = out })

@@ -1,0 +1,16 @@
+-- Document 02, item 4: the codes of a state are what `apply` takes as its list. Over a whole call. Assumes nothing.
+use Prim.Native.Nat.{ℕ, _*_}
+use mathlib.Core.Path.{_≡_}
+use mathlib.Core.List.{List}
+use mathlib.Core.Bool.{true}
+use lib.ListN.{take}
+use Rattle.layout.specs.Locals.{isLocalList}
+use Rattle.contacttable.specs.Codes.{codes, CodesOutcome, codesOutcome}
+
+-- the call is carried out with n codes: the 3 × n bytes at the front of the output aren't refused by 2 as a list
+abbrev pub CodesAreAList : Type 0
+CodesAreAList =
+    (table : List ℕ) (count : ℕ) (state out : List ℕ) (o : CodesOutcome) (n : ℕ)
+    → o ≡ codesOutcome table count state out
+    → o .result ≡ codes n
+    → isLocalList (take (n * 3) (o .out)) ≡ true

@@ -1,0 +1,91 @@
+-- Document 02, item 4: a contact file read into a table, each record in turn, or a refusal. Assumes nothing.
+use Prim.Native.Nat.{ℕ, _+_, _/_, _%_}
+use mathlib.Core.List.{List, [], _∷_, map}
+use mathlib.Core.Bool.{Bool, not, cond, _||_}
+use lib.ListN.{length}
+use lib.Dec.{eqb, ltb}
+use Rattle.text.specs.Fields.{isOneOf}
+use Rattle.text.specs.Blocks.{joined, over}
+use Rattle.text.specs.ByteOrder.{withBlock}
+use Rattle.casemaster.specs.Refusals.{orElse}
+use Rattle.contactrecord.specs.ChartA3.{contactKey}
+use Rattle.contactrecord.specs.Contact.{isFaulty}
+use Rattle.contacttable.specs.Table.{contactsOf, isWrongTable}
+use Rattle.contactupdate.specs.declared.update.Updated.{Updated}
+use Rattle.contactupdate.specs.declared.update.Updated.the-variants.{Done, Refused}
+
+-- a record replaces whole the one of its state and code, its first five bytes, or else is added
+unfoldable pub withContact : List ℕ → List (List ℕ) → List (List ℕ)
+withContact new table = withBlock 5 new table
+
+-- the records of a file in turn; a faulty one is skipped
+unfoldable pub updated : List (List ℕ) → List (List ℕ) → List (List ℕ)
+updated [] table = table
+updated (rec ∷ file) table = updated file (cond (isFaulty rec) table (withContact rec table))
+
+-- the numbers of the faulty records, in file order, the first record's being n
+unfoldable pub faultyFrom : ℕ → List (List ℕ) → List ℕ
+faultyFrom n [] = []
+faultyFrom n (rec ∷ file) = cond (isFaulty rec) (n ∷ faultyFrom (n + 1) file) (faultyFrom (n + 1) file)
+
+-- at most 65,535 records in a file
+unfoldable pub maxContacts : ℕ
+maxContacts = 65535
+
+-- 18, of a file: a length no multiple of 220, or over 65,535 records
+unfoldable pub isWrongFile : List ℕ → Bool
+isWrongFile file = not (eqb (length file % 220) 0) || ltb maxContacts (length file / 220)
+
+-- the records of a file
+abbrev pub recordsOf : List ℕ → List (List ℕ)
+recordsOf file = contactsOf (length file / 220) file
+
+-- how many records of a file, faulty and repeated ones counted, have a key that the table lacks
+unfoldable pub lacking : List (List ℕ) → List (List ℕ) → ℕ
+lacking table [] = 0
+lacking table (rec ∷ file) = cond (isOneOf (contactKey rec) (map contactKey table)) 0 1 + lacking table file
+
+-- 19: a table without space for every record whose key it lacks at entry, or a list shorter than the records
+unfoldable pub refusal19 : List ℕ → ℕ → List ℕ → List ℕ → Bool
+refusal19 table count file faulty =
+    ltb (length table / 220) (count + lacking (contactsOf count table) (recordsOf file)) || ltb (length faulty) (length file / 220)
+
+-- refused: 18, of the file or the table, then 19
+unfoldable pub updateRefusal : List ℕ → ℕ → List ℕ → List ℕ → ℕ
+updateRefusal table count file faulty =
+    orElse (isWrongFile file || isWrongTable table count) 18 (orElse (refusal19 table count file faulty) 19 0)
+
+-- the result is the new table count and the list's, or a refusal's number
+pub data UpdateResult : Type 0 where
+  counts : ℕ → ℕ → UpdateResult
+  refused : ℕ → UpdateResult
+
+-- what each answer of the call stands for
+abbrev pub updateOf : Updated → UpdateResult
+updateOf (Done n f) = counts n f
+updateOf (Refused n) = refused n
+
+pub record UpdateOutcome : Type 0 where
+  pub result : UpdateResult
+  pub table : List ℕ
+  pub faulty : List ℕ
+
+-- the answer of the call and the buffers that it leaves
+abbrev pub updatedAs : Updated → List ℕ → List ℕ → UpdateOutcome
+updatedAs answer table faulty = record { result = updateOf answer; table = table; faulty = faulty }
+
+-- the table's records once the file is read
+abbrev pub newTable : List ℕ → ℕ → List ℕ → List (List ℕ)
+newTable table count file = updated (recordsOf file) (contactsOf count table)
+
+-- the new records and the numbers of the faulty ones, a record's number being its place in the file from 1; bytes behind the records and
+-- numbers behind the list are kept; a refusal leaves both buffers alone
+unfoldable pub updateOutcome : List ℕ → ℕ → List ℕ → List ℕ → UpdateOutcome
+updateOutcome table count file faulty =
+    cond (eqb (updateRefusal table count file faulty) 0)
+    (record {
+      result = counts (length (newTable table count file)) (length (faultyFrom 1 (recordsOf file)));
+      table = over (joined (newTable table count file)) table;
+      faulty = over (faultyFrom 1 (recordsOf file)) faulty;
+    })
+    (record { result = refused (updateRefusal table count file faulty); table = table; faulty = faulty })

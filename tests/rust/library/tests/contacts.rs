@@ -1,0 +1,62 @@
+//! The contact file through the library at its limits, which random cases seldom reach.
+
+use generator::contacts::{numbered, CONTACT};
+
+const MOST: usize = 65_535;
+
+/// Answer, result, table and list of an update of an empty table.
+fn updated(file: &[u8], space: usize, list: usize) -> (u64, [u64; 2], Vec<u8>, Vec<u16>) {
+    let (mut table, mut faulty) = (vec![0xEE; space * CONTACT], vec![0xEEEE; list]);
+    let mut result = [77; 2];
+    let answer = library::contacts_update(&mut table, 0, file, &mut faulty, &mut result);
+    (answer, result, table, faulty)
+}
+
+/// The same by the reference.
+fn expected(file: &[u8], space: usize, list: usize) -> (u64, [u64; 2], Vec<u8>, Vec<u16>) {
+    let (mut table, mut faulty) = (vec![0xEE; space * CONTACT], vec![0xEEEE; list]);
+    let (answer, result) = match reference::contacts::update(&mut table, 0, file, &mut faulty) {
+        Ok(result) => (0, result),
+        Err(number) => (number, [77; 2]),
+    };
+    (answer, result, table, faulty)
+}
+
+#[test]
+fn a_file_of_most_records() {
+    let good: Vec<u8> = (0..MOST).flat_map(|at| numbered(at * 7 % 54_000)).collect();
+    let bad = vec![0x40; MOST * CONTACT];
+    for file in [&good, &bad] {
+        for (space, list) in [(MOST, MOST), (MOST - 1, MOST), (MOST, MOST - 1), (0, 0)] {
+            assert!(updated(file, space, list) == expected(file, space, list));
+        }
+    }
+    let (answer, result, _, list) = updated(&bad, MOST, MOST);
+    assert_eq!((answer, result), (0, [0, 65_535]));
+    assert!(list.iter().copied().eq(1..=u16::MAX));
+}
+
+#[test]
+fn a_record_more() {
+    let file = vec![0x40; (MOST + 1) * CONTACT];
+    let (answer, result, table, list) = updated(&file, MOST + 1, MOST + 1);
+    assert_eq!((answer, result), (18, [77; 2]));
+    assert!(table.iter().all(|&byte| byte == 0xEE) && list.iter().all(|&one| one == 0xEEEE));
+}
+
+#[test]
+fn every_key_that_there_is() {
+    let file: Vec<u8> = (0..54_000).rev().flat_map(numbered).collect();
+    let (answer, result, table, _) = updated(&file, 54_000, 54_000);
+    assert_eq!((answer, result), (0, [54_000, 0]));
+    assert!(table.chunks(CONTACT).eq((0..54_000).map(numbered)));
+    let (mut out, mut codes) = (vec![0xEE; 3 * 999 + 1], 77);
+    let state = [0xD6, 0xC8];
+    let short = &mut out[..3 * 999 - 1];
+    let answer = library::contacts_codes(&table, 54_000, &state, short, &mut codes);
+    assert_eq!((answer, codes), (19, 77));
+    let answer = library::contacts_codes(&table, 54_000, &state, &mut out, &mut codes);
+    assert_eq!((answer, codes), (0, 999));
+    assert_eq!(out[..3], [0xF0, 0xF0, 0xF1]);
+    assert_eq!(out[3 * 998..], [0xF9, 0xF9, 0xF9, 0xEE]);
+}
