@@ -16,8 +16,8 @@
  * Bytes. All text is EBCDIC: letters C1-C9, D1-D9, E2-E9, digits F0-F9, space 40, hyphen 60, comma 6B (hexadecimal).
  * A batch typed in ASCII is turned into EBCDIC by fantanolive_to_ebcdic first; the other calls convert nothing.
  *
- * Answers. Each call answers 0 (FANTANOLIVE_DONE) when it was carried out, else the number of a refusal, 1 to 19.
- * A call answers the first refusal that holds, in the order that is given with it. On a refusal nothing at all is
+ * Answers. Each call answers 0 (FANTANOLIVE_DONE) when it was carried out, else the number of a refusal, 1 to 21. A
+ * call answers the first refusal that holds, in the order that is given with it. On a refusal nothing at all is
  * written: no byte of any buffer, and no number of the result but the place that goes with refusal 16.
  *
  * Memory. The caller owns every buffer, before, during and after a call. The library allocates nothing, frees nothing
@@ -106,7 +106,7 @@ extern "C" {
 #define FANTANOLIVE_WRONG_MASTER 3    /* master length no multiple of 200, or row count above length / 200 or 65,535 */
 #define FANTANOLIVE_UNSOUND_ROW 4     /* a row that is not sound, or rows not in strictly rising order of key */
 #define FANTANOLIVE_WRONG_BATCH 5     /* batch empty, no multiple of 245, or over 65,536 records */
-#define FANTANOLIVE_WRONG_CONTROL 6   /* control record malformed */
+#define FANTANOLIVE_NO_CTL 6          /* CTL is missing in columns 3-5 of the last record */
 #define FANTANOLIVE_WRONG_COUNT 7     /* a count of the control record differs from the details' */
 #define FANTANOLIVE_WRONG_AMOUNT 8    /* an amount of the control record differs from the details' */
 #define FANTANOLIVE_NO_ROOM 9         /* rows plus A records whose key has no row exceed length / 200 or 65,535 */
@@ -120,6 +120,8 @@ extern "C" {
 #define FANTANOLIVE_SHORT_FILE 17     /* output shorter than the input */
 #define FANTANOLIVE_WRONG_CONTACTS 18 /* contact file or table of a wrong length or count, table faulty or out of order */
 #define FANTANOLIVE_SHORT_CONTACTS 19 /* no space in the table, a list or an output of codes too short */
+#define FANTANOLIVE_CONTROL_STATE 20  /* the control record's state is not in the table of 54 */
+#define FANTANOLIVE_CONTROL_FORM 21   /* a total of the control record is not digits, or its filler not spaces */
 
 /* A verdict is a number of 64 bits: the sum of 2 to the power c over the codes c that the detail got. Errors are the
  * codes 1 to 18, warnings 51 and 52; a verdict of 0 has none. A detail with an error is rejected and changes nothing.
@@ -156,7 +158,10 @@ extern "C" {
  *   3   FANTANOLIVE_WRONG_MASTER    master_length no multiple of 200, or rows above master_length / 200 or 65,535
  *   4   FANTANOLIVE_UNSOUND_ROW     one of the rows is not sound, or their keys do not strictly rise
  *   5   FANTANOLIVE_WRONG_BATCH     batch_length 0, no multiple of 245, or over 65,536 records
- *   6   FANTANOLIVE_WRONG_CONTROL   the last record is not a control record: state in the table, CTL, digits, spaces
+ *   6   FANTANOLIVE_NO_CTL          columns 3-5 of the last record, the control record, are not CTL
+ *   20  FANTANOLIVE_CONTROL_STATE   its state, columns 1-2, is not in the table of 54
+ *   21  FANTANOLIVE_CONTROL_FORM    its totals, columns 6-45, are not all digits, or its filler, columns 46-245, not all
+ *                                   spaces
  *   7   FANTANOLIVE_WRONG_COUNT     its count of TANF or of Non-TANF records differs from the details'
  *   8   FANTANOLIVE_WRONG_AMOUNT    its amount for TANF or for Non-TANF differs from the details' (types A and M)
  *   9   FANTANOLIVE_NO_ROOM         rows plus the details of type A whose key has no row at entry exceed

@@ -21,7 +21,8 @@ use Rattle.batch.specs.Progress.{Worked}
 use Rattle.reporting.specs.declared.counts.Tally.{Tally}
 use Rattle.batch.specs.declared.apply.Applied.{Applied}
 use Rattle.batch.specs.declared.apply.Applied.the-variants.{Refused}
-use Rattle.batch.proofs.BatchLaws.{batch-behind}
+use Rattle.control.specs.Refusals.{batchRefusal}
+use Rattle.control.proofs.RefusalsLaws.{batch-behind}
 use Rattle.casemaster.proofs.RefusalsLaws.{master-passed, master-refused}
 use Rattle.reporting.proofs.CountsLaws.{length-control}
 use Rattle.text.proofs.HoldsLaws.{holds-last}
@@ -30,7 +31,7 @@ use Rattle.casemaster.specs.Refusals.{orElse, masterRefusal}
 use Rattle.turns.specs.Adds.{addsWithoutRow}
 use Rattle.layout.specs.Batch.{detailCount, detailsOf, controlOf, submittingState}
 use Rattle.batch.specs.Call.{Call}
-use Rattle.batch.specs.Refusals.{refusal1, refusal2, refusal9, refusal10, refusal11, spaceRefusal, batchRefusal, applyRefusal}
+use Rattle.batch.specs.Refusals.{refusal1, refusal2, refusal9, refusal10, refusal11, spaceRefusal, applyRefusal}
 
 -- ---- the space
 

@@ -12,15 +12,14 @@ use Rattle.layout.specs.Locals.{isLocalList}
 use Rattle.text.proofs.BoolLaws.{or-left, or-right}
 use Rattle.layout.specs.Limits.{maxRows, maxRecords}
 use Rattle.layout.proofs.LimitsLaws.{few-details}
-use Rattle.batch.proofs.BatchLaws.{whole-batch}
+use Rattle.control.proofs.RefusalsLaws.{KnownBatch}
 use Rattle.batch.proofs.PassedLaws.{Passed, passed}
 use Rattle.casemaster.specs.Refusals.{refusal3, refusal4}
 use Rattle.turns.specs.Adds.{addsWithoutRow}
-use Rattle.layout.specs.Batch.{detailCount, detailsOf, controlOf}
-use Rattle.control.specs.Totals.{isControl, areCountsRight, areAmountsRight}
+use Rattle.layout.specs.Batch.{detailCount, detailsOf}
 use Rattle.batch.specs.Apply.{Outcome, leftAlone, carriedOut, applyOutcome, IsOutcome, isCarriedOut}
 use Rattle.batch.specs.Call.{Call}
-use Rattle.batch.specs.Refusals.{refusal1, refusal2, refusal6, refusal7, refusal8, refusal9, refusal10, refusal11, applyRefusal}
+use Rattle.batch.specs.Refusals.{refusal1, refusal2, refusal9, refusal10, refusal11, applyRefusal}
 
 -- all that follows from no refusal
 pub record Known (c : Call) : Type 0 where
@@ -33,14 +32,12 @@ pub record Known (c : Call) : Type 0 where
   pub rows-in : c .rows * 200 ≤ length (c .master)
   pub rows-limit : c .rows ≤ maxRows
   pub sound : areSoundRows (rowsOf (c .rows) (c .master)) ≡ true
-  -- 5 to 8
+  -- 5 to 8, 20 and 21
+  pub batch-passed : KnownBatch (c .batch)
   pub batch-whole : length (c .batch) ≡ (detailCount (c .batch) + 1) * 245
   pub batch-in : detailCount (c .batch) * 245 + 245 ≤ length (c .batch)
   pub batch-limit : detailCount (c .batch) + 1 ≤ maxRecords
   pub few : detailCount (c .batch) ≤ 2 ^ 24
-  pub control : isControl (controlOf (c .batch)) ≡ true
-  pub counts : areCountsRight (controlOf (c .batch)) (detailsOf (c .batch)) ≡ true
-  pub amounts : areAmountsRight (controlOf (c .batch)) (detailsOf (c .batch)) ≡ true
   -- 9 to 11
   pub room : c .rows + addsWithoutRow (rowsOf (c .rows) (c .master)) (detailsOf (c .batch)) ≤ length (c .master) / 200
   pub room-limit : c .rows + addsWithoutRow (rowsOf (c .rows) (c .master)) (detailsOf (c .batch)) ≤ maxRows
@@ -48,13 +45,13 @@ pub record Known (c : Call) : Type 0 where
   pub space : (detailCount (c .batch) + 1) * 245 ≤ length (c .rejects)
 
 pub known : (c : Call) → Passed c → Known c
-unfolding refusal1 refusal2 refusal3 refusal4 refusal6 refusal7 refusal8 refusal9 refusal10 refusal11
+unfolding refusal1 refusal2 refusal3 refusal4 refusal9 refusal10 refusal11
 known c p =
     let n : ℕ = length (c .master) in
     let m : ℕ = c .rows + addsWithoutRow (rowsOf (c .rows) (c .master)) (detailsOf (c .batch)) in
     let three = or-left (not (eqb (n % 200) 0) || ltb (n / 200) (c .rows)) (ltb maxRows (c .rows)) (p .no3) in
     let inside = ltb-false (n / 200) (c .rows) (or-right (not (eqb (n % 200) 0)) (ltb (n / 200) (c .rows)) three) in
-    let five = whole-batch (c .batch) (p .no5) in
+    let five = p .batch-passed .whole in
     let eleven = ltb-false (length (c .rejects)) (245 * (detailCount (c .batch) + 1)) (p .no11) in
     record {
       year-from = ltb-false (c .year) 1900 (or-left (ltb (c .year) 1900) (ltb 9999 (c .year)) (p .no1));
@@ -64,13 +61,11 @@ known c p =
       rows-in = omega (arith, inside);
       rows-limit = ltb-false maxRows (c .rows) (or-right (not (eqb (n % 200) 0) || ltb (n / 200) (c .rows)) (ltb maxRows (c .rows)) (p .no3));
       sound = not-false (areSoundRows (rowsOf (c .rows) (c .master))) (p .no4);
+      batch-passed = p .batch-passed;
       batch-whole = omega (arith, five .one, five .whole);
       batch-in = omega (arith, five .one, five .whole);
       batch-limit = omega (arith, five .one, five .few);
       few = omega (arith, five .one, five .few, few-details);
-      control = not-false (isControl (controlOf (c .batch))) (p .no6);
-      counts = not-false (areCountsRight (controlOf (c .batch)) (detailsOf (c .batch))) (p .no7);
-      amounts = not-false (areAmountsRight (controlOf (c .batch)) (detailsOf (c .batch))) (p .no8);
       room = ltb-false (n / 200) m (or-left (ltb (n / 200) m) (ltb maxRows m) (p .no9));
       room-limit = ltb-false maxRows m (or-right (ltb (n / 200) m) (ltb maxRows m) (p .no9));
       slots = ltb-false (length (c .verdicts)) (detailCount (c .batch)) (p .no10);

@@ -1,5 +1,4 @@
 pub mod PassedLaws
-pub mod BatchLaws
 pub mod ApplyLaws
 pub mod KnownLaws
 pub mod WorkedLaws

@@ -1,16 +1,17 @@
--- Document 01, "Applying a batch": refused, in order. The refusals 3 and 4 are those of every call over a master. Assumes nothing.
-use Prim.Native.Nat.{ℕ, _+_, _*_, _/_, _%_}
+-- Document 01, "Applying a batch": refused, in order. The refusals 3 and 4 are those of every call over a master, 5 to 8 with 20
+-- and 21 those of every call that takes a batch. Assumes nothing.
+use Prim.Native.Nat.{ℕ, _+_, _*_, _/_}
 use mathlib.Core.List.{List}
 use mathlib.Core.Bool.{Bool, not, _||_}
-use lib.Dec.{eqb, ltb}
+use lib.Dec.{ltb}
 use lib.ListN.{length}
-use Rattle.layout.specs.Limits.{maxRows, maxRecords}
+use Rattle.layout.specs.Limits.{maxRows}
 use Rattle.layout.specs.Locals.{isLocalList}
-use Rattle.layout.specs.Batch.{detailCount, detailsOf, controlOf}
+use Rattle.layout.specs.Batch.{detailCount, detailsOf}
 use Rattle.casemaster.specs.Master.{rowsOf}
 use Rattle.casemaster.specs.Refusals.{orElse, masterRefusal}
 use Rattle.turns.specs.Adds.{addsWithoutRow}
-use Rattle.control.specs.Totals.{isControl, areCountsRight, areAmountsRight}
+use Rattle.control.specs.Refusals.{batchRefusal}
 use Rattle.batch.specs.Call.{Call}
 
 -- 1: year outside 1900–9999
@@ -20,22 +21,6 @@ refusal1 year = ltb year 1900 || ltb 9999 year
 -- 2: list not made of three-digit codes, three bytes each, strictly rising (an empty list passes)
 unfoldable pub refusal2 : List ℕ → Bool
 refusal2 locals = not (isLocalList locals)
-
--- 5: batch empty, no multiple of 245, or over 65,536 records
-unfoldable pub refusal5 : List ℕ → Bool
-refusal5 batch = eqb (length batch) 0 || not (eqb (length batch % 245) 0) || ltb maxRecords (length batch / 245)
-
--- 6: control record malformed
-unfoldable pub refusal6 : List ℕ → Bool
-refusal6 batch = not (isControl (controlOf batch))
-
--- 7: a count differs
-unfoldable pub refusal7 : List ℕ → Bool
-refusal7 batch = not (areCountsRight (controlOf batch) (detailsOf batch))
-
--- 8: an amount differs
-unfoldable pub refusal8 : List ℕ → Bool
-refusal8 batch = not (areAmountsRight (controlOf batch) (detailsOf batch))
 
 -- 9: rows plus A records whose key has no row at entry exceed length ÷ 200 or 65,535
 unfoldable pub refusal9 : List ℕ → ℕ → List ℕ → Bool
@@ -51,14 +36,6 @@ refusal10 batch verdicts = ltb (length verdicts) (detailCount batch)
 unfoldable pub refusal11 : List ℕ → List ℕ → Bool
 refusal11 batch rejects = ltb (length rejects) (245 * (detailCount batch + 1))
 
--- the first of 5, 6, 7 and 8 that holds, else what comes behind
-unfoldable pub batchRefusal : List ℕ → ℕ → ℕ
-batchRefusal batch behind =
-    orElse (refusal5 batch) 5
-    (orElse (refusal6 batch) 6
-    (orElse (refusal7 batch) 7
-    (orElse (refusal8 batch) 8 behind)))
-
 -- the first of 9, 10 and 11 that holds, 0 where none does
 unfoldable pub spaceRefusal : Call → ℕ
 spaceRefusal c =
@@ -66,7 +43,7 @@ spaceRefusal c =
     (orElse (refusal10 (c .batch) (c .verdicts)) 10
     (orElse (refusal11 (c .batch) (c .rejects)) 11 0))
 
--- the first of 1 to 11 that holds, 0 where none does
+-- the first of 1 to 5, 6, 20, 21 and 7 to 11 that holds, 0 where none does
 unfoldable pub applyRefusal : Call → ℕ
 applyRefusal c =
     orElse (refusal1 (c .year)) 1

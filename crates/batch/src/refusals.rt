@@ -1,11 +1,8 @@
 // The refusals of `apply`, in the order of the paper.
 use casemaster::refusals::master_refusal;
-use control::totals;
-use layout::limits::MAX_RECORDS;
+use control::refusals::batch_refusal;
 use layout::limits::MAX_ROWS;
 use layout::locals;
-use layout::records;
-use layout::records::RECORD_WIDTH;
 use turns::adds;
 ghost use mathlib.Core.Path.{_≡_};
 ghost use mathlib.Core.Bool.{true, _&&_};
@@ -17,7 +14,7 @@ ghost use Rattle.layout.specs.Batch.{detailCount};
 ghost use Rattle.casemaster.specs.Master.{rowsOf, areSoundRows};
 ghost use Rattle.casemaster.specs.Refusals.{orElse};
 ghost use Rattle.batch.specs.Call.{callOf};
-ghost use Rattle.batch.specs.Refusals.{refusal1, refusal2, refusal5, refusal9, batchRefusal, spaceRefusal, applyRefusal};
+ghost use Rattle.batch.specs.Refusals.{refusal1, refusal2, refusal9, spaceRefusal, applyRefusal};
 
 // The number of the first of refusals 1 and 2 that holds, or 0.
 fn opening_refusal(year: u64, locals: &[u8]) -> u64
@@ -30,36 +27,6 @@ fn opening_refusal(year: u64, locals: &[u8]) -> u64
         return 1;
     }
     if locals::is_local_list(locals) { 0 } else { 2 }
-}
-
-// Refusal 5: a batch that is empty, no multiple of a record's width, or of too many records.
-fn is_wrong_length(batch: &[u8]) -> bool
-    ensures { λ r. ⌜ r ≡ refusal5 (now (batch .entry)) ⌝ }
-{
-    let n = batch.len();
-    (n == 0) | (n % RECORD_WIDTH != 0) | (MAX_RECORDS < n / RECORD_WIDTH)
-}
-
-// The number of the first of refusals 5 to 8 that holds, or 0.
-fn batch_refusal(batch: &[u8]) -> u64
-    ensures { λ r. ⌜ r ≡ batchRefusal (now (batch .entry)) 0 ⌝ }
-{
-    if is_wrong_length(batch) {
-        return 5;
-    }
-    let details = batch.len() / RECORD_WIDTH - 1;
-    let control = records::record_at(batch, details);
-    if !totals::is_control(&control) {
-        return 6;
-    }
-    let t = totals::totals_of(batch, details);
-    if !totals::are_counts_right(&control, t) {
-        return 7;
-    }
-    if !totals::are_amounts_right(&control, t) {
-        return 8;
-    }
-    0
 }
 
 // Whether so many rows have a place in the master.

@@ -1,2 +1,3 @@
 pub mod ControlLaws
+pub mod RefusalsLaws
 pub mod TotalsLaws

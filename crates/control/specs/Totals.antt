@@ -1,4 +1,5 @@
--- Document 01, "Applying a batch": the control record of Chart A-2, and the totals. Assumes nothing.
+-- Document 01, "Applying a batch": the control record of Chart A-2, part by part as document 02, item 5, asks for it, and the totals.
+-- Assumes nothing.
 use Prim.Native.Nat.{ℕ, _+_}
 use mathlib.Core.List.{List, [], _∷_}
 use mathlib.Core.Bool.{Bool, cond, _&&_, _||_}
@@ -13,11 +14,17 @@ use Rattle.layout.specs.Record.{isType, caseTypeOf}
 abbrev pub CTL : List ℕ
 CTL = C ∷ T ∷ L ∷ []
 
--- Chart A-2: state in the table, CTL, digits, spaces
-unfoldable pub isControl : List ℕ → Bool
-isControl rec =
-    isState (controlState rec)
-    && (sameBytes (control rec) CTL && (allDigits (columns 6 45 rec) && isBlank (controlFiller rec)))
+-- columns 3–5 are CTL
+unfoldable pub hasCTL : List ℕ → Bool
+hasCTL rec = sameBytes (control rec) CTL
+
+-- the state, columns 1–2, is in the table
+unfoldable pub hasState : List ℕ → Bool
+hasState rec = isState (controlState rec)
+
+-- the four totals, columns 6–45, are digits, and the filler, columns 46–245, is spaces
+unfoldable pub hasTotals : List ℕ → Bool
+hasTotals rec = allDigits (columns 6 45 rec) && isBlank (controlFiller rec)
 
 -- the number of details of a case type
 unfoldable pub countOf : ℕ → List (List ℕ) → ℕ

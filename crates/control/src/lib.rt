@@ -1,2 +1,3 @@
-// The control record of a batch, and the totals that it states.
+// The control record of a batch, the totals that it states, and the refusals of a batch.
+pub mod refusals;
 pub mod totals;

@@ -1,9 +1,7 @@
 // A batch: details, then the control record of Chart A-2, and the totals that it carries.
 use layout::chart_a1;
 use layout::chart_a2;
-use layout::limits::MAX_RECORDS;
 use layout::record;
-use layout::records;
 use layout::records::RECORD_WIDTH;
 use layout::states;
 use text::fields;
@@ -13,7 +11,7 @@ ghost use mathlib.Core.Bool.{true};
 ghost use Prim.Native.Nat.{_*_, _^_, _≤_};
 ghost use lib.ListN.{length};
 ghost use Rattle.text.specs.Blocks.{blocks};
-ghost use Rattle.control.specs.Totals.{isControl, amountIn};
+ghost use Rattle.control.specs.Totals.{hasCTL, hasState, hasTotals, amountIn};
 ghost use Rattle.control.specs.TotalsParts.{countIn, hasAmount, FitsOneMore, IsAdded, AreTotals, countsAgree, amountsAgree};
 
 // The case types.
@@ -32,15 +30,27 @@ pub struct Totals {
     pub non_tanf_amount: u64,
 }
 
-// Whether a record has the control record's form: a state of the table, CTL, digits, spaces.
-pub fn is_control(rec: &[u8; 245]) -> bool
-    ensures { λ r. ⌜ r ≡ isControl (now (rec .entry)) ⌝ }
+// Whether a control record has CTL in its columns 3-5.
+pub fn has_ctl(rec: &[u8; 245]) -> bool
+    ensures { λ r. ⌜ r ≡ hasCTL (now (rec .entry)) ⌝ }
 {
-    let state = states::is_state(fields::field(rec, chart_a2::STATE));
-    let control = fields::same(fields::field(rec, chart_a2::CONTROL), b"\xC3\xE3\xD3");
+    fields::same(fields::field(rec, chart_a2::CONTROL), b"\xC3\xE3\xD3")
+}
+
+// Whether its state is in the table.
+pub fn has_state(rec: &[u8; 245]) -> bool
+    ensures { λ r. ⌜ r ≡ hasState (now (rec .entry)) ⌝ }
+{
+    states::is_state(fields::field(rec, chart_a2::STATE))
+}
+
+// Whether its totals are digits and its filler is spaces.
+pub fn has_totals(rec: &[u8; 245]) -> bool
+    ensures { λ r. ⌜ r ≡ hasTotals (now (rec .entry)) ⌝ }
+{
     let digits = fields::all_digits(fields::field(rec, ALL_TOTALS));
     let filler = fields::is_blank(fields::field(rec, chart_a2::FILLER));
-    state & (control & (digits & filler))
+    digits & filler
 }
 
 // 1 where a detail is of a case type, else 0.
@@ -109,7 +119,7 @@ pub fn totals_of(batch: &[u8], n: usize) -> Totals
 
 // Whether the counts are those of the control record.
 pub fn are_counts_right(rec: &[u8; 245], t: Totals) -> bool
-    requires { ⌜ isControl (now rec) ≡ true ⌝ }
+    requires { ⌜ hasTotals (now rec) ≡ true ⌝ }
     ensures { λ r. ⌜ r ≡ countsAgree (now (rec .entry)) t ⌝ }
 {
     let tanf = fields::number_at(rec, chart_a2::TOTAL_TANF);
@@ -119,7 +129,7 @@ pub fn are_counts_right(rec: &[u8; 245], t: Totals) -> bool
 
 // Whether the amounts are those of the control record.
 pub fn are_amounts_right(rec: &[u8; 245], t: Totals) -> bool
-    requires { ⌜ isControl (now rec) ≡ true ⌝ }
+    requires { ⌜ hasTotals (now rec) ≡ true ⌝ }
     ensures { λ r. ⌜ r ≡ amountsAgree (now (rec .entry)) t ⌝ }
 {
     let tanf = fields::number_at(rec, chart_a2::AMOUNT_TANF);

@@ -147,6 +147,13 @@ fn batch(name: &[u8], bytes: &[u8]) {
 }
 
 // The batch with another control record.
+fn with_last(name: &[u8], control: &[u8; 245]) {
+    let rec = records::detail(b"MN", 123456789, b"SMITH", b"", 100);
+    let bytes = records::batch_of_one(&rec, control);
+    batch(name, &bytes);
+}
+
+// Its state and word, and its totals.
 fn with_control(
     name: &[u8],
     start: &[u8],
@@ -155,10 +162,15 @@ fn with_control(
     tanf_dollars: u64,
     dollars: u64,
 ) {
-    let rec = records::detail(b"MN", 123456789, b"SMITH", b"", 100);
     let control = records::control(start, tanf, non_tanf, tanf_dollars, dollars);
-    let bytes = records::batch_of_one(&rec, &control);
-    batch(name, &bytes);
+    with_last(name, &control);
+}
+
+// Its state and word, and the right totals, but for a text from a column on.
+fn with_text(name: &[u8], start: &[u8], column: usize, text: &[u8]) {
+    let mut control = records::control(start, 0, 1, 0, 100);
+    put(&mut control, column, text);
+    with_last(name, &control);
 }
 
 // Lengths that are no records, and a batch that ends without a control record.
@@ -170,17 +182,37 @@ fn no_control() {
     batch(b"6: no control record", &bytes[0..245]);
 }
 
-// Control records with a wrong word, state, count or amount.
-fn wrong_controls() {
+// Control records with one wrong part: the word, the state, a total, the filler.
+fn wrong_parts() {
     with_control(b"6: CTX", b"OHCTX", 0, 1, 0, 100);
-    with_control(b"6: state ZZ", b"ZZCTL", 0, 1, 0, 100);
-    with_control(b"7: two details", b"OHCTL", 0, 2, 0, 100);
-    with_control(b"7: a TANF detail", b"OHCTL", 1, 0, 0, 100);
+    with_control(b"20: state ZZ", b"ZZCTL", 0, 1, 0, 100);
+    with_text(b"21: a letter in column 6", b"OHCTL", 6, b"A");
+    with_text(b"21: a space in column 45", b"OHCTL", 45, b" ");
+    with_text(b"21: a digit in column 46", b"OHCTL", 46, b"0");
+    with_text(b"21: a digit in column 245", b"OHCTL", 245, b"0");
+}
+
+// Two and more wrong parts.
+fn parts_in_order() {
+    with_control(b"6 before 20", b"ZZCTX", 0, 1, 0, 100);
+    with_text(b"6 before 21", b"OHCTX", 46, b"0");
+    with_text(b"20 before 21", b"ZZCTL", 46, b"0");
+    with_text(b"6 before 20 and 21", b"ZZCTX", 45, b"A");
+    with_control(b"20 before 7 and 8", b"ZZCTL", 0, 2, 0, 99);
+    with_text(
+        b"21 before 7 and 8",
+        b"OHCTL",
+        23,
+        b"2000000000000000000000990",
+    );
 }
 
 pub fn batches() {
     no_control();
-    wrong_controls();
+    wrong_parts();
+    parts_in_order();
+    with_control(b"7: two details", b"OHCTL", 0, 2, 0, 100);
+    with_control(b"7: a TANF detail", b"OHCTL", 1, 0, 0, 100);
     with_control(b"7 before 8", b"OHCTL", 1, 1, 0, 99);
     with_control(b"8: 99 dollars", b"OHCTL", 0, 1, 0, 99);
     with_control(b"8: TANF dollars", b"OHCTL", 0, 1, 1, 100);

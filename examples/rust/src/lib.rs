@@ -86,8 +86,8 @@ pub enum Refusal {
     UnsoundRow = 4,
     /// Batch empty, no multiple of 245, or over 65,536 records.
     WrongBatch = 5,
-    /// Control record malformed.
-    WrongControl = 6,
+    /// CTL is missing in columns 3–5 of the last record.
+    NoCtl = 6,
     /// A count of the control record differs from the details'.
     WrongCount = 7,
     /// An amount of the control record differs from the details'.
@@ -106,16 +106,20 @@ pub enum Refusal {
     UnsoundKey = 14,
     /// No row with this key.
     NoSuchRow = 15,
+    /// The control record's state is not in the table.
+    ControlState = 20,
+    /// A total of the control record is not digits, or its filler is not spaces.
+    ControlForm = 21,
 }
 
 impl Refusal {
-    const ALL: [Refusal; 15] = [
+    const ALL: [Refusal; 17] = [
         Refusal::WrongYear,
         Refusal::WrongLocals,
         Refusal::WrongMaster,
         Refusal::UnsoundRow,
         Refusal::WrongBatch,
-        Refusal::WrongControl,
+        Refusal::NoCtl,
         Refusal::WrongCount,
         Refusal::WrongAmount,
         Refusal::NoRoom,
@@ -125,14 +129,16 @@ impl Refusal {
         Refusal::WrongDate,
         Refusal::UnsoundKey,
         Refusal::NoSuchRow,
+        Refusal::ControlState,
+        Refusal::ControlForm,
     ];
 
-    /// The refusal's number in document 01.
+    /// The refusal's number in documents 01 and 02.
     pub fn number(self) -> u64 {
         self as u64
     }
 
-    /// The refusal of a number; none for 0 and for numbers above 15.
+    /// The refusal of a number; none for a number that no call here answers.
     pub fn of_number(number: u64) -> Option<Refusal> {
         Refusal::ALL
             .into_iter()
@@ -148,11 +154,11 @@ impl fmt::Display for Refusal {
 
 impl Error for Refusal {}
 
-/// What an answer of the library stands for: 0 is done, 1 to 15 are refusals, and it gives no others.
+/// What an answer of the library stands for: 0 is done, the others are refusals.
 fn done(answer: u64) -> Result<(), Refusal> {
     match answer {
         0 => Ok(()),
-        number => Err(Refusal::of_number(number).expect("an answer is at most 15")),
+        number => Err(Refusal::of_number(number).expect("an answer is 0 or a refusal")),
     }
 }
 
@@ -171,7 +177,7 @@ pub fn has_code(verdict: u64, code: u32) -> bool {
 ///
 /// # Errors
 ///
-/// Refusals 1 to 11, the first that holds; every buffer is then as before.
+/// Refusals 1 to 6, 20, 21 and 7 to 11, the first that holds in this order; every buffer is then as before.
 pub fn apply(
     master: &mut [u8],
     rows: usize,

@@ -36,6 +36,16 @@ fn control(counts_and_amounts: &str) -> Vec<u8> {
     record(&[(1, "OHCTL"), (6, counts_and_amounts)])
 }
 
+/// The example batch with texts from columns on in its control record.
+fn with_control(texts: &[(usize, &str)]) -> Vec<u8> {
+    let mut batch = paper_batch();
+    for (column, text) in texts {
+        let at = 2 * RECORD + column - 1;
+        batch[at..at + text.len()].copy_from_slice(&ebcdic(text));
+    }
+    batch
+}
+
 /// Applies to marked buffers with space for two details, and sees that a refusal keeps every byte.
 fn refusal(
     master: &[u8],
@@ -226,6 +236,36 @@ fn refusals_of_apply_in_order() {
 }
 
 #[test]
+fn parts_of_the_control_record_in_order() {
+    let master = vec![0xAA; SPACE * ROW];
+    let answer = |texts: &[(usize, &str)]| {
+        refusal(&master, 0, &with_control(texts), &[], 2007, 2, 3 * RECORD)
+    };
+    let (no_ctl, no_state) = ((3, "CTX"), (1, "ZZ"));
+    let (letter, filler) = ((45, "A"), (245, "0"));
+    assert_eq!(answer(&[no_ctl]), 6);
+    assert_eq!(answer(&[no_state]), 20);
+    for column in [6, 14, 15, 23, 24, 34, 35, 45] {
+        assert_eq!(answer(&[(column, " ")]), 21);
+    }
+    for column in [46, 245] {
+        assert_eq!(answer(&[(column, "0")]), 21);
+    }
+    // the first that holds is answered
+    assert_eq!(answer(&[no_ctl, no_state]), 6);
+    assert_eq!(answer(&[no_ctl, letter]), 6);
+    assert_eq!(answer(&[no_ctl, no_state, filler]), 6);
+    assert_eq!(answer(&[no_state, letter]), 20);
+    assert_eq!(answer(&[no_state, filler]), 20);
+    let (count, amount) = ((23, "3"), (45, "6"));
+    assert_eq!(answer(&[no_ctl, count, amount]), 6);
+    assert_eq!(answer(&[no_state, count, amount]), 20);
+    assert_eq!(answer(&[filler, count, amount]), 21);
+    assert_eq!(answer(&[count, amount]), 7);
+    assert_eq!(answer(&[amount]), 8);
+}
+
+#[test]
 fn finding() {
     let master = paper_master();
     assert_eq!(find(&master, 1, &ebcdic("OH123456789N")), Ok(0));
@@ -312,7 +352,7 @@ fn calls_in_threads() {
 
 #[test]
 fn numbers_of_refusals() {
-    for number in 1..=15 {
+    for number in (1..=15).chain([20, 21]) {
         assert_eq!(
             Refusal::of_number(number).map(Refusal::number),
             Some(number)

@@ -1,6 +1,7 @@
 //! Compares the library with the reference on random cases; see the README for the options.
 
 mod contacts;
+mod control;
 mod names;
 mod run;
 mod tally;
@@ -10,6 +11,7 @@ use std::process::ExitCode;
 use std::time::{Instant, SystemTime, UNIX_EPOCH};
 
 use contacts::Contacts;
+use control::Control;
 use generator::rng::mix;
 use generator::{ApplyCase, Case};
 use names::Names;
@@ -22,7 +24,7 @@ const SHOWN: u64 = 20;
 const ENOUGH: u64 = 5000;
 /// The calls with their refusals in order.
 const CALLS: [(&str, &[usize]); 7] = [
-    ("apply", &[1, 2, 3, 4, 5, 6, 7, 8, 9, 10, 11]),
+    ("apply", &[1, 2, 3, 4, 5, 6, 20, 21, 7, 8, 9, 10, 11]),
     ("find", &[3, 4, 14, 15]),
     ("reconcile", &[3, 4, 12, 13, 11]),
     ("to_ebcdic", &[16, 17]),
@@ -30,8 +32,8 @@ const CALLS: [(&str, &[usize]); 7] = [
     ("contacts", &[18, 19]),
     ("codes", &[18, 12, 19]),
 ];
-/// The refusals have the numbers 1 to 19.
-const ANSWERS: usize = 20;
+/// The refusals have the numbers 1 to 21.
+const ANSWERS: usize = 22;
 const CODES: [usize; 20] = [
     1, 2, 3, 4, 5, 6, 7, 8, 9, 10, 11, 12, 13, 14, 15, 16, 17, 18, 51, 52,
 ];
@@ -57,6 +59,7 @@ struct Seen {
     deleted: u64,
     renamed: u64,
     kept_room: u64,
+    control: Control,
     names: Names,
     contacts: Contacts,
     records: u64,
@@ -73,8 +76,10 @@ impl Seen {
         }
         self.answers[outcome.call][number] += 1;
         if number != 0 {
-            if let Case::Update(case) = before {
-                self.contacts.note_refused(case, number);
+            match before {
+                Case::Apply(case) if [6, 20, 21].contains(&number) => self.control.note(case),
+                Case::Update(case) => self.contacts.note_refused(case, number),
+                _ => {}
             }
             return;
         }
@@ -177,7 +182,7 @@ impl Seen {
     }
 
     fn tallies(&self) -> Vec<&Tally> {
-        let mut tallies = vec![&self.names.0];
+        let mut tallies = vec![&self.control.0, &self.names.0];
         tallies.extend(self.contacts.tallies());
         tallies
     }

@@ -179,13 +179,13 @@ fn apply_case(rng: &mut Rng) -> ApplyCase {
 
 /// One fault of those that apply refuses; `need` is the room asked for.
 fn damage_apply(rng: &mut Rng, case: &mut ApplyCase, need: usize, details: usize) {
-    match rng.below(13) {
+    match rng.below(15) {
         0 => case.year = wrong_year(rng),
         1 => damage_list(rng, &mut case.list),
         2 => damage_length(rng, &mut case.master, &mut case.rows),
         3 => damage_rows(rng, &mut case.master, case.rows),
         4 => damage_batch_length(rng, &mut case.batch),
-        5 => damage_control(rng, &mut case.batch),
+        5 | 13 | 14 => damage_control(rng, &mut case.batch),
         6 => damage_totals(rng, &mut case.batch, 6, 9, 2),
         7 => damage_totals(rng, &mut case.batch, 24, 11, 2),
         8 | 9 => {
@@ -350,18 +350,50 @@ fn last_record(batch: &mut [u8]) -> Option<&mut [u8]> {
     Some(&mut batch[start..])
 }
 
+/// Damages one part of the control record, two or all three, or writes another state of the table.
 fn damage_control(rng: &mut Rng, batch: &mut [u8]) {
     let Some(record) = last_record(batch) else {
         return;
     };
-    match rng.below(7) {
-        0 => put_text(record, 1, rng.pick(&["ZZ", "  ", "oh", "AA", "O "])),
-        1 => put_text(record, 1, rng.pick(&STATES)),
-        2 => put_text(record, 3, rng.pick(&["CTR", "   ", "ctl", "RCT", "CT "])),
-        3 => record[5 + rng.below(40)] = rng.pick(&EDGES),
-        4 => record[45 + rng.below(200)] = rng.pick(&EDGES),
-        5 => record[rng.pick(&[0, 1, 2, 4, 5, 13, 14, 44, 45, 244])] = rng.pick(&EDGES),
-        _ => record[rng.below(RECORD)] = rng.below(256) as u8,
+    let mut parts = [damage_ctl, damage_state, damage_rest];
+    rng.shuffle(&mut parts);
+    let count = match rng.below(10) {
+        0 => {
+            put_text(record, 1, rng.pick(&STATES));
+            0
+        }
+        1..=5 => 1,
+        6 | 7 => 2,
+        _ => 3,
+    };
+    for part in &parts[..count] {
+        part(rng, record);
+    }
+}
+
+/// The state, mostly one that isn't in the table.
+fn damage_state(rng: &mut Rng, record: &mut [u8]) {
+    match rng.below(4) {
+        0 => record[rng.below(2)] = rng.pick(&EDGES),
+        _ => put_text(record, 1, rng.pick(&["ZZ", "  ", "oh", "AA", "O "])),
+    }
+}
+
+fn damage_ctl(rng: &mut Rng, record: &mut [u8]) {
+    match rng.below(4) {
+        0 => record[2 + rng.below(3)] = rng.pick(&EDGES),
+        _ => put_text(record, 3, rng.pick(&["CTR", "   ", "ctl", "RCT", "CT "])),
+    }
+}
+
+/// A total or the filler.
+fn damage_rest(rng: &mut Rng, record: &mut [u8]) {
+    match rng.below(8) {
+        0 | 1 => record[5 + rng.below(40)] = rng.pick(&EDGES),
+        2 | 3 => record[45 + rng.below(200)] = rng.pick(&EDGES),
+        4 => record[rng.pick(&[5, 13, 14, 22, 23, 33, 34])] = rng.pick(&EDGES),
+        5 | 6 => record[rng.pick(&[44, 45, 244])] = rng.pick(&EDGES),
+        _ => record[rng.between(5, RECORD - 1)] = rng.below(256) as u8,
     }
 }
 

@@ -1,4 +1,4 @@
-//! Applying a batch ("Applying a batch" in document 01, with item 3 of document 02).
+//! Applying a batch ("Applying a batch" in document 01, with items 3 and 5 of document 02).
 
 use std::collections::BTreeMap;
 
@@ -51,12 +51,19 @@ pub fn refusal_05(batch: &[u8]) -> bool {
     batch.is_empty() || !batch.len().is_multiple_of(RECORD) || batch.len() / RECORD > MOST_RECORDS
 }
 
-/// "6 control record malformed": state in the table, CTL, digits, spaces
+/// 6: "only that CTL is missing"
 pub fn refusal_06(control: &[u8]) -> bool {
+    columns(control, 3, 5) != ebcdic(b"CTL")
+}
+
+/// "20, a state not in the table"
+pub fn refusal_20(control: &[u8]) -> bool {
     !in_state_table(columns(control, 1, 2))
-        || columns(control, 3, 5) != ebcdic(b"CTL")
-        || !all_digits(columns(control, 6, 45))
-        || !is_blank(columns(control, 46, 245))
+}
+
+/// "21, a total that isn't digits or a filler that isn't spaces"
+pub fn refusal_21(control: &[u8]) -> bool {
+    !all_digits(columns(control, 6, 45)) || !is_blank(columns(control, 46, 245))
 }
 
 fn of_case_type(record: &[u8], case_type: u8) -> bool {
@@ -143,6 +150,12 @@ pub fn apply(
     };
     if refusal_06(control) {
         return Err(6);
+    }
+    if refusal_20(control) {
+        return Err(20);
+    }
+    if refusal_21(control) {
+        return Err(21);
     }
     if refusal_07(&details, control) {
         return Err(7);

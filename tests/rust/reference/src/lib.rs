@@ -1,4 +1,4 @@
-//! Document 01 and items 1, 3 and 4 of document 02 written out rule by rule, in their order and words;
+//! Document 01 and items 1, 3, 4 and 5 of document 02 written out rule by rule, in their order and words;
 //! simple before fast.
 //! Nothing here panics: every length is looked at by a refusal before it is relied on.
 

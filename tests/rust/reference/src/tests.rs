@@ -1,6 +1,7 @@
 //! The paper's example, its table (a)–(j), and the edges of the refusals.
 
 mod contacts;
+mod control;
 mod names;
 
 use crate::batch::{apply, Counts, RECORD};

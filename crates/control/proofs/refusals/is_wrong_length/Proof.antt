@@ -1,8 +1,8 @@
 -- `refusals::is_wrong_length`: the code's limit is the definition's number. Assumes nothing.
 use Rattle.layout.proofs.LimitsLaws.{max-records}
-use Rattle.batch.proofs.refusals.is_wrong_length.Statement.{statement}
-use Rattle.batch.proofs.refusals.is_wrong_length.Tie as tie
-use Rattle.batch.specs.Refusals.{refusal5}
+use Rattle.control.proofs.refusals.is_wrong_length.Statement.{statement}
+use Rattle.control.proofs.refusals.is_wrong_length.Tie as tie
+use Rattle.control.specs.Refusals.{refusal5}
 
 returns : tie.Need-returns
 unfolding refusal5

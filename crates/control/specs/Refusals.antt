@@ -1,0 +1,45 @@
+-- Document 01, "Applying a batch", refusals 5 to 8, with 20 and 21 of document 02, item 5: those of every call that takes a batch, in
+-- order. Assumes nothing.
+use Prim.Native.Nat.{ℕ, _/_, _%_}
+use mathlib.Core.List.{List}
+use mathlib.Core.Bool.{Bool, not, _||_}
+use lib.Dec.{eqb, ltb}
+use lib.ListN.{length}
+use Rattle.layout.specs.Limits.{maxRecords}
+use Rattle.layout.specs.Batch.{detailsOf, controlOf}
+use Rattle.casemaster.specs.Refusals.{orElse}
+use Rattle.control.specs.Totals.{hasCTL, hasState, hasTotals, areCountsRight, areAmountsRight}
+
+-- 5: batch empty, no multiple of 245, or over 65,536 records
+unfoldable pub refusal5 : List ℕ → Bool
+refusal5 batch = eqb (length batch) 0 || not (eqb (length batch % 245) 0) || ltb maxRecords (length batch / 245)
+
+-- 6: CTL is missing
+unfoldable pub refusal6 : List ℕ → Bool
+refusal6 batch = not (hasCTL (controlOf batch))
+
+-- 20: a state not in the table
+unfoldable pub refusal20 : List ℕ → Bool
+refusal20 batch = not (hasState (controlOf batch))
+
+-- 21: a total that isn't digits or a filler that isn't spaces
+unfoldable pub refusal21 : List ℕ → Bool
+refusal21 batch = not (hasTotals (controlOf batch))
+
+-- 7: a count differs
+unfoldable pub refusal7 : List ℕ → Bool
+refusal7 batch = not (areCountsRight (controlOf batch) (detailsOf batch))
+
+-- 8: an amount differs
+unfoldable pub refusal8 : List ℕ → Bool
+refusal8 batch = not (areAmountsRight (controlOf batch) (detailsOf batch))
+
+-- the first of 5, 6, 20, 21, 7 and 8 that holds, else what comes behind
+unfoldable pub batchRefusal : List ℕ → ℕ → ℕ
+batchRefusal batch behind =
+    orElse (refusal5 batch) 5
+    (orElse (refusal6 batch) 6
+    (orElse (refusal20 batch) 20
+    (orElse (refusal21 batch) 21
+    (orElse (refusal7 batch) 7
+    (orElse (refusal8 batch) 8 behind)))))
