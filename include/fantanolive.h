@@ -1,10 +1,12 @@
 /* fantanolive.h: the C interface of the Fantanolive library, libfantanolive.a.
  *
- * The library keeps a state's copy of the federal offset case master. It has seven calls:
+ * The library keeps a state's copy of the federal offset case master. It has nine calls:
  *
  *     fantanolive_apply            applies a submission batch to a master
  *     fantanolive_find             finds a case's row in a master
  *     fantanolive_reconcile        writes the reconciliation file of a state
+ *     fantanolive_add_cents        gives a master whose rows have no cents 00 cents
+ *     fantanolive_post             posts a weekly collection file to a master
  *     fantanolive_to_ebcdic        turns a file from ASCII into EBCDIC
  *     fantanolive_to_ascii         turns a file from EBCDIC into ASCII
  *     fantanolive_contacts_update  reads a contact file into a table of contact records
@@ -16,7 +18,7 @@
  * Bytes. All text is EBCDIC: letters C1-C9, D1-D9, E2-E9, digits F0-F9, space 40, hyphen 60, comma 6B (hexadecimal).
  * A batch typed in ASCII is turned into EBCDIC by fantanolive_to_ebcdic first; the other calls convert nothing.
  *
- * Answers. Each call answers 0 (FANTANOLIVE_DONE) when it was carried out, else the number of a refusal, 1 to 21. A
+ * Answers. Each call answers 0 (FANTANOLIVE_DONE) when it was carried out, else the number of a refusal, 1 to 24. A
  * call answers the first refusal that holds, in the order that is given with it. On a refusal nothing at all is
  * written: no byte of any buffer, and no number of the result but the place that goes with refusal 16.
  *
@@ -38,8 +40,13 @@
  *
  * Stack. fantanolive_contacts_update takes some 270 kilobytes of stack, the other calls a few.
  *
+ * Cents. A row's columns 197-198 are its cents, 199-200 spaces; its balance is the dollars of columns 66-73 and these
+ * cents, and it is deleted exactly when both are zero. A master from before the cents (spaces in 197-200) is refused (4)
+ * by every call until fantanolive_add_cents has converted it, once.
+ *
  * Limits. A master has at most 65,535 rows, a batch at most 65,536 records (65,535 details and the control record), a
- * contact file at most 65,535 records; a table of contact records has no limit of its own.
+ * contact file at most 65,535 records, a collection file at most 65,536 (65,535 lines and the last record); a table of
+ * contact records has no limit of its own.
  * Numbers and lengths outside the limits are refused, not cut.
  */
 #ifndef FANTANOLIVE_H
@@ -58,6 +65,9 @@ extern "C" {
 
 /* Size in bytes of a contact record (Chart A-3), in a file and in a table. */
 #define FANTANOLIVE_CONTACT 220
+
+/* Size in bytes of a record of a collection file. */
+#define FANTANOLIVE_LINE 240
 
 /* Sizes in bytes of a key (columns 1-12 of a row), a state, a date and a local code. */
 #define FANTANOLIVE_KEY 12
@@ -122,6 +132,9 @@ extern "C" {
 #define FANTANOLIVE_SHORT_CONTACTS 19 /* no space in the table, a list or an output of codes too short */
 #define FANTANOLIVE_CONTROL_STATE 20  /* the control record's state is not in the table of 54 */
 #define FANTANOLIVE_CONTROL_FORM 21   /* a total of the control record is not digits, or its filler not spaces */
+#define FANTANOLIVE_WRONG_FILE 22     /* collection file empty, no multiple of 240, or over 65,536 records */
+#define FANTANOLIVE_WRONG_TOTAL 23    /* its last record not TOTAL with the numbers of adjustments and collections */
+#define FANTANOLIVE_SHORT_LINES 24    /* line list shorter than the lines */
 
 /* A verdict is a number of 64 bits: the sum of 2 to the power c over the codes c that the detail got. Errors are the
  * codes 1 to 18, warnings 51 and 52; a verdict of 0 has none. A detail with an error is rejected and changes nothing.
@@ -233,6 +246,57 @@ uint64_t fantanolive_reconcile(
     const uint8_t *date, size_t date_length,
     uint8_t *out, size_t out_length,
     uint64_t *records);
+
+/* fantanolive_add_cents: gives the rows of a master that have no cents yet 00 cents.
+ *
+ * master, master_length   The rows, 200 bytes each. The length is in bytes and a multiple of 200. Bytes behind the last row
+ *                         may hold anything.
+ * rows                    How many rows the master has, deleted ones included.
+ *
+ * Returns, in the order of checking:
+ *   3   FANTANOLIVE_WRONG_MASTER    master_length no multiple of 200, or rows above master_length / 200 or 65,535
+ *   4   FANTANOLIVE_UNSOUND_ROW     one of the rows is not sound as a row without cents (spaces in 197-200, deleted
+ *                                   exactly when the dollars are zero), or their keys do not strictly rise; so a master
+ *                                   with rows that is converted already
+ *   0   FANTANOLIVE_DONE            carried out
+ *
+ * Written when carried out: columns 197-198 of every row, deleted ones too. Kept: all else. */
+uint64_t fantanolive_add_cents(uint8_t *master, size_t master_length, size_t rows);
+
+/* fantanolive_post: posts a weekly collection file to a master, line by line in file order.
+ *
+ * A line (Chart 0-4) goes to the row with the key of its columns 1-2, 6-14 and 107. Its collection (76-86) lowers the
+ * row's balance, never below zero; its adjustment (87-97) raises it. A balance of zero deletes the case. An amount is ten
+ * digits and a last digit F0-F9 or C0-C9, in cents; else it is bad. A line is listed, and changes nothing, where an amount
+ * is bad, both are above zero, the key has no live row at the line's turn, or the balance would pass 99,999,999.99.
+ *
+ * master, master_length   The rows, 200 bytes each. The length is in bytes and a multiple of 200. Bytes behind the last row
+ *                         may hold anything.
+ * rows                    How many rows the master has, deleted ones included. No row is added.
+ * file, file_length       The lines, 240 bytes each, then the last record (Chart 0-5). The length is in bytes. A last record
+ *                         alone is carried out.
+ * lines, lines_length     Where the numbers of the listed lines go, the first line being 1. The length counts numbers, not
+ *                         bytes; at least one per line, however few are listed.
+ * listed                  Where the number of listed lines goes.
+ *
+ * Returns, in the order of checking:
+ *   3   FANTANOLIVE_WRONG_MASTER    master_length no multiple of 200, or rows above master_length / 200 or 65,535
+ *   4   FANTANOLIVE_UNSOUND_ROW     one of the rows is not sound, or their keys do not strictly rise
+ *   22  FANTANOLIVE_WRONG_FILE      file_length 0, no multiple of 240, or over 65,536 records
+ *   23  FANTANOLIVE_WRONG_TOTAL     columns 6-14 of the last record not TOTAL and four spaces, or 35-49 and 50-64 not, in
+ *                                   fifteen digits each, the numbers of lines with an adjustment and with a collection
+ *                                   above zero; a bad amount is none, listed lines count
+ *   24  FANTANOLIVE_SHORT_LINES     lines_length below the number of lines
+ *   0   FANTANOLIVE_DONE            carried out
+ *
+ * Written when carried out: columns 66-73 and 196-198 of rows; the numbers of the listed lines, in file order; *listed, how
+ * many there are, which may be 0.
+ * Kept: the bytes of lines behind them; the bytes of master behind the rows; file. */
+uint64_t fantanolive_post(
+    uint8_t *master, size_t master_length, size_t rows,
+    const uint8_t *file, size_t file_length,
+    uint16_t *lines, size_t lines_length,
+    uint64_t *listed);
 
 /* fantanolive_to_ebcdic: turns a file from ASCII into EBCDIC, byte by byte.
  *

@@ -13,24 +13,26 @@ if ! bin/build-library $only >"$log" 2>&1; then
     exit 1
 fi
 
-# the folder, the program, and the file in the folder that has what it must print
+# the file with what it must print, and the program
 compare() {
-    if target/examples/"$2" >target/examples/"$2".out && diff "$1/${3-expected.txt}" target/examples/"$2".out; then
-        echo "$1 $2: passed"
+    if target/examples/"$2" >target/examples/"$2".out && diff "$1" target/examples/"$2".out; then
+        echo "$1: passed"
     else
         echo "$1 $2: failed"
         exit 1
     fi
 }
 
-compare examples/c apply-c
-compare examples/c contacts-c contacts-expected.txt
+compare examples/c/expected.txt apply-c
+compare examples/c/contacts-expected.txt contacts-c
+compare examples/c/post.txt post-c
 if command -v cobc >/dev/null; then
-    compare examples/cobol apply-cobol
+    compare examples/cobol/expected.txt apply-cobol
+    compare examples/cobol/post.txt post-cobol
 else
     echo "skipped: GnuCOBOL is not installed"
 fi
-compare examples/rust apply-rust
+compare examples/rust/expected.txt apply-rust
 if bin/paper-example >target/examples/paper.out && diff examples/paper/expected.txt target/examples/paper.out; then
     echo "examples/paper: passed"
 else

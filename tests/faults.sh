@@ -67,7 +67,7 @@ detail() {
 make_master() {
     local i
     for ((i = 0; i < 150; i++)); do
-        printf 'OH%09dN000%15s%-20s%-15s%08d%5s%012d%104s\0%5s' $((900000000 + i)) '' SMITH JOHN 25 '' 0 '' ''
+        printf 'OH%09dN000%15s%-20s%-15s%08d%5s%012d%104s\0 00  ' $((900000000 + i)) '' SMITH JOHN 25 '' 0 ''
     done
 }
 

@@ -42,6 +42,7 @@ pub fn row(ssn: u64) -> [u8; 200] {
     put(&mut row, 51, b"JOHN");
     put_number(&mut row, 66, 73, 25);
     put_number(&mut row, 79, 90, 0);
+    put_number(&mut row, 197, 198, 0);
     row[194] = 0x00;
     row
 }

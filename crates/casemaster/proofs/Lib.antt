@@ -3,3 +3,4 @@ pub mod MovedLaws
 pub mod RefusalsLaws
 pub mod RowsLaws
 pub mod SearchLaws
+pub mod SoundLaws

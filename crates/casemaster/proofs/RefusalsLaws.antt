@@ -6,12 +6,12 @@ use mathlib.Core.List.{List}
 use mathlib.Core.Bool.{Bool, true, false, not, _||_}
 use native.Mathlib.Omega.{arith}
 use native.Mathlib.Nat.{suc-ne-zero}
-use borrow.Author.Tests.{ltb-false}
+use borrow.Author.Tests.{not-false, ltb-false}
 use lib.Dec.{eqb, ltb}
 use lib.ListN.{length}
 use Rattle.layout.specs.Limits.{maxRows}
-use Rattle.casemaster.specs.Master.{rowsOf, areSoundRows}
-use Rattle.casemaster.specs.Refusals.{refusal3, refusal4, orElse, masterRefusal}
+use Rattle.casemaster.specs.Master.{rowsOf, areSoundRows, areSoundOldRows}
+use Rattle.casemaster.specs.Refusals.{refusal3, refusal4, orElse, masterRefusal, oldMasterRefusal}
 
 module _ (master : List ℕ) (rows : ℕ) where
   pub master-passed : masterRefusal master rows 0 ≡ 0 → (behind : ℕ) → masterRefusal master rows behind ≡ behind
@@ -32,11 +32,11 @@ module _ (master : List ℕ) (rows : ℕ) where
       go false true h = refl
       go false false h = absurd (h refl)
 
-  -- the rows lie inside the master, whatever the limit
-  pub master-rows : masterRefusal master rows 0 ≡ 0 → rows ≤ length master / 200
-  unfolding masterRefusal refusal3
-  master-rows e =
-      go (not (eqb (length master % 200) 0)) (ltb (length master / 200) rows) refl (ltb maxRows rows) (refusal4 master rows) e
+-- what is known of a master that neither refuses, whatever 4 is over
+module _ (master : List ℕ) (rows : ℕ) (four : Bool) (e : orElse (refusal3 master rows) 3 (orElse four 4 0) ≡ 0) where
+  rows-inside : rows ≤ length master / 200
+  unfolding refusal3
+  rows-inside = go (not (eqb (length master % 200) 0)) (ltb (length master / 200) rows) refl (ltb maxRows rows) four e
     where
       go : (a b : Bool) → ltb (length master / 200) rows ≡ b → (c d : Bool) → orElse (a || b || c) 3 (orElse d 4 0) ≡ 0
           → rows ≤ length master / 200
@@ -44,12 +44,28 @@ module _ (master : List ℕ) (rows : ℕ) where
       go true true t c d e = absurd (omega arith)
       go false true t c d e = absurd (omega arith)
 
--- the rows are sound
-pub master-sound : (master : List ℕ) (rows : ℕ) → masterRefusal master rows 0 ≡ 0 → areSoundRows (rowsOf rows master) ≡ true
-unfolding masterRefusal refusal4
-master-sound master rows z = go (refusal3 master rows) (areSoundRows (rowsOf rows master)) z
-  where
-    go : (a b : Bool) → orElse a 3 (orElse (not b) 4 0) ≡ 0 → b ≡ true
-    go true b e = absurd (suc-ne-zero 2 e)
-    go false true e = refl
-    go false false e = absurd (suc-ne-zero 3 e)
+  not-four : four ≡ false
+  not-four = go (refusal3 master rows) four e
+    where
+      go : (a b : Bool) → orElse a 3 (orElse b 4 0) ≡ 0 → b ≡ false
+      go true b e = absurd (suc-ne-zero 2 e)
+      go false true e = absurd (suc-ne-zero 3 e)
+      go false false e = refl
+
+module _ (master : List ℕ) (rows : ℕ) where
+  -- the rows lie inside the master, whatever the limit, and are sound
+  pub master-rows : masterRefusal master rows 0 ≡ 0 → rows ≤ length master / 200
+  unfolding masterRefusal
+  master-rows e = rows-inside master rows (refusal4 master rows) e
+
+  pub master-sound : masterRefusal master rows 0 ≡ 0 → areSoundRows (rowsOf rows master) ≡ true
+  unfolding masterRefusal refusal4
+  master-sound e = not-false (areSoundRows (rowsOf rows master)) (not-four master rows (not (areSoundRows (rowsOf rows master))) e)
+
+  pub old-master-rows : oldMasterRefusal master rows ≡ 0 → rows ≤ length master / 200
+  unfolding oldMasterRefusal
+  old-master-rows e = rows-inside master rows (not (areSoundOldRows (rowsOf rows master))) e
+
+  pub old-master-sound : oldMasterRefusal master rows ≡ 0 → areSoundOldRows (rowsOf rows master) ≡ true
+  unfolding oldMasterRefusal
+  old-master-sound e = not-false (areSoundOldRows (rowsOf rows master)) (not-four master rows (not (areSoundOldRows (rowsOf rows master))) e)

@@ -1,3 +1,4 @@
+pub mod Forms
 pub mod Master
 pub mod Refusals
 pub mod Row

@@ -3,7 +3,7 @@ use Prim.Native.Nat.{ℕ}
 use mathlib.Core.List.{List, map}
 use mathlib.Core.Bool.{Bool, _&&_}
 use Rattle.text.specs.Blocks.{blocks}
-use Rattle.casemaster.specs.Row.{rowWidth, rowKey, isSoundRow}
+use Rattle.casemaster.specs.Row.{rowWidth, rowKey, isSoundRow, isSoundOldRow}
 use Rattle.text.specs.ByteOrder.{rising}
 use Rattle.text.specs.Fields.{every}
 
@@ -15,5 +15,12 @@ unfoldable pub keysOf : List (List ℕ) → List (List ℕ)
 keysOf rows = map rowKey rows
 
 -- each row is sound, and rows stand in strictly rising byte order of key
+abbrev pub areSoundBy : (List ℕ → Bool) → List (List ℕ) → Bool
+areSoundBy sound rows = every sound rows && rising (keysOf rows)
+
 unfoldable pub areSoundRows : List (List ℕ) → Bool
-areSoundRows rows = every isSoundRow rows && rising (keysOf rows)
+areSoundRows rows = areSoundBy isSoundRow rows
+
+-- as rows without cents
+unfoldable pub areSoundOldRows : List (List ℕ) → Bool
+areSoundOldRows rows = areSoundBy isSoundOldRow rows

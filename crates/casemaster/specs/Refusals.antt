@@ -5,7 +5,7 @@ use mathlib.Core.Bool.{Bool, not, cond, _||_}
 use lib.Dec.{eqb, ltb}
 use lib.ListN.{length}
 use Rattle.layout.specs.Limits.{maxRows}
-use Rattle.casemaster.specs.Master.{rowsOf, areSoundRows}
+use Rattle.casemaster.specs.Master.{rowsOf, areSoundRows, areSoundOldRows}
 
 -- the number of a refusal where it holds, else of the first behind it
 abbrev pub orElse : Bool → ℕ → ℕ → ℕ
@@ -22,3 +22,7 @@ refusal4 master rows = not (areSoundRows (rowsOf rows master))
 -- the first of 3 and 4 that holds, else what comes behind
 unfoldable pub masterRefusal : List ℕ → ℕ → ℕ → ℕ
 masterRefusal master rows behind = orElse (refusal3 master rows) 3 (orElse (refusal4 master rows) 4 behind)
+
+-- over rows without cents
+unfoldable pub oldMasterRefusal : List ℕ → ℕ → ℕ
+oldMasterRefusal master rows = orElse (refusal3 master rows) 3 (orElse (not (areSoundOldRows (rowsOf rows master))) 4 0)

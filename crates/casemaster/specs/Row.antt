@@ -1,11 +1,12 @@
--- Document 01, "A case's row": the columns of a row and when a row is sound, live or deleted. Assumes nothing.
-use Prim.Native.Nat.{ℕ}
+-- Document 01, "A case's row", with document 02, item 6 (cents): the columns of a row, its balance, and when a row is sound, live or
+-- deleted. Assumes nothing.
+use Prim.Native.Nat.{ℕ, _+_, _*_}
 use mathlib.Core.List.{List}
 use mathlib.Core.Bool.{Bool, cond, _&&_}
 use lib.ListN.{getD}
 use lib.Dec.{eqb}
 use Rattle.text.specs.Characters.{space, D}
-use Rattle.text.specs.Fields.{columns, isBlank, isZero, allDigits}
+use Rattle.text.specs.Fields.{columns, isBlank, isZero, allDigits, number}
 use Rattle.layout.specs.Name.{isName, hasLetter}
 use Rattle.layout.specs.Key.{isSoundKey}
 
@@ -97,9 +98,21 @@ rowExclusions row = columns 195 195 row
 abbrev pub rowStatus : List ℕ → List ℕ
 rowStatus row = columns 196 196 row
 
+-- cents
+abbrev pub rowCents : List ℕ → List ℕ
+rowCents row = columns 197 198 row
+
 -- spaces
 abbrev pub rowFiller : List ℕ → List ℕ
-rowFiller row = columns 197 200 row
+rowFiller row = columns 199 200 row
+
+-- the balance, in cents: the dollars of the arrearage and the cents beside them
+unfoldable pub balance : List ℕ → ℕ
+balance row = number (rowArrearage row) * 100 + number (rowCents row)
+
+-- the balance is zero when both parts are
+unfoldable pub isBalanceZero : List ℕ → Bool
+isBalanceZero row = isZero (rowArrearage row) && isZero (rowCents row)
 
 -- status is a space (live) or D (deleted)
 unfoldable pub isLive : List ℕ → Bool
@@ -108,20 +121,31 @@ isLive row = eqb (getD (rowStatus row) 0 0) space
 unfoldable pub isDeleted : List ℕ → Bool
 isDeleted row = eqb (getD (rowStatus row) 0 0) D
 
--- D exactly when the arrearage is zero
-unfoldable pub isStatusSound : List ℕ → Bool
-isStatusSound row = cond (isZero (rowArrearage row)) (isDeleted row) (isLive row)
+-- D exactly when something is zero
+abbrev pub isDeletedAt : Bool → List ℕ → Bool
+isDeletedAt zero row = cond zero (isDeleted row) (isLive row)
 
--- digits in 13–15, 66–73, 79–90, a last name free of 05 as for type A, the status, and spaces in 197–200
+-- digits in 13–15, 66–73, 79–90, and a last name free of 05 as for type A
 unfoldable pub areFieldsSound : List ℕ → Bool
 areFieldsSound row =
     allDigits (columns 13 15 row)
     && (allDigits (columns 66 73 row)
     && (allDigits (columns 79 90 row)
-    && (isName (columns 31 34 row)
-    && (hasLetter (columns 31 34 row)
-    && (isStatusSound row && isBlank (columns 197 200 row))))))
+    && (isName (columns 31 34 row) && hasLetter (columns 31 34 row))))
 
--- a sound row has a key free of errors 01, 02 and 04, and such fields; the other columns are free
+-- deleted exactly when both parts of the balance are zero, digits in 197–198, and spaces in 199–200
+unfoldable pub isEndSound : List ℕ → Bool
+isEndSound row = isDeletedAt (isBalanceZero row) row && (allDigits (rowCents row) && isBlank (rowFiller row))
+
+-- a sound row has a key free of errors 01, 02 and 04, such fields and such an end; the other columns are free
 unfoldable pub isSoundRow : List ℕ → Bool
-isSoundRow row = isSoundKey (rowKey row) && areFieldsSound row
+isSoundRow row = isSoundKey (rowKey row) && (areFieldsSound row && isEndSound row)
+
+-- ---- the row before it had cents, which the conversion alone reads
+
+-- deleted exactly when the arrearage is zero, and spaces in 197–200
+unfoldable pub isOldEndSound : List ℕ → Bool
+isOldEndSound row = isDeletedAt (isZero (rowArrearage row)) row && isBlank (columns 197 200 row)
+
+unfoldable pub isSoundOldRow : List ℕ → Bool
+isSoundOldRow row = isSoundKey (rowKey row) && (areFieldsSound row && isOldEndSound row)

@@ -1,13 +1,14 @@
 // A master: rows one behind the other, and a tail that is kept.
 use crate::row;
+use crate::row::Form;
 use text::byte_order;
 use text::fields;
 ghost use mathlib.Core.Path.{_≡_};
 ghost use Prim.Native.Nat.{_+_, _*_, _≤_};
 ghost use lib.ListN.{length, take, drop};
 ghost use Rattle.text.specs.Blocks.{spliced};
-ghost use Rattle.casemaster.specs.Row.{isSoundRow};
-ghost use Rattle.casemaster.specs.Master.{rowsOf, areSoundRows};
+ghost use Rattle.casemaster.specs.Forms.{isSoundIn, areSoundIn};
+ghost use Rattle.casemaster.specs.Master.{rowsOf};
 ghost use Rattle.casemaster.specs.Search.{Pulled, RowPut, Raised};
 ghost use Rattle.text.specs.Fields.{every};
 
@@ -73,14 +74,14 @@ pub fn shift_rows(m: &mut [u8], n: usize, by: usize)
 }
 
 // Whether each of the first n rows is sound.
-fn all_sound(m: &[u8], n: usize) -> bool
+fn all_sound(m: &[u8], n: usize, form: Form) -> bool
     requires { ⌜ n * 200 ≤ length (now m) ⌝ }
-    ensures { λ r. ⌜ r ≡ every isSoundRow (rowsOf n (now (m .entry))) ⌝ }
+    ensures { λ r. ⌜ r ≡ every (isSoundIn form) (rowsOf n (now (m .entry))) ⌝ }
 {
     if n < 1 {
         return true;
     }
-    if !row::is_sound_row(&m[0..ROW_WIDTH]) {
+    if !row::is_sound_row(&m[0..ROW_WIDTH], form) {
         return false;
     }
     let mut i: usize = 1;
@@ -88,7 +89,7 @@ fn all_sound(m: &[u8], n: usize) -> bool
         let before = (i - 1) * ROW_WIDTH;
         let at = i * ROW_WIDTH;
         let end = at + ROW_WIDTH;
-        if !row::is_sound_row_after(&m[before..at], &m[at..end]) {
+        if !row::is_sound_row_after(&m[before..at], &m[at..end], form) {
             return false;
         }
         i += 1;
@@ -97,11 +98,11 @@ fn all_sound(m: &[u8], n: usize) -> bool
 }
 
 // Whether the first n rows are sound and in strictly rising order of key.
-pub fn are_sound_rows(m: &[u8], n: usize) -> bool
+pub fn are_sound_rows(m: &[u8], n: usize, form: Form) -> bool
     requires { ⌜ n * 200 ≤ length (now m) ⌝ }
-    ensures { λ r. ⌜ r ≡ areSoundRows (rowsOf n (now (m .entry))) ⌝ }
+    ensures { λ r. ⌜ r ≡ areSoundIn form (rowsOf n (now (m .entry))) ⌝ }
 {
-    if all_sound(m, n) {
+    if all_sound(m, n, form) {
         byte_order::is_rising(m, n, ROW_WIDTH, 12)
     } else {
         false

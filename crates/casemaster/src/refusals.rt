@@ -1,12 +1,14 @@
 // The refusals 3 and 4, which every call over a master begins with.
 use crate::master;
+use crate::row::Form;
 use layout::limits::MAX_ROWS;
 ghost use mathlib.Core.Path.{_≡_};
-ghost use Rattle.casemaster.specs.Refusals.{masterRefusal};
+ghost use Rattle.casemaster.specs.Refusals.{masterRefusal, oldMasterRefusal};
+ghost use Rattle.casemaster.specs.Forms.{refusalIn};
 
 // The number of the first of refusals 3 and 4 that holds, or 0.
-pub fn master_refusal(master: &[u8], rows: usize) -> u64
-    ensures { λ r. ⌜ r ≡ masterRefusal (now (master .entry)) rows 0 ⌝ }
+fn refusal_in(master: &[u8], rows: usize, form: Form) -> u64
+    ensures { λ r. ⌜ r ≡ refusalIn form (now (master .entry)) rows ⌝ }
 {
     if master.len() % 200 != 0 {
         return 3;
@@ -17,9 +19,23 @@ pub fn master_refusal(master: &[u8], rows: usize) -> u64
     if MAX_ROWS < rows {
         return 3;
     }
-    if master::are_sound_rows(master, rows) {
+    if master::are_sound_rows(master, rows, form) {
         0
     } else {
         4
     }
+}
+
+// Over rows with cents.
+pub fn master_refusal(master: &[u8], rows: usize) -> u64
+    ensures { λ r. ⌜ r ≡ masterRefusal (now (master .entry)) rows 0 ⌝ }
+{
+    refusal_in(master, rows, Form::New)
+}
+
+// Over rows without cents.
+pub fn old_master_refusal(master: &[u8], rows: usize) -> u64
+    ensures { λ r. ⌜ r ≡ oldMasterRefusal (now (master .entry)) rows ⌝ }
+{
+    refusal_in(master, rows, Form::Old)
 }

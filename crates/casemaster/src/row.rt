@@ -6,7 +6,8 @@ use text::fields::Columns;
 ghost use mathlib.Core.Path.{_≡_};
 ghost use mathlib.Core.Bool.{true};
 ghost use lib.ListN.{length};
-ghost use Rattle.casemaster.specs.Row.{isLive, isStatusSound, areFieldsSound, isSoundRow};
+ghost use Rattle.casemaster.specs.Row.{isLive, isDeletedAt, areFieldsSound, isEndSound, isOldEndSound};
+ghost use Rattle.casemaster.specs.Forms.{isEndSoundIn, isSoundIn};
 
 pub const STATE: Columns = Columns { first: 1, last: 2 };
 
@@ -119,7 +120,18 @@ pub const STATUS: Columns = Columns {
     last: 196,
 };
 
+pub const CENTS: Columns = Columns {
+    first: 197,
+    last: 198,
+};
+
 pub const FILLER: Columns = Columns {
+    first: 199,
+    last: 200,
+};
+
+// The spaces of a row without cents.
+const OLD_FILLER: Columns = Columns {
     first: 197,
     last: 200,
 };
@@ -129,6 +141,12 @@ pub const LIVE: u8 = 0x40;
 
 pub const DELETED: u8 = 0xC4;
 
+// The form of a row: before it had cents, or with them.
+pub enum Form {
+    Old,
+    New,
+}
+
 // Whether a row is live.
 pub fn is_live(row: &[u8]) -> bool
     requires { ⌜ length (now row) ≡ 200 ⌝ }
@@ -137,19 +155,19 @@ pub fn is_live(row: &[u8]) -> bool
     row[195] == LIVE
 }
 
-// Whether the status is D exactly when the arrearage is zero, and else a space.
-fn is_status_sound(row: &[u8]) -> bool
+// Whether the status is D exactly when something is zero, and else a space.
+fn is_deleted_at(row: &[u8], zero: bool) -> bool
     requires { ⌜ length (now row) ≡ 200 ⌝ }
-    ensures { λ r. ⌜ r ≡ isStatusSound (now (row .entry)) ⌝ }
+    ensures { λ r. ⌜ r ≡ isDeletedAt zero (now (row .entry)) ⌝ }
 {
-    if fields::is_zero(fields::field(row, ARREARAGE)) {
+    if zero {
         row[195] == DELETED
     } else {
         row[195] == LIVE
     }
 }
 
-// Whether the fields behind the key hold what a sound row's hold.
+// Whether the fields between the key and the status hold what a sound row's hold.
 fn are_fields_sound(row: &[u8]) -> bool
     requires { ⌜ length (now row) ≡ 200 ⌝ }
     ensures { λ r. ⌜ r ≡ areFieldsSound (now (row .entry)) ⌝ }
@@ -159,24 +177,58 @@ fn are_fields_sound(row: &[u8]) -> bool
     let payment = fields::all_digits(fields::field(row, PAYMENT_FIELDS));
     let name = name::is_name(fields::field(row, NAME_FRONT));
     let letter = name::has_letter(fields::field(row, NAME_FRONT));
-    let status = is_status_sound(row);
+    local & (arrearage & (payment & (name & letter)))
+}
+
+// Whether the status and what stands behind it are a sound row's.
+fn is_end_sound(row: &[u8]) -> bool
+    requires { ⌜ length (now row) ≡ 200 ⌝ }
+    ensures { λ r. ⌜ r ≡ isEndSound (now (row .entry)) ⌝ }
+{
+    let dollars = fields::is_zero(fields::field(row, ARREARAGE));
+    let cents = fields::is_zero(fields::field(row, CENTS));
+    let status = is_deleted_at(row, dollars & cents);
+    let digits = fields::all_digits(fields::field(row, CENTS));
     let filler = fields::is_blank(fields::field(row, FILLER));
-    local & (arrearage & (payment & (name & (letter & (status & filler)))))
+    status & (digits & filler)
+}
+
+// The same of a row without cents.
+fn is_old_end_sound(row: &[u8]) -> bool
+    requires { ⌜ length (now row) ≡ 200 ⌝ }
+    ensures { λ r. ⌜ r ≡ isOldEndSound (now (row .entry)) ⌝ }
+{
+    let status = is_deleted_at(row, fields::is_zero(fields::field(row, ARREARAGE)));
+    let filler = fields::is_blank(fields::field(row, OLD_FILLER));
+    status & filler
+}
+
+// The same of a row of either form.
+fn is_end_sound_in(row: &[u8], form: Form) -> bool
+    requires { ⌜ length (now row) ≡ 200 ⌝ }
+    ensures { λ r. ⌜ r ≡ isEndSoundIn form (now (row .entry)) ⌝ }
+{
+    match form {
+        Form::Old => is_old_end_sound(row),
+        Form::New => is_end_sound(row),
+    }
 }
 
 // Whether a row is sound.
-pub fn is_sound_row(row: &[u8]) -> bool
+pub fn is_sound_row(row: &[u8], form: Form) -> bool
     requires { ⌜ length (now row) ≡ 200 ⌝ }
-    ensures { λ r. ⌜ r ≡ isSoundRow (now (row .entry)) ⌝ }
+    ensures { λ r. ⌜ r ≡ isSoundIn form (now (row .entry)) ⌝ }
 {
-    key::is_sound_key(fields::field(row, KEY)) & are_fields_sound(row)
+    let key = key::is_sound_key(fields::field(row, KEY));
+    key & (are_fields_sound(row) & is_end_sound_in(row, form))
 }
 
 // Whether a row is sound, where the one before it is.
-pub fn is_sound_row_after(before: &[u8], row: &[u8]) -> bool
-    requires { ⌜ (length (now before) ≡ 200) × (isSoundRow (now before) ≡ true) × (length (now row) ≡ 200) ⌝ }
-    ensures { λ r. ⌜ r ≡ isSoundRow (now (row .entry)) ⌝ }
+pub fn is_sound_row_after(before: &[u8], row: &[u8], form: Form) -> bool
+    requires { ⌜ (length (now before) ≡ 200) × (isSoundIn form (now before) ≡ true) × (length (now row) ≡ 200) ⌝ }
+    ensures { λ r. ⌜ r ≡ isSoundIn form (now (row .entry)) ⌝ }
 {
     let known = fields::field(before, KEY);
-    key::is_sound_key_after(known, fields::field(row, KEY)) & are_fields_sound(row)
+    let key = key::is_sound_key_after(known, fields::field(row, KEY));
+    key & (are_fields_sound(row) & is_end_sound_in(row, form))
 }

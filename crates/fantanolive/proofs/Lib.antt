@@ -1,3 +1,4 @@
 pub mod CallsLaws
 pub mod CodepageCallsLaws
 pub mod ContactsCallsLaws
+pub mod PostingCallsLaws

@@ -21,7 +21,7 @@ use Rattle.onecase.specs.Verdict.{Judgement, hasCode, isError, isWarning, isRej
 use Rattle.judging.proofs.CodeSums.{number-none}
 use Rattle.onecase.proofs.JudgementLaws.{has-front, name-width}
 use Rattle.onecase.proofs.JudgedLaws.{Judged, isSome, judged, rejected-some}
-use Rattle.onecase.proofs.SoundLaws.{sound-columns}
+use Rattle.casemaster.proofs.SoundLaws.{sound-columns}
 use Rattle.keyorder.specs.Packed.{characterCode, characterOf, nameNumber, nameIn, SoundOrNone, IsJudged}
 
 -- ---- a code's bit in the number of its set

@@ -5,6 +5,6 @@ use Prim.Native.Nat.{ℕ}
 unfoldable pub maxRows : ℕ
 maxRows = 65535
 
--- at most 65,536 records in a batch
+-- at most 65,536 records in a batch or a collection file
 unfoldable pub maxRecords : ℕ
 maxRecords = 65536

@@ -3,5 +3,5 @@
 // At most so many rows.
 pub const MAX_ROWS: usize = 65535;
 
-// At most so many records in a batch.
+// At most so many records in a batch or a collection file.
 pub const MAX_RECORDS: usize = 65536;

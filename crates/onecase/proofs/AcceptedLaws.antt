@@ -24,7 +24,8 @@ use Rattle.judging.specs.Errors.{error01, error02, error04, error05, error07, e
 use Rattle.onecase.specs.Changes.{addedLocalCode}
 use Rattle.text.proofs.BoolLaws.{or-left, or-right, and-second}
 use Rattle.onecase.proofs.JudgementLaws.{NoError}
-use Rattle.onecase.proofs.DigitsLaws.{number-not-zero, listed-digits}
+use Rattle.onecase.proofs.DigitsLaws.{listed-digits}
+use Rattle.text.proofs.NumberLaws.{number-not-zero}
 use Rattle.judging.specs.Setting.{Setting}
 use Rattle.judging.proofs.OwnKeyLaws.{own-sound}
 

@@ -20,17 +20,21 @@ use Rattle.layout.proofs.RecordLaws.{length-sent, key-length}
 
 -- ---- the fields
 
+-- 00 for the cents
+abbrev zeroCents : Put
+zeroCents = put 197 198 (zeros 2)
+
 abbrev pub freshPuts : List ℕ → List ℕ → List Put
 freshPuts list rec =
     put 1 12 (recordKey rec) ∷ put 13 15 (addedLocalCode list rec) ∷ put 16 30 (caseId rec) ∷ put 31 50 (lastName rec)
     ∷ put 51 65 (firstName rec) ∷ put 66 73 (arrearage rec) ∷ put 79 90 (zeros 12) ∷ put 91 186 (address rec)
-    ∷ put 187 194 (dateIssued rec) ∷ put 195 195 (exclusionByte rec) ∷ []
+    ∷ put 187 194 (dateIssued rec) ∷ put 195 195 (exclusionByte rec) ∷ zeroCents ∷ []
 
 abbrev pub recertifiedPuts : List ℕ → List ℕ → List Put
 recertifiedPuts list rec =
     put 13 15 (addedLocalCode list rec) ∷ putUnless (isBlank (caseId rec)) 16 30 (caseId rec) ∷ put 31 50 (lastName rec)
     ∷ put 51 65 (firstName rec) ∷ put 66 73 (arrearage rec) ∷ putUnless (isBlank (address rec)) 91 186 (address rec)
-    ∷ putUnless (isBlank (dateIssued rec)) 187 194 (dateIssued rec) ∷ put 195 195 (exclusionByte rec) ∷ []
+    ∷ putUnless (isBlank (dateIssued rec)) 187 194 (dateIssued rec) ∷ put 195 195 (exclusionByte rec) ∷ zeroCents ∷ []
 
 abbrev pub renamedPuts : List ℕ → List Put
 renamedPuts rec = put 51 65 (firstName rec) ∷ put 31 50 (lastName rec) ∷ []
@@ -39,13 +43,13 @@ abbrev pub reidentifiedPuts : List ℕ → List Put
 reidentifiedPuts rec = put 16 30 (caseId rec) ∷ []
 
 abbrev pub deletedPuts : List Put
-deletedPuts = put 196 196 (D ∷ []) ∷ put 66 73 (zeros 8) ∷ []
+deletedPuts = put 196 196 (D ∷ []) ∷ put 66 73 (zeros 8) ∷ zeroCents ∷ []
 
 abbrev pub relocatedPuts : List ℕ → List Put
 relocatedPuts rec = put 13 15 (cond (isBlank (localCode rec)) zeroLocalCode (localCode rec)) ∷ []
 
 abbrev pub amendedPuts : List ℕ → List Put
-amendedPuts rec = putUnless (not (isZero (arrearage rec))) 196 196 (D ∷ []) ∷ put 66 73 (arrearage rec) ∷ []
+amendedPuts rec = putUnless (not (isZero (arrearage rec))) 196 196 (D ∷ []) ∷ put 66 73 (arrearage rec) ∷ zeroCents ∷ []
 
 abbrev pub excludedPuts : List ℕ → List Put
 excludedPuts rec = put 195 195 (exclusionByte rec) ∷ []
@@ -113,6 +117,9 @@ cond-length : (n : ℕ) (b : Bool) (x y : List ℕ) → length x ≡ n → lengt
 cond-length n true x y e f = e
 cond-length n false x y e f = f
 
+cents-fit : AllFit 200 (zeroCents ∷ [])
+cents-fit = (record { low = lit≤ tt; wide = refl; high = lit≤ tt }, tt)
+
 module _ (rec : List ℕ) (e : length rec ≡ 245) where
   -- columns a to z of the record, in columns first to last of the row
   sent : (keep : Bool) (first last a z : ℕ) → isAsWide 200 first last 245 a z ≡ true → Fits 200 (putUnless keep first last (columns a z rec))
@@ -147,7 +154,7 @@ module _ (rec : List ℕ) (e : length rec ≡ 245) where
               sent false 66 73 65 72 refl,
               (
                 record { low = lit≤ tt; wide = refl; high = lit≤ tt },
-                (sent false 91 186 84 179 refl, (sent false 187 194 180 187 refl, (set-fits, tt))),
+                (sent false 91 186 84 179 refl, (sent false 187 194 180 187 refl, (set-fits, cents-fit))),
               ),
             ),
           ),
@@ -169,7 +176,7 @@ module _ (rec : List ℕ) (e : length rec ≡ 245) where
             sent false 66 73 65 72 refl,
             (
               sent (isBlank (address rec)) 91 186 84 179 refl,
-              (sent (isBlank (dateIssued rec)) 187 194 180 187 refl, (set-fits, tt)),
+              (sent (isBlank (dateIssued rec)) 187 194 180 187 refl, (set-fits, cents-fit)),
             ),
           ),
         ),
@@ -194,7 +201,7 @@ module _ (rec : List ℕ) (e : length rec ≡ 245) where
   )
 
   pub amended-fit : AllFit 200 (amendedPuts rec)
-  amended-fit = (record { low = lit≤ tt; wide = refl; high = lit≤ tt }, (sent false 66 73 65 72 refl, tt))
+  amended-fit = (record { low = lit≤ tt; wide = refl; high = lit≤ tt }, (sent false 66 73 65 72 refl, cents-fit))
 
   pub excluded-fit : AllFit 200 (excludedPuts rec)
   excluded-fit = (set-fits, tt)
@@ -209,7 +216,7 @@ module _ (rec : List ℕ) (e : length rec ≡ 245) where
   readdressed-fit = (sent false 91 186 84 179 refl, tt)
 
 pub deleted-fit : AllFit 200 deletedPuts
-deleted-fit = (record { low = lit≤ tt; wide = refl; high = lit≤ tt }, (record { low = lit≤ tt; wide = refl; high = lit≤ tt }, tt))
+deleted-fit = (record { low = lit≤ tt; wide = refl; high = lit≤ tt }, (record { low = lit≤ tt; wide = refl; high = lit≤ tt }, cents-fit))
 
 -- ---- width and key
 

@@ -6,7 +6,6 @@ pub mod JudgedLaws
 pub mod JudgementLaws
 pub mod MachineLaws
 pub mod SoundChangesLaws
-pub mod SoundLaws
 pub mod StepLaws
 pub mod StepsLaws
 pub mod TableProof

@@ -19,7 +19,7 @@ use Rattle.text.proofs.BoolLaws.{either}
 use Rattle.onecase.proofs.JudgementLaws.{NoError, accepted-none}
 use Rattle.onecase.proofs.ChangesLaws
 use Rattle.onecase.proofs.ChangesLaws.{Kept}
-use Rattle.onecase.proofs.SoundLaws.{SoundAt, columnsOf, sound-columns}
+use Rattle.casemaster.proofs.SoundLaws.{SoundAt, columnsOf, sound-columns}
 use Rattle.onecase.proofs.SoundChangesLaws
 use Rattle.onecase.proofs.AcceptedLaws.{live-row}
 use Rattle.casemaster.proofs.RowsLaws.{Each, each-some, IsWide}

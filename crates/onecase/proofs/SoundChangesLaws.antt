@@ -2,7 +2,7 @@
 use Prim.Native.Nat.{ℕ}
 use mathlib.Core.Path.{_≡_, refl}
 use mathlib.Core.List.{List, [], _∷_}
-use mathlib.Core.Bool.{Bool, true, false, not, cond, _||_, or-true}
+use mathlib.Core.Bool.{Bool, true, false, not, cond, _&&_, _||_, or-true}
 use mathlib.Core.Option.{Option}
 use lib.Dec.{eqb, lit≤}
 use lib.ListN.{length, getD}
@@ -14,12 +14,12 @@ use Rattle.layout.specs.ChartA1.{localCode, lastName, arrearage, processYear}
 use Rattle.text.proofs.FieldsLaws.{digits-all, digits-part}
 use Rattle.layout.specs.Record.{isType}
 use Rattle.judging.specs.Errors.{zeroLocalCode}
-use Rattle.onecase.specs.Changes.{addedLocalCode, freshRow, recertified, renamed, reidentified, deleted, relocated, amended, excluded, paid, transferred, readdressed}
+use Rattle.onecase.specs.Changes.{zeros, addedLocalCode, freshRow, recertified, renamed, reidentified, deleted, relocated, amended, excluded, paid, transferred, readdressed}
 use Rattle.onecase.proofs.JudgementLaws.{NoError}
 use Rattle.text.proofs.ColumnsLaws.{columns-of-columns}
 use Rattle.onecase.proofs.ChangesLaws
 use Rattle.onecase.proofs.AcceptedLaws
-use Rattle.onecase.proofs.SoundLaws.{SoundAt, columnsOf, written-sound, free-sound}
+use Rattle.casemaster.proofs.SoundLaws.{SoundAt, columnsOf, written-sound, free-sound}
 use Rattle.judging.specs.Setting.{Setting}
 
 -- the first four characters of the last name sent
@@ -68,17 +68,23 @@ deleted-sound row w s =
       year-digits = s .year-digits;
       payment-digits = s .payment-digits;
       status-right = refl;
+      cents-digits = refl;
       filler-blank = s .filler-blank;
     })
+
+-- the cents that A, D and M write
+cents-digits : allDigits (zeros 2) ≡ true
+unfolding allDigits isDigit
+cents-digits = refl
 
 -- ---- types whose fields are free of errors: A, B, L, M, S
 
 -- M: zero writes D; else the status stays a space
 amended-status : (row : List ℕ) → isLive row ≡ true → (zero : Bool)
-    → cond zero (eqb (getD (cond (not zero) (columns 196 196 row) (D ∷ [])) 0 0) D)
+    → cond (zero && isZero (zeros 2)) (eqb (getD (cond (not zero) (columns 196 196 row) (D ∷ [])) 0 0) D)
     (eqb (getD (cond (not zero) (columns 196 196 row) (D ∷ [])) 0 0) space)
     ≡ true
-unfolding isLive
+unfolding isLive isZero
 amended-status row live true = refl
 amended-status row live false = live
 
@@ -102,6 +108,7 @@ module _ {setting : Setting} {held : Option (List ℕ)} {rec : List ℕ} (n : No
           year-digits = s .year-digits;
           payment-digits = s .payment-digits;
           status-right = s .status-right;
+          cents-digits = s .cents-digits;
           filler-blank = s .filler-blank;
         })
 
@@ -119,6 +126,7 @@ module _ {setting : Setting} {held : Option (List ℕ)} {rec : List ℕ} (n : No
           year-digits = s .year-digits;
           payment-digits = s .payment-digits;
           status-right = s .status-right;
+          cents-digits = s .cents-digits;
           filler-blank = s .filler-blank;
         })
 
@@ -135,6 +143,7 @@ module _ {setting : Setting} {held : Option (List ℕ)} {rec : List ℕ} (n : No
           year-digits = digits-part 1 4 (processYear rec) (digits-all 4 (processYear rec) (AcceptedLaws.year-digits n t));
           payment-digits = sent-digits (rw t (or-true (isType A rec || isType M rec)));
           status-right = s .status-right;
+          cents-digits = s .cents-digits;
           filler-blank = s .filler-blank;
         })
 
@@ -152,6 +161,7 @@ module _ {setting : Setting} {held : Option (List ℕ)} {rec : List ℕ} (n : No
             year-digits = s .year-digits;
             payment-digits = s .payment-digits;
             status-right = rw (arrearage-whole rec) (amended-status row live (isZero (arrearage rec)));
+            cents-digits = cents-digits;
             filler-blank = s .filler-blank;
           })
 
@@ -169,6 +179,7 @@ module _ {setting : Setting} {held : Option (List ℕ)} {rec : List ℕ} (n : No
             year-digits = s .year-digits;
             payment-digits = s .payment-digits;
             status-right = rw (arrearage-whole rec, AcceptedLaws.arrearage-not-zero n a) live;
+            cents-digits = cents-digits;
             filler-blank = s .filler-blank;
           })
 
@@ -186,5 +197,6 @@ module _ {setting : Setting} {held : Option (List ℕ)} {rec : List ℕ} (n : No
         year-digits = refl;
         payment-digits = refl;
         status-right = rw (arrearage-whole rec, AcceptedLaws.arrearage-not-zero n a);
+        cents-digits = refl;
         filler-blank = refl;
       })

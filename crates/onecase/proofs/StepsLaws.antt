@@ -5,11 +5,12 @@ use mathlib.Core.List.{List}
 use Rattle.text.specs.Fields.{placed, isBlank, spaces}
 use Rattle.layout.specs.ChartA1.{caseId, lastName, firstName, arrearage, dateIssued}
 use Rattle.layout.specs.Record.{recordKey}
-use Rattle.onecase.specs.Changes.{zeros, address, exclusionByte, addedLocalCode, placedUnless, freshRow, recertified}
+use Rattle.onecase.specs.Changes.{zeros, address, exclusionByte, addedLocalCode, withoutCents, placedUnless, freshRow, recertified}
 
-pub fresh-steps : (list rec set key a b c d e f g h i r : List ℕ)
+pub fresh-steps : (list rec set key blank a b c d e f g h i r : List ℕ)
+    → blank ≡ withoutCents (spaces 200)
     → set ≡ exclusionByte rec
-    → a ≡ placed 195 195 set (spaces 200)
+    → a ≡ placed 195 195 set blank
     → b ≡ placed 187 194 (dateIssued rec) a
     → c ≡ placed 91 186 (address rec) b
     → d ≡ placed 79 90 (zeros 12) c
@@ -22,12 +23,13 @@ pub fresh-steps : (list rec set key a b c d e f g h i r : List ℕ)
     → r ≡ placed 1 12 key i
     → r ≡ freshRow list rec
 unfolding freshRow
-fresh-steps list rec set key a b c d e f g h i r es ea eb ec ed ee ef eg eh ei ek er =
-    rw (er, ek, ei, eh, eg, ef, ee, ed, ec, eb, ea, es)
+fresh-steps list rec set key blank a b c d e f g h i r ew es ea eb ec ed ee ef eg eh ei ek er =
+    rw (er, ek, ei, eh, eg, ef, ee, ed, ec, eb, ea, es, ew)
 
-pub recertified-steps : (list rec row set a b c d e f g r : List ℕ)
+pub recertified-steps : (list rec row whole set a b c d e f g r : List ℕ)
+    → whole ≡ withoutCents row
     → set ≡ exclusionByte rec
-    → a ≡ placed 195 195 set row
+    → a ≡ placed 195 195 set whole
     → b ≡ placedUnless (isBlank (dateIssued rec)) 187 194 (dateIssued rec) a
     → c ≡ placedUnless (isBlank (address rec)) 91 186 (address rec) b
     → d ≡ placed 66 73 (arrearage rec) c
@@ -37,4 +39,5 @@ pub recertified-steps : (list rec row set a b c d e f g r : List ℕ)
     → r ≡ placed 13 15 (addedLocalCode list rec) g
     → r ≡ recertified list rec row
 unfolding recertified
-recertified-steps list rec row set a b c d e f g r es ea eb ec ed ee ef eg er = rw (er, eg, ef, ee, ed, ec, eb, ea, es)
+recertified-steps list rec row whole set a b c d e f g r ew es ea eb ec ed ee ef eg er =
+    rw (er, eg, ef, ee, ed, ec, eb, ea, es, ew)

@@ -14,7 +14,7 @@ use Rattle.layout.specs.Exclusions.{exclusionNames, isSeparator, wordsFrom, rea
 use Rattle.text.specs.Blocks.{blocks}
 use Rattle.layout.specs.Locals.{codesOfList, isListed}
 use Rattle.layout.specs.Key.{isCaseType, isSoundKey}
-use Rattle.casemaster.specs.Row.{isLive, isStatusSound, areFieldsSound, isSoundRow}
+use Rattle.casemaster.specs.Row.{isBalanceZero, isLive, areFieldsSound, isEndSound, isSoundRow}
 use Rattle.casemaster.specs.Rows.{rowWith}
 use Rattle.layout.specs.Record.{isKnownType}
 use Rattle.judging.specs.Errors.{error01, error02, error03, error04, error05, error06, error07, error08, isLiveRow, error09, isLocalCode, error10, error11, error12, error13, wrongPart, error14, error15, error16, isOtherName, error17, error18, isWrongKey, judged09, judged17, errors}
@@ -28,7 +28,7 @@ pub proved-table : ProvedTable
 unfolding
     isLetter isDigit isBlank isZero allDigits areDigits number digitField sameBytes isOneOf stateTable isState wrongSsn
     isNameByte isNameRest isName hasLetter isLeap daysIn isDay isDate inWindow exclusionNames isSeparator wordsFrom readOnto exclusionsOf
-    blocks codesOfList isListed isCaseType isSoundKey isLive isStatusSound areFieldsSound isSoundRow
+    blocks codesOfList isListed isCaseType isSoundKey isBalanceZero isLive areFieldsSound isEndSound isSoundRow
     isKnownType error01 error02 error03 error04 error05 error06 error07 error08 isLiveRow error09 isLocalCode error10 error11 error12
     error13 wrongPart error14 error15 error16 isOtherName error17 error18 isWrongKey judged09 judged17 errors
     warning51 isRenamed warning52 warnings isAccepted codes judgement

@@ -1,4 +1,5 @@
--- Document 01, "One-case machine": what a record without an error does to its row, type by type. Assumes nothing.
+-- Document 01, "One-case machine": what a record without an error does to its row, type by type; document 02, item 6: A, D and M set the
+-- cents to 00. Assumes nothing.
 use Prim.Native.Nat.{ℕ}
 use mathlib.Core.List.{List, [], _∷_}
 use mathlib.Core.Bool.{Bool, not, cond}
@@ -31,6 +32,10 @@ exclusionByte rec = setByte (exclusionsOf (exclusions rec)) ∷ []
 unfoldable pub addedLocalCode : List ℕ → List ℕ → List ℕ
 addedLocalCode list rec = cond (isListed (localCode rec) list) (localCode rec) zeroLocalCode
 
+-- A, D and M set the cents to 00
+abbrev pub withoutCents : List ℕ → List ℕ
+withoutCents row = placed 197 198 (zeros 2) row
+
 -- f in columns first to last, unless the condition holds
 abbrev pub placedUnless : Bool → ℕ → ℕ → List ℕ → List ℕ → List ℕ
 placedUnless keep first last f row = cond keep row (placed first last f row)
@@ -49,7 +54,7 @@ freshRow list rec =
     (placed 91 186 (address rec)
     (placed 187 194 (dateIssued rec)
     (placed 195 195 (exclusionByte rec)
-    (spaces 200))))))))))
+    (withoutCents (spaces 200)))))))))))
 
 -- A on a live row: names, arrearage and exclusions replaced; case ID and date replaced unless blank; all five address fields replaced
 -- unless all five are blank; the rest kept
@@ -63,7 +68,7 @@ recertified list rec row =
     (placedUnless (isBlank (address rec)) 91 186 (address rec)
     (placedUnless (isBlank (dateIssued rec)) 187 194 (dateIssued rec)
     (placed 195 195 (exclusionByte rec)
-    row)))))))
+    (withoutCents row))))))))
 
 -- B: both names
 unfoldable pub renamed : List ℕ → List ℕ → List ℕ
@@ -75,7 +80,7 @@ reidentified rec row = placed 16 30 (caseId rec) row
 
 -- D: arrearage zero, deleted
 unfoldable pub deleted : List ℕ → List ℕ
-deleted row = placed 196 196 (D ∷ []) (placed 66 73 (zeros 8) row)
+deleted row = placed 196 196 (D ∷ []) (placed 66 73 (zeros 8) (withoutCents row))
 
 -- L: local code, blank becoming 000
 unfoldable pub relocated : List ℕ → List ℕ → List ℕ
@@ -84,7 +89,7 @@ relocated rec row = placed 13 15 (cond (isBlank (localCode rec)) zeroLocalCode (
 -- M: arrearage; zero also deletes
 unfoldable pub amended : List ℕ → List ℕ → List ℕ
 amended rec row =
-    placedUnless (not (isZero (arrearage rec))) 196 196 (D ∷ []) (placed 66 73 (arrearage rec) row)
+    placedUnless (not (isZero (arrearage rec))) 196 196 (D ∷ []) (placed 66 73 (arrearage rec) (withoutCents row))
 
 -- R: the set; blank empties it
 unfoldable pub excluded : List ℕ → List ℕ → List ℕ

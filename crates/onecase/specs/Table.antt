@@ -72,7 +72,7 @@ ofExclusions letters rec = placed 188 227 (text 40 letters) rec
 
 -- ---- the row and the machine
 
--- a live row with the key and the names of the records: local code 000, arrearage 50, no payment, no exclusion, else blank
+-- a live row with the key and the names of the records: local code 000, arrearage 50, no payment, no exclusion, cents 00, else blank
 unfoldable pub liveRow : List ℕ
 liveRow =
     placed 1 2 ohio
@@ -84,7 +84,8 @@ liveRow =
     (placed 66 73 (digitField 8 50)
     (placed 79 90 (zeros 12)
     (placed 195 195 (0 ∷ [])
-    (spaces 200)))))))))
+    (placed 197 198 (zeros 2)
+    (spaces 200))))))))))
 
 -- the verdict on a record, and the row after it
 unfoldable pub verdict : Option (List ℕ) → List ℕ → Judgement

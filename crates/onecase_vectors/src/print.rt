@@ -121,6 +121,7 @@ fn whole_row(row: &[u8; 200]) {
     text(b"/");
     byte(row[194]);
     field(row, row::STATUS);
+    field(row, row::CENTS);
     field(row, row::FILLER);
 }
 

@@ -73,7 +73,7 @@ pub fn row(text: &[u8]) -> Case {
     row[194] = 0;
     fill(
         &mut row,
-        b"1[OH123456789N000] 31[SMITH] 51[JOHN] 66[00000050] 79[000000000000]",
+        b"1[OH123456789N000] 31[SMITH] 51[JOHN] 66[00000050] 79[000000000000] 197[00]",
     );
     fill(&mut row, text);
     Case { held: true, row }

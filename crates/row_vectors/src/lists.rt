@@ -15,6 +15,8 @@ pub enum Subject {
     Rising(usize),
     Row(usize),
     DeletedRow(usize),
+    CentsRow(usize),
+    OldRow(usize),
 }
 
 // The line of one text, in a field of forty columns with spaces behind it.
@@ -28,6 +30,8 @@ fn vector(name: &[u8], subject: Subject, text: &[u8]) {
         Subject::Rising(n) => print::answer(key::is_rising_by_two(&field, n)),
         Subject::Row(column) => print::answer(row::is_live_row_sound(column, text)),
         Subject::DeletedRow(column) => print::answer(row::is_deleted_row_sound(column, text)),
+        Subject::CentsRow(column) => print::answer(row::is_cents_row_sound(column, text)),
+        Subject::OldRow(column) => print::answer(row::is_old_row_sound(column, text)),
     }
 }
 

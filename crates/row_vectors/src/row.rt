@@ -1,6 +1,7 @@
 // Rows: a live and a deleted row, and changes for each condition of a sound row.
 use crate::lists;
 use crate::lists::Subject;
+use casemaster::row::Form;
 use casemaster::row::is_live;
 use casemaster::row::is_sound_row;
 use vector_text::ebcdic::write;
@@ -33,6 +34,7 @@ fn live() -> [u8; 200] {
     let row = with([0x40u8; 200], 1, b"OH123456789N000");
     let row = with(row, 31, b"SMITH               JOHN");
     let row = with(row, 66, b"00000025     000000000000");
+    let row = with(row, 197, b"00");
     with_byte(row, 195, 0x00)
 }
 
@@ -41,16 +43,39 @@ fn deleted() -> [u8; 200] {
     with(row, 196, b"D")
 }
 
+// A live row of 50 cents.
+fn fifty_cents() -> [u8; 200] {
+    let row = with(live(), 66, b"00000000");
+    with(row, 197, b"50")
+}
+
+// A live row of 25 dollars, without cents.
+fn old() -> [u8; 200] {
+    with(live(), 197, b"    ")
+}
+
 // Whether the live row with a text from a column on is sound.
 pub fn is_live_row_sound(column: usize, text: &[u8]) -> bool {
     let row = with(live(), column, text);
-    is_sound_row(&row)
+    is_sound_row(&row, Form::New)
 }
 
 // Whether the deleted row with a text from a column on is sound.
 pub fn is_deleted_row_sound(column: usize, text: &[u8]) -> bool {
     let row = with(deleted(), column, text);
-    is_sound_row(&row)
+    is_sound_row(&row, Form::New)
+}
+
+// Whether the row of 50 cents with a text from a column on is sound.
+pub fn is_cents_row_sound(column: usize, text: &[u8]) -> bool {
+    let row = with(fifty_cents(), column, text);
+    is_sound_row(&row, Form::New)
+}
+
+// Whether the row without cents, with a text from a column on, is sound as a row without them.
+pub fn is_old_row_sound(column: usize, text: &[u8]) -> bool {
+    let row = with(old(), column, text);
+    is_sound_row(&row, Form::Old)
 }
 
 // The live row with a byte in a column.
@@ -61,7 +86,7 @@ fn byte(column: usize, b: u8) {
     print::text(b" byte ");
     print::byte(b);
     print::text(b" ");
-    print::answer(is_sound_row(&row));
+    print::answer(is_sound_row(&row, Form::New));
 }
 
 fn live_rows() {
@@ -124,8 +149,35 @@ fn names() {
 
 fn filler() {
     lists::each(
+        Subject::Row(199),
+        b"sound row, columns 199-200|  |X | 0|00|-",
+    );
+}
+
+fn cents() {
+    lists::each(
         Subject::Row(197),
-        b"sound row, columns 197-200|    |X   | 0  |  X |   X|   -",
+        b"sound row, cents|00|01|99|  |0 | 0|A0|0A",
+    );
+    lists::each(
+        Subject::DeletedRow(197),
+        b"sound deleted row, cents|00|01|10|  ",
+    );
+    lists::each(Subject::CentsRow(196), b"sound row of 50 cents, status| |D");
+    lists::each(
+        Subject::CentsRow(197),
+        b"sound row of 50 cents, cents|01|10|00",
+    );
+}
+
+fn old_rows() {
+    lists::each(
+        Subject::OldRow(197),
+        b"sound row without cents, columns 197-200|    |00  |X   |  X |   -",
+    );
+    lists::each(
+        Subject::OldRow(66),
+        b"sound row without cents, arrearage|00000001|00000000",
     );
 }
 
@@ -169,6 +221,8 @@ pub fn vectors() {
     digits();
     names();
     filler();
+    cents();
+    old_rows();
     free_columns();
     bytes();
 }

@@ -1,17 +1,17 @@
 -- Laws of digit fields, of any width: the number that digits write, and the digits that a number has. Assumes nothing.
 use mathlib.Core.Path.{_≡_, refl, ap, _∙_}
-use mathlib.Core.Bool.{true}
+use mathlib.Core.Bool.{Bool, true, false}
 use mathlib.Core.List.{List, [], _∷_, _++_, append-assoc}
 use Prim.Native.Nat.{ℕ, zero, suc, _+_, _-_, _*_, _/_, _%_, _^_, _≤_, _<_}
 use native.Mathlib.Nat.{pow-suc, pow-le-pow-right, lt-of-lt-of-le, div-div-eq-div-mul, div-eq-of-lt}
 use native.Mathlib.Numerals.{add-one}
 use native.Mathlib.Omega.{arith}
-use lib.Dec.{leb, lit<, lit≤}
+use lib.Dec.{eqb, leb, lit<, lit≤}
 use lib.ListN.{length, getD, take, drop, set, drop-of-length-le}
 use lib.Seq.{drop-cons, take-suc, length-take-le, set-at}
-use borrow.Author.Tests.{leb-true, le-leb}
-use Rattle.text.specs.Characters.{isDigit}
-use Rattle.text.specs.Fields.{every, allDigits, numberOnto, number, digitField}
+use borrow.Author.Tests.{leb-true, le-leb, eqb-true}
+use Rattle.text.specs.Characters.{isByte, isDigit, zeroDigit}
+use Rattle.text.specs.Fields.{every, isZero, allDigits, numberOnto, number, digitField}
 use Rattle.text.proofs.FieldsLaws.{and-left, and-right}
 
 -- ---- the number that digits write
@@ -50,6 +50,26 @@ onto-bound n k (b ∷ bs) h t =
 pub number-below : (s : List ℕ) → allDigits s ≡ true → number s < 10 ^ length s
 unfolding allDigits number
 number-below s t = let b = onto-bound 0 0 s (lit< tt) t in let z : 0 + length s ≡ length s = omega arith in rw z at b
+
+-- ---- zeros
+
+zeros-onto : (s : List ℕ) → every (isByte zeroDigit) s ≡ true → numberOnto 0 s ≡ 0
+zeros-onto [] t = refl
+zeros-onto (b ∷ bs) t =
+    let e : b ≡ zeroDigit = eqb-true b zeroDigit (and-left (eqb b zeroDigit) (every (isByte zeroDigit) bs) t) in
+    rw e (zeros-onto bs (and-right (eqb b zeroDigit) (every (isByte zeroDigit) bs) t))
+
+pub zero-number : (s : List ℕ) → isZero s ≡ true → number s ≡ 0
+unfolding isZero number
+zero-number s t = zeros-onto s t
+
+-- a number above zero is not written in zeros
+pub number-not-zero : (s : List ℕ) → 1 ≤ number s → isZero s ≡ false
+number-not-zero s h = go (isZero s) refl
+  where
+    go : (b : Bool) → isZero s ≡ b → isZero s ≡ false
+    go true t = absurd (omega (arith, zero-number s t))
+    go false f = f
 
 -- ---- a number as a digit field
 

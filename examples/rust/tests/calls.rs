@@ -17,6 +17,7 @@ fn paper_row() -> Vec<u8> {
         (51, "JOHN"),
         (66, "00000025"),
         (79, "000000000000"),
+        (197, "00"),
     ];
     for (column, text) in fields {
         row[column - 1..column - 1 + text.len()].copy_from_slice(&ebcdic(text));

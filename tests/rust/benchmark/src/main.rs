@@ -1,12 +1,13 @@
 //! Times of the library, the reference and the speed engine, each also as a multiple of one
-//! memcpy of 13,107,000 bytes measured in the same run; converting and reading contacts as a
-//! multiple of one memcpy of the file. `--quick` leaves out what is predicted to take more than
-//! two seconds.
+//! memcpy of 13,107,000 bytes measured in the same run; converting, reading contacts and posting
+//! as multiples of one memcpy of the file or master. `--quick` leaves out what is predicted to take
+//! more than two seconds.
 
 mod clock;
 mod contacts;
 mod convert;
 mod input;
+mod posting;
 
 use std::hint::black_box;
 use std::time::{Duration, Instant, SystemTime, UNIX_EPOCH};
@@ -15,6 +16,7 @@ use clock::seconds;
 use contacts::{updating, Updates};
 use convert::{converting, Conversions};
 use input::{adds, changes, falling, lookup, renames, Input, MOST};
+use posting::{posting, Postings};
 
 const COPIED: usize = 13_107_000;
 const ENGINES: usize = 3;
@@ -101,8 +103,9 @@ fn main() {
     let looked = [bench.finding(), bench.reconciling()];
     let converted = converting(bench.repetitions);
     let updated = updating(bench.repetitions);
+    let posted = posting(bench.repetitions);
     print(&bench, &applied, &doubled, &crowded, &looked);
-    print_files(&converted, &updated);
+    print_files(&converted, &updated, &posted);
 }
 
 fn median(times: &[f64]) -> f64 {
@@ -333,11 +336,13 @@ fn print(bench: &Bench, applied: &[Line], doubled: &[Line], crowded: &[Line], lo
 }
 
 /// The calls over other files than a master and a batch.
-fn print_files(converted: &Conversions, updated: &Updates) {
+fn print_files(converted: &Conversions, updated: &Updates, posted: &Postings) {
     println!();
     converted.print();
     println!();
     updated.print();
+    println!();
+    posted.print();
 }
 
 /// A line with the times of the first engines, as multiples of another line's.

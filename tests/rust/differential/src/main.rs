@@ -3,6 +3,7 @@
 mod contacts;
 mod control;
 mod names;
+mod posting;
 mod run;
 mod tally;
 
@@ -15,6 +16,7 @@ use control::Control;
 use generator::rng::mix;
 use generator::{ApplyCase, Case};
 use names::Names;
+use posting::Posting;
 use run::{account, codes, run, Outcome};
 use tally::Tally;
 
@@ -23,7 +25,7 @@ const SHOWN: u64 = 20;
 /// From so many cases on, each refusal, code and situation must have been seen.
 const ENOUGH: u64 = 5000;
 /// The calls with their refusals in order.
-const CALLS: [(&str, &[usize]); 7] = [
+const CALLS: [(&str, &[usize]); 9] = [
     ("apply", &[1, 2, 3, 4, 5, 6, 20, 21, 7, 8, 9, 10, 11]),
     ("find", &[3, 4, 14, 15]),
     ("reconcile", &[3, 4, 12, 13, 11]),
@@ -31,9 +33,11 @@ const CALLS: [(&str, &[usize]); 7] = [
     ("to_ascii", &[16, 17]),
     ("contacts", &[18, 19]),
     ("codes", &[18, 12, 19]),
+    ("add_cents", &[3, 4]),
+    ("post", &[3, 4, 22, 23, 24]),
 ];
-/// The refusals have the numbers 1 to 21.
-const ANSWERS: usize = 22;
+/// The refusals have the numbers 1 to 24.
+const ANSWERS: usize = 25;
 const CODES: [usize; 20] = [
     1, 2, 3, 4, 5, 6, 7, 8, 9, 10, 11, 12, 13, 14, 15, 16, 17, 18, 51, 52,
 ];
@@ -62,6 +66,7 @@ struct Seen {
     control: Control,
     names: Names,
     contacts: Contacts,
+    posting: Posting,
     records: u64,
     limits: u64,
     failed: u64,
@@ -79,6 +84,7 @@ impl Seen {
             match before {
                 Case::Apply(case) if [6, 20, 21].contains(&number) => self.control.note(case),
                 Case::Update(case) => self.contacts.note_refused(case, number),
+                Case::Post(case) => self.posting.note_refused(case, number),
                 _ => {}
             }
             return;
@@ -97,13 +103,18 @@ impl Seen {
                 }
                 self.note_rows(case, after);
                 self.names.note(case, after);
+                self.posting.note_batch(case, after);
                 self.kept_room += u64::from(after.result[4] < (case.master.len() / 200) as u64);
             }
-            (_, Case::Reconcile(after)) => self.records += after.records,
+            (_, Case::Reconcile(after)) => {
+                self.records += after.records;
+                self.posting.note_reconciled(after);
+            }
             (Case::Update(case), _) => self.contacts.note_update(case),
             (Case::Codes(case), Case::Codes(after)) => {
                 self.contacts.note_codes(case, after.codes);
             }
+            (Case::Post(case), Case::Post(after)) => self.posting.note_file(case, after),
             _ => {}
         }
     }
@@ -184,6 +195,7 @@ impl Seen {
     fn tallies(&self) -> Vec<&Tally> {
         let mut tallies = vec![&self.control.0, &self.names.0];
         tallies.extend(self.contacts.tallies());
+        tallies.extend(self.posting.tallies());
         tallies
     }
 

@@ -1,6 +1,7 @@
 //! Runs one case on both sides and compares the number answered, the results and every byte lent.
 
 mod contacts;
+mod posting;
 
 use generator::text::shown;
 use generator::{ApplyCase, Case, ConvertCase, Direction, FindCase, ReconcileCase};
@@ -62,6 +63,8 @@ pub fn run(case: Case) -> Outcome {
         Case::Convert(case) => run_convert(case),
         Case::Update(case) => contacts::run_update(case),
         Case::Codes(case) => contacts::run_codes(case),
+        Case::Cents(case) => posting::run_cents(case),
+        Case::Post(case) => posting::run_post(case),
     }
 }
 
@@ -336,6 +339,10 @@ pub fn account(before: &Case, outcome: &Outcome) {
         }
         (Case::Update(case), _) => contacts::account_update(case),
         (Case::Codes(case), _) => contacts::account_codes(case),
+        (Case::Cents(case), _) => posting::account_cents(case),
+        (Case::Post(case), Case::Post(after)) => {
+            posting::account_post(case, after, outcome.number);
+        }
         _ => {}
     }
     println!("reference answers {}", outcome.number);

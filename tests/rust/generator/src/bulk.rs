@@ -4,6 +4,7 @@ use crate::records::{Record, RECORD};
 use crate::rng::Rng;
 use crate::rows::ROW;
 use crate::text::{blank, byte, digits, put, put_text, SPACE};
+use crate::world::Key;
 
 /// The SSN and case type of a key number (below some 160 million).
 fn numbered(number: usize) -> (Vec<u8>, u8) {
@@ -13,6 +14,15 @@ fn numbered(number: usize) -> (Vec<u8>, u8) {
     let area = place / (9999 * 99) + 100;
     let ssn = digits((area * 1_000_000 + group * 10_000 + serial) as u64, 9);
     (ssn, if number.is_multiple_of(2) { 0xC1 } else { 0xD5 })
+}
+
+/// The key of a number.
+pub fn key(state: [u8; 2], number: usize) -> Key {
+    let (ssn, case_type) = numbered(number);
+    let mut key = [case_type; 12];
+    put(&mut key, 1, &state);
+    put(&mut key, 3, &ssn);
+    key
 }
 
 /// `count` live rows with the key numbers 0, `step`, 2 × `step` and on.
@@ -30,6 +40,7 @@ pub fn rows(state: [u8; 2], count: usize, step: usize) -> Vec<u8> {
     put_text(&mut row, 176, "OH43004");
     put_text(&mut row, 187, "20070131");
     row[194] = 0;
+    put_text(&mut row, 197, "50");
     for at in 0..count {
         let (ssn, case_type) = numbered(at * step);
         put(&mut row, 3, &ssn);

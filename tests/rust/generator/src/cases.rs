@@ -6,6 +6,7 @@ use crate::bulk;
 use crate::contacts::{self, CodesCase, UpdateCase};
 use crate::crowd;
 use crate::files::{convert_case, ConvertCase};
+use crate::posting::{self, CentsCase, PostCase};
 use crate::records::{control, detail, totals, Record, RECORD};
 use crate::rng::Rng;
 use crate::rows::{rows, ROW};
@@ -50,6 +51,8 @@ pub enum Case {
     Convert(ConvertCase),
     Update(UpdateCase),
     Codes(CodesCase),
+    Cents(CentsCase),
+    Post(PostCase),
 }
 
 /// The case of a seed.
@@ -61,15 +64,20 @@ pub fn case(seed: u64) -> Case {
     if rng.once_in(4000) {
         return Case::Update(contacts::giant(&mut rng));
     }
+    if rng.once_in(4000) {
+        return Case::Post(posting::giant(&mut rng));
+    }
     if rng.once_in(200) {
         return wild(&mut rng);
     }
-    match rng.below(12) {
+    match rng.below(16) {
         0 => Case::Find(find_case(&mut rng)),
         1 => Case::Reconcile(reconcile_case(&mut rng)),
         2 => Case::Convert(convert_case(&mut rng)),
         3 => Case::Update(contacts::update_case(&mut rng)),
         4 => Case::Codes(contacts::codes_case(&mut rng)),
+        5 => Case::Cents(posting::cents_case(&mut rng)),
+        6 | 7 => Case::Post(posting::post_case(&mut rng)),
         _ => Case::Apply(apply_case(&mut rng)),
     }
 }
@@ -253,7 +261,7 @@ fn damage_list(rng: &mut Rng, list: &mut Vec<u8>) {
     }
 }
 
-fn damage_length(rng: &mut Rng, master: &mut Vec<u8>, rows: &mut usize) {
+pub fn damage_length(rng: &mut Rng, master: &mut Vec<u8>, rows: &mut usize) {
     match rng.below(6) {
         0 => master.extend(rng.bytes(1)),
         1 => {
@@ -280,7 +288,7 @@ fn damage_length(rng: &mut Rng, master: &mut Vec<u8>, rows: &mut usize) {
     }
 }
 
-fn damage_rows(rng: &mut Rng, master: &mut [u8], rows: usize) {
+pub fn damage_rows(rng: &mut Rng, master: &mut [u8], rows: usize) {
     let rows = rows.min(master.len() / ROW);
     if rows == 0 {
         return;
@@ -291,7 +299,7 @@ fn damage_rows(rng: &mut Rng, master: &mut [u8], rows: usize) {
         _ => rng.below(rows),
     };
     let row = &mut master[at * ROW..(at + 1) * ROW];
-    match rng.below(14) {
+    match rng.below(18) {
         0 => put_text(row, 1, rng.pick(&["ZZ", "  ", "oh", "AA"])),
         1 => put(row, 3, &unsound_key(rng, [0xD6, 0xC8])[2..11]),
         2 => row[11] = rng.pick(&EDGES),
@@ -307,8 +315,14 @@ fn damage_rows(rng: &mut Rng, master: &mut [u8], rows: usize) {
         8 => row[195] = rng.pick(&[0x40, 0xC4, 0x00, 0xC5]),
         9 => put(row, 66, &[0xF0; 8]),
         10 => put(row, 66, &digits(1, 8)),
-        11 => row[196 + rng.below(4)] = rng.pick(&EDGES),
-        12 if at > 0 => {
+        11 | 16 | 17 => row[196 + rng.below(4)] = rng.pick(&EDGES),
+        12 => put_text(row, 197, rng.pick(&["00", "01", "10", "  ", "0 ", " 0"])),
+        13 => {
+            // Nothing owed, and still live.
+            put(row, 66, &[0xF0; 8]);
+            put(row, 196, &[0x40, 0xF0, 0xF0]);
+        }
+        14 if at > 0 => {
             // The same key twice, or two rows turned round.
             let (before, row) = master.split_at_mut(at * ROW);
             let before = &mut before[(at - 1) * ROW..];
@@ -362,8 +376,8 @@ fn damage_control(rng: &mut Rng, batch: &mut [u8]) {
             put_text(record, 1, rng.pick(&STATES));
             0
         }
-        1..=5 => 1,
-        6 | 7 => 2,
+        1..=4 => 1,
+        5..=7 => 2,
         _ => 3,
     };
     for part in &parts[..count] {
@@ -541,7 +555,7 @@ fn wild(rng: &mut Rng) -> Case {
         1 => rng.below(4),
         _ => rng.number() as usize,
     };
-    match rng.below(5) {
+    match rng.below(7) {
         0 => Case::Find(FindCase {
             master: any(rng),
             rows,
@@ -558,6 +572,11 @@ fn wild(rng: &mut Rng) -> Case {
         }),
         2 => Case::Update(contacts::wild_update(rng)),
         3 => Case::Codes(contacts::wild_codes(rng)),
+        4 => Case::Cents(CentsCase {
+            master: any(rng),
+            rows,
+        }),
+        5 => Case::Post(posting::wild(rng)),
         _ => Case::Apply(ApplyCase {
             master: any(rng),
             rows,

@@ -71,6 +71,17 @@ extern "C" {
         out_length: usize,
         codes: *mut u64,
     ) -> u64;
+    fn fantanolive_add_cents(master: *mut u8, master_length: usize, rows: usize) -> u64;
+    fn fantanolive_post(
+        master: *mut u8,
+        master_length: usize,
+        rows: usize,
+        file: *const u8,
+        file_length: usize,
+        lines: *mut u16,
+        lines_length: usize,
+        listed: *mut u64,
+    ) -> u64;
 }
 
 /// Answers 0 when carried out, else the refusal's number.
@@ -216,6 +227,35 @@ pub fn contacts_codes(
             out.as_mut_ptr(),
             out.len(),
             codes,
+        )
+    }
+}
+
+/// Answers 0 when carried out, else the refusal's number.
+pub fn add_cents(master: &mut [u8], rows: usize) -> u64 {
+    // SAFETY: each pointer comes with the length of its slice.
+    unsafe { fantanolive_add_cents(master.as_mut_ptr(), master.len(), rows) }
+}
+
+/// Answers 0 when carried out, else the refusal's number.
+pub fn post(
+    master: &mut [u8],
+    rows: usize,
+    file: &[u8],
+    lines: &mut [u16],
+    listed: &mut u64,
+) -> u64 {
+    // SAFETY: each pointer comes with the length of its slice.
+    unsafe {
+        fantanolive_post(
+            master.as_mut_ptr(),
+            master.len(),
+            rows,
+            file.as_ptr(),
+            file.len(),
+            lines.as_mut_ptr(),
+            lines.len(),
+            listed,
         )
     }
 }

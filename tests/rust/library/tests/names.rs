@@ -44,7 +44,7 @@ fn with(mut record: [u8; RECORD], column: usize, text: &str) -> [u8; RECORD] {
     record
 }
 
-/// The live row of the key: SMITH JOHN, 50 dollars.
+/// The live row of the key: SMITH JOHN, 50 dollars and no cents.
 fn row() -> [u8; ROW] {
     let mut row = [SPACE; ROW];
     put(&mut row, 1, "OH123456789N000");
@@ -52,6 +52,7 @@ fn row() -> [u8; ROW] {
     put(&mut row, 51, "JOHN");
     put(&mut row, 66, "00000050");
     put(&mut row, 79, "000000000000");
+    put(&mut row, 197, "00");
     row[194] = 0;
     row
 }

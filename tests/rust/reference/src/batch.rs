@@ -187,7 +187,7 @@ pub fn apply(
 }
 
 /// The rows by key.
-fn cases_of(master: &[u8], rows: usize) -> BTreeMap<Key, Row> {
+pub fn cases_of(master: &[u8], rows: usize) -> BTreeMap<Key, Row> {
     let mut cases = BTreeMap::new();
     for bytes in rows_of(master, rows) {
         let mut row = [SPACE; ROW];
@@ -223,7 +223,7 @@ fn run(cases: &mut BTreeMap<Key, Row>, details: &[&[u8]], around: &Surroundings)
 }
 
 /// The rows in key order; bytes past the last row are kept.
-fn write_master(master: &mut [u8], cases: &BTreeMap<Key, Row>) {
+pub fn write_master(master: &mut [u8], cases: &BTreeMap<Key, Row>) {
     for (place, row) in master.chunks_exact_mut(ROW).zip(cases.values()) {
         place.copy_from_slice(row);
     }

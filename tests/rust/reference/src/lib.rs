@@ -1,5 +1,5 @@
-//! Document 01 and items 1, 3, 4 and 5 of document 02 written out rule by rule, in their order and words;
-//! simple before fast.
+//! Document 01 and items 1 and 3 to 6 of document 02 written out rule by rule, in their order and
+//! words; simple before fast.
 //! Nothing here panics: every length is looked at by a refusal before it is relied on.
 
 pub mod batch;
@@ -8,12 +8,14 @@ pub mod contacts;
 pub mod errors;
 pub mod lookup;
 pub mod machine;
+pub mod posting;
 pub mod row;
 pub mod text;
 
 pub use batch::{apply, Counts};
 pub use code_page::{to_ascii, to_ebcdic};
 pub use lookup::{find, reconcile};
+pub use posting::{add_cents, post};
 
 #[cfg(test)]
 mod tests;

@@ -1,5 +1,6 @@
 //! The one-case machine ("One-case machine" in document 01). By item 3 of document 02 it also reads
-//! the names that the key's own B records give; they are the same at each step.
+//! the names that the key's own B records give; they are the same at each step. By item 6 a row
+//! has cents, which A, D and M set to 00.
 
 use crate::errors::*;
 use crate::row::{is_live, Row, DELETED, ROW};
@@ -143,6 +144,7 @@ fn changed(row: Option<Row>, record: &[u8], around: &Surroundings) -> Row {
         }
     } else if is_type(record, b"D") {
         columns_mut(&mut row, 66, 73).fill(ebcdic_byte(b'0'));
+        clear_cents(&mut row);
         row[195] = DELETED;
     } else if is_type(record, b"S") {
         // "payment year and amount replaced; arrearage kept"
@@ -209,8 +211,15 @@ fn put_names(row: &mut Row, record: &[u8]) {
     copy(row, (51, 65), record, (50, 64));
 }
 
+/// The arrearage of A and M, in whole dollars.
 fn put_arrearage(row: &mut Row, record: &[u8]) {
     copy(row, (66, 73), record, (65, 72));
+    clear_cents(row);
+}
+
+/// "A, D and M set the cents to 00"
+fn clear_cents(row: &mut Row) {
+    columns_mut(row, 197, 198).fill(ebcdic_byte(b'0'));
 }
 
 fn put_case_id(row: &mut Row, record: &[u8]) {

@@ -3,6 +3,7 @@
 mod contacts;
 mod control;
 mod names;
+mod posting;
 
 use crate::batch::{apply, Counts, RECORD};
 use crate::errors::{Names, Surroundings};

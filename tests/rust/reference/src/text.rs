@@ -62,7 +62,7 @@ pub fn column(record: &[u8], place: usize) -> u8 {
     record[place - 1]
 }
 
-/// The number that a field of digits stands for; no field has more than eleven.
+/// The number that a field of digits stands for; no field has more than fifteen.
 pub fn number(field: &[u8]) -> Option<u64> {
     if !all_digits(field) {
         return None;

@@ -155,11 +155,13 @@ fn change(row: &mut Row, record: &Record, kind: u8, set: u8) {
         0xC3 => copy::<15>(row, 15, record, 14),
         0xC4 => {
             row[65..73].fill(ZERO);
+            row[196..198].fill(ZERO);
             row[195] = 0xC4;
         }
         0xD3 => put_local(row, record, !blank::<3>(record, 2)),
         0xD4 => {
             copy::<8>(row, 65, record, 64);
+            row[196..198].fill(ZERO);
             if *at::<8>(record, 64) == [ZERO; 8] {
                 row[195] = 0xC4;
             }
@@ -234,6 +236,7 @@ fn recertify(row: &mut Row, record: &Record, set: u8, listed: bool) {
         copy::<15>(row, 15, record, 14);
     }
     copy::<43>(row, 30, record, 29);
+    row[196..198].fill(ZERO);
     if !blank::<96>(record, 83) {
         copy::<96>(row, 90, record, 83);
     }
@@ -255,5 +258,7 @@ pub fn fresh(row: &mut Row, record: &Record, context: &Context) {
     row[78..90].fill(ZERO);
     copy::<104>(row, 90, record, 83);
     row[194] = exclusions(at(record, 187)).unwrap_or(0);
-    row[195..].fill(SPACE);
+    row[195] = SPACE;
+    row[196..198].fill(ZERO);
+    row[198..].fill(SPACE);
 }

@@ -8,25 +8,25 @@ use lib.ListN.{drop, take, length-take, length-drop}
 use borrow.Author.Tests.{not-true, not-false}
 use denote.Ref.{now}
 use Rattle.casemaster.specs.Master.{rowsOf}
-use Rattle.casemaster.specs.Row.{isSoundRow}
+use Rattle.casemaster.specs.Forms.{isSoundIn}
 use Rattle.text.proofs.BlocksLaws.{part-width, every-block-step, every-block-end}
 use Rattle.casemaster.proofs.master.all_sound.Statement.{statement}
 use Rattle.casemaster.proofs.master.all_sound.Tie as tie
 use Rattle.text.specs.Fields.{every}
 
 abbrev Inv-loop : tie.InvT-loop
-Inv-loop m n i₀ i =
+Inv-loop m n form i₀ i =
     (1 ≤ i)
-    × (isSoundRow (take 200 (drop ((i - 1) * 200) m)) ≡ true)
-    × (every isSoundRow (drop i (rowsOf n m)) ≡ every isSoundRow (rowsOf n m))
+    × (isSoundIn form (take 200 (drop ((i - 1) * 200) m)) ≡ true)
+    × (every (isSoundIn form) (drop i (rowsOf n m)) ≡ every (isSoundIn form) (rowsOf n m))
 
 abbrev μ-loop : tie.MeasureT-loop
-μ-loop m n i₀ i = n - i
+μ-loop m n form i₀ i = n - i
 
 returns : tie.Need-returns Inv-loop μ-loop
 returns c =
     let a = c .before .before .args in
-    sym (every-block-end 200 isSoundRow (a .n) (now (a .m)) 0 (omega arith))
+    sym (every-block-end 200 (isSoundIn (a .form)) (a .n) (now (a .m)) 0 (omega arith))
 
 sub-is-sound-row : tie.Need-sub-is-sound-row Inv-loop μ-loop
 sub-is-sound-row c = omega arith
@@ -44,7 +44,7 @@ returns-2 : tie.Need-returns-2 Inv-loop μ-loop
 returns-2 c =
     let a = c .before .before .before .before .before .args in
     let r = c .before .is-sound-row in
-    sym (every-block-step 200 isSoundRow (a .n) (now (a .m)) 0 (r .result) (omega arith) (r .ensures)
+    sym (every-block-step 200 (isSoundIn (a .form)) (a .n) (now (a .m)) 0 (r .result) (omega arith) (r .ensures)
     ∙ rw (not-true (r .result) (c .if2 .taken)))
 
 loop-holds : tie.Need-loop-holds Inv-loop μ-loop
@@ -54,7 +54,7 @@ loop-holds c =
     let t = not-false (r .result) (c .if2 .left) in (
       omega arith,
       sym (r .ensures) ∙ t,
-      sym (every-block-step 200 isSoundRow (a .n) (now (a .m)) 0 (r .result) (omega arith) (r .ensures) ∙ rw t),
+      sym (every-block-step 200 (isSoundIn (a .form)) (a .n) (now (a .m)) 0 (r .result) (omega arith) (r .ensures) ∙ rw t),
     )
 
 sub-before : tie.Need-sub-before Inv-loop μ-loop
@@ -98,7 +98,7 @@ returns-3 c =
     let l = c .before .before .before .before .before .loop in
     let a = c .before .before .before .before .before .before .before .before .before .before .before .args in
     let r = c .before .is-sound-row-after in
-    sym (every-block-step 200 isSoundRow (a .n) (now (a .m)) (l .i) (r .result) (omega arith) (r .ensures)
+    sym (every-block-step 200 (isSoundIn (a .form)) (a .n) (now (a .m)) (l .i) (r .result) (omega arith) (r .ensures)
     ∙ rw (not-true (r .result) (c .if3 .taken)))
     ∙ l .inv .2
 
@@ -117,14 +117,14 @@ loop-again c =
     let w : l .i + 1 - 1 ≡ l .i = omega arith in (
       omega arith,
       rw (w, ← part-width 200 (now (a .m)) (l .i * 200)) (sym (r .ensures) ∙ t),
-      sym (every-block-step 200 isSoundRow (a .n) (now (a .m)) (l .i) (r .result) (omega arith) (r .ensures) ∙ rw t) ∙ l .inv .2,
+      sym (every-block-step 200 (isSoundIn (a .form)) (a .n) (now (a .m)) (l .i) (r .result) (omega arith) (r .ensures) ∙ rw t) ∙ l .inv .2,
     )
 
 returns-4 : tie.Need-returns-4 Inv-loop μ-loop
 returns-4 c =
     let l = c .before .loop in
     let a = c .before .before .before .before .before .before .before .args in
-    sym (every-block-end 200 isSoundRow (a .n) (now (a .m)) (l .i) (omega arith)) ∙ l .inv .2
+    sym (every-block-end 200 (isSoundIn (a .form)) (a .n) (now (a .m)) (l .i) (omega arith)) ∙ l .inv .2
 
 pub all-sound-spec : {M : Type 1} → statement M
 all-sound-spec =

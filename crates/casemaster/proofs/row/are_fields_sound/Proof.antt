@@ -34,32 +34,20 @@ field-requires-5 c κs = search needs
 has-letter-requires : tie.Need-has-letter-requires
 has-letter-requires c κs = search needs
 
-is-status-sound-requires : tie.Need-is-status-sound-requires
-is-status-sound-requires c κs = search needs
-
-field-requires-6 : tie.Need-field-requires-6
-field-requires-6 c κs = search needs
-
-is-blank-requires : tie.Need-is-blank-requires
-is-blank-requires c κs = search needs
-
 returns : tie.Need-returns
 unfolding areFieldsSound
 returns c =
     rw (
-      c .is-blank .ensures,
-      c .before .field6 .ensures,
-      c .before .before .is-status-sound .ensures,
-      c .before .before .before .has-letter .ensures,
-      c .before .before .before .before .field5 .ensures,
-      c .before .before .before .before .before .is-name .ensures,
-      c .before .before .before .before .before .before .field4 .ensures,
-      c .before .before .before .before .before .before .before .all-digits3 .ensures,
-      c .before .before .before .before .before .before .before .before .field3 .ensures,
-      c .before .before .before .before .before .before .before .before .before .all-digits2 .ensures,
-      c .before .before .before .before .before .before .before .before .before .before .field2 .ensures,
-      c .before .before .before .before .before .before .before .before .before .before .before .all-digits .ensures,
-      c .before .before .before .before .before .before .before .before .before .before .before .before .field .ensures,
+      c .has-letter .ensures,
+      c .before .field5 .ensures,
+      c .before .before .is-name .ensures,
+      c .before .before .before .field4 .ensures,
+      c .before .before .before .before .all-digits3 .ensures,
+      c .before .before .before .before .before .field3 .ensures,
+      c .before .before .before .before .before .before .all-digits2 .ensures,
+      c .before .before .before .before .before .before .before .field2 .ensures,
+      c .before .before .before .before .before .before .before .before .all-digits .ensures,
+      c .before .before .before .before .before .before .before .before .before .field .ensures,
     )
 
 pub are-fields-sound-spec : {M : Type 1} → statement M
@@ -76,7 +64,4 @@ are-fields-sound-spec =
     is-name-requires
     field-requires-5
     has-letter-requires
-    is-status-sound-requires
-    field-requires-6
-    is-blank-requires
     returns)

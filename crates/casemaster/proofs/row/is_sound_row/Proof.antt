@@ -1,6 +1,6 @@
--- `row::is_sound_row` meets its contract: the key's test and the other fields', by what the two calls ensure. Assumes nothing.
+-- `row::is_sound_row` meets its contract: the key's test and the others', by what the calls ensure. Assumes nothing.
 use borrow.Author.Needs.{needs}
-use Rattle.casemaster.specs.Row.{isSoundRow}
+use Rattle.casemaster.specs.Forms.{isSoundIn}
 use Rattle.casemaster.proofs.row.is_sound_row.Statement.{statement}
 use Rattle.casemaster.proofs.row.is_sound_row.Tie as tie
 
@@ -13,10 +13,25 @@ is-sound-key-requires c κs = search needs
 are-fields-sound-requires : tie.Need-are-fields-sound-requires
 are-fields-sound-requires c κs = search needs
 
+is-end-sound-in-requires : tie.Need-is-end-sound-in-requires
+is-end-sound-in-requires c κs = search needs
+
 returns : tie.Need-returns
-unfolding isSoundRow
-returns c = rw (c .are-fields-sound .ensures, c .before .is-sound-key .ensures, c .before .before .field .ensures)
+unfolding isSoundIn
+returns c =
+    rw (
+      c .is-end-sound-in .ensures,
+      c .before .are-fields-sound .ensures,
+      c .before .before .is-sound-key .ensures,
+      c .before .before .before .field .ensures,
+    )
 
 pub is-sound-row-spec : {M : Type 1} → statement M
 is-sound-row-spec =
-    tie.close (tie.spec field-requires is-sound-key-requires are-fields-sound-requires returns)
+    tie.close
+    (tie.spec
+    field-requires
+    is-sound-key-requires
+    are-fields-sound-requires
+    is-end-sound-in-requires
+    returns)

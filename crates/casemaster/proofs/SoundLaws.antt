@@ -1,5 +1,5 @@
 -- A row's soundness by its columns: it reads those of the key, local code, first four characters of the last name, arrearage, payment,
--- status and filler, and rows that agree on these are equally sound; so is what is written into a row, read field by field.
+-- status, cents and filler, and rows that agree on these are equally sound; so is what is written into a row, read field by field.
 -- Assumes nothing.
 use Prim.Native.Nat.{ℕ, _+_, _≤_}
 use mathlib.Core.Path.{_≡_, sym, ap, _∙_}
@@ -7,14 +7,14 @@ use mathlib.Core.List.{List}
 use mathlib.Core.Bool.{Bool, true, cond, _&&_}
 use lib.Dec.{eqb, lit≤}
 use lib.ListN.{length, getD}
-use Rattle.text.specs.Characters.{space, D}
+use Rattle.text.specs.Characters.{isDigit, space, D}
 use Rattle.text.specs.Fields.{columns, isBlank, isZero, allDigits}
 use Rattle.layout.specs.Name.{isName, hasLetter}
 use Rattle.layout.specs.Key.{isSoundKey}
-use Rattle.casemaster.specs.Row.{isLive, isDeleted, isStatusSound, areFieldsSound, isSoundRow}
+use Rattle.casemaster.specs.Row.{isBalanceZero, isLive, isDeleted, isDeletedAt, areFieldsSound, isEndSound, isSoundRow}
 use Rattle.text.proofs.FieldsLaws.{and-left, and-right}
 use Rattle.text.proofs.BoolLaws.{and-both}
-use Rattle.onecase.proofs.DigitsLaws.{digits-append}
+use Rattle.layout.proofs.LocalsLaws.{every-append}
 use Rattle.text.proofs.ColumnsLaws.{columns-split, Put, written, AllFit, isClear, read, columns-written, isFree, columns-free}
 
 -- ---- the columns that soundness reads
@@ -28,8 +28,10 @@ pub record SoundAt (at : ℕ → ℕ → List ℕ) : Type 0 where
   pub arrearage-digits : allDigits (at 66 73) ≡ true
   pub year-digits : allDigits (at 79 82) ≡ true
   pub payment-digits : allDigits (at 83 90) ≡ true
-  pub status-right : cond (isZero (at 66 73)) (eqb (getD (at 196 196) 0 0) D) (eqb (getD (at 196 196) 0 0) space) ≡ true
-  pub filler-blank : isBlank (at 197 200) ≡ true
+  pub status-right :
+      cond (isZero (at 66 73) && isZero (at 197 198)) (eqb (getD (at 196 196) 0 0) D) (eqb (getD (at 196 196) 0 0) space) ≡ true
+  pub cents-digits : allDigits (at 197 198) ≡ true
+  pub filler-blank : isBlank (at 199 200) ≡ true
 
 -- the columns of a row
 abbrev pub columnsOf : List ℕ → ℕ → ℕ → List ℕ
@@ -37,38 +39,42 @@ columnsOf row first last = columns first last row
 
 -- 79–90 as 79–82 and 83–90
 two-digits : (row : List ℕ) → allDigits (columns 79 90 row) ≡ (allDigits (columns 79 82 row) && allDigits (columns 83 90 row))
+unfolding allDigits
 two-digits row =
-    ap allDigits (columns-split 79 82 90 row (lit≤ tt) (lit≤ tt) (lit≤ tt)) ∙ digits-append (columns 79 82 row) (columns 83 90 row)
+    ap allDigits (columns-split 79 82 90 row (lit≤ tt) (lit≤ tt) (lit≤ tt)) ∙ every-append isDigit (columns 79 82 row) (columns 83 90 row)
 
 module _ (row : List ℕ) where
   pub sound-columns : isSoundRow row ≡ true → SoundAt (columnsOf row)
-  unfolding isSoundRow areFieldsSound isStatusSound isDeleted isLive
+  unfolding isSoundRow areFieldsSound isEndSound isBalanceZero isDeleted isLive
   sound-columns t0 =
-      let t1 = and-right (isSoundKey (columns 1 12 row)) _ t0 in
+      let t = and-right (isSoundKey (columns 1 12 row)) (areFieldsSound row && isEndSound row) t0 in
+      let t1 = and-left (areFieldsSound row) (isEndSound row) t in
+      let e1 = and-right (areFieldsSound row) (isEndSound row) t in
+      let e2 = and-right (isDeletedAt (isBalanceZero row) row) (allDigits (columns 197 198 row) && isBlank (columns 199 200 row)) e1 in
       let t2 = and-right (allDigits (columns 13 15 row)) _ t1 in
       let t3 = and-right (allDigits (columns 66 73 row)) _ t2 in
       let t4 = and-right (allDigits (columns 79 90 row)) _ t3 in
-      let t5 = and-right (isName (columns 31 34 row)) _ t4 in
-      let t6 = and-right (hasLetter (columns 31 34 row)) _ t5 in
       let p = sym (two-digits row) ∙ and-left (allDigits (columns 79 90 row)) _ t3 in
       record {
-        key-sound = and-left (isSoundKey (columns 1 12 row)) _ t0;
+        key-sound = and-left (isSoundKey (columns 1 12 row)) (areFieldsSound row && isEndSound row) t0;
         local-digits = and-left (allDigits (columns 13 15 row)) _ t1;
         name-right = and-left (isName (columns 31 34 row)) _ t4;
-        name-letter = and-left (hasLetter (columns 31 34 row)) _ t5;
+        name-letter = and-right (isName (columns 31 34 row)) (hasLetter (columns 31 34 row)) t4;
         arrearage-digits = and-left (allDigits (columns 66 73 row)) _ t2;
         year-digits = and-left (allDigits (columns 79 82 row)) (allDigits (columns 83 90 row)) p;
         payment-digits = and-right (allDigits (columns 79 82 row)) (allDigits (columns 83 90 row)) p;
-        status-right = and-left (isStatusSound row) (isBlank (columns 197 200 row)) t6;
-        filler-blank = and-right (isStatusSound row) (isBlank (columns 197 200 row)) t6;
+        status-right =
+            and-left (isDeletedAt (isBalanceZero row) row) (allDigits (columns 197 198 row) && isBlank (columns 199 200 row)) e1;
+        cents-digits = and-left (allDigits (columns 197 198 row)) (isBlank (columns 199 200 row)) e2;
+        filler-blank = and-right (allDigits (columns 197 198 row)) (isBlank (columns 199 200 row)) e2;
       }
 
   pub columns-sound : SoundAt (columnsOf row) → isSoundRow row ≡ true
-  unfolding isSoundRow areFieldsSound isStatusSound isDeleted isLive
+  unfolding isSoundRow areFieldsSound isEndSound isBalanceZero isDeleted isLive
   columns-sound s =
       let p : allDigits (columns 79 90 row) ≡ true =
       two-digits row ∙ and-both (allDigits (columns 79 82 row)) (allDigits (columns 83 90 row)) (s .year-digits) (s .payment-digits) in
-      rw (s .key-sound, s .local-digits, s .arrearage-digits, p, s .name-right, s .name-letter, s .status-right, s .filler-blank)
+      rw (s .key-sound, s .local-digits, s .arrearage-digits, p, s .name-right, s .name-letter, s .status-right, s .cents-digits, s .filler-blank)
 
 -- ---- rows that agree on them
 
@@ -80,7 +86,8 @@ pub record SameAt (f g : ℕ → ℕ → List ℕ) : Type 0 where
   pub same-year : f 79 82 ≡ g 79 82
   pub same-payment : f 83 90 ≡ g 83 90
   pub same-status : f 196 196 ≡ g 196 196
-  pub same-filler : f 197 200 ≡ g 197 200
+  pub same-cents : f 197 198 ≡ g 197 198
+  pub same-filler : f 199 200 ≡ g 199 200
 
 pub same-sound : (f g : ℕ → ℕ → List ℕ) → SameAt f g → SoundAt g → SoundAt f
 same-sound f g e s =
@@ -92,13 +99,14 @@ same-sound f g e s =
       arrearage-digits = rw (e .same-arrearage) (s .arrearage-digits);
       year-digits = rw (e .same-year) (s .year-digits);
       payment-digits = rw (e .same-payment) (s .payment-digits);
-      status-right = rw (e .same-arrearage, e .same-status) (s .status-right);
+      status-right = rw (e .same-arrearage, e .same-status, e .same-cents) (s .status-right);
+      cents-digits = rw (e .same-cents) (s .cents-digits);
       filler-blank = rw (e .same-filler) (s .filler-blank);
     }
 
 -- a test of the places of those columns
 abbrev pub atEach : (ℕ → ℕ → Bool) → Bool
-atEach t = t 1 12 && (t 13 15 && (t 31 34 && (t 66 73 && (t 79 82 && (t 83 90 && (t 196 196 && t 197 200))))))
+atEach t = t 1 12 && (t 13 15 && (t 31 34 && (t 66 73 && (t 79 82 && (t 83 90 && (t 196 196 && (t 197 198 && t 199 200)))))))
 
 -- columns that agree where a test passes agree on them if it passes at each
 same-by : (f g : ℕ → ℕ → List ℕ) (t : ℕ → ℕ → Bool) → ((a z : ℕ) → 1 ≤ a → a ≤ z + 1 → t a z ≡ true → f a z ≡ g a z)
@@ -110,6 +118,7 @@ same-by f g t h c1 =
     let c5 = and-right (t 66 73) _ c4 in
     let c6 = and-right (t 79 82) _ c5 in
     let c7 = and-right (t 83 90) _ c6 in
+    let c8 = and-right (t 196 196) _ c7 in
     record {
       same-key = h 1 12 (lit≤ tt) (lit≤ tt) (and-left (t 1 12) _ c1);
       same-local = h 13 15 (lit≤ tt) (lit≤ tt) (and-left (t 13 15) _ c2);
@@ -118,12 +127,13 @@ same-by f g t h c1 =
       same-year = h 79 82 (lit≤ tt) (lit≤ tt) (and-left (t 79 82) _ c5);
       same-payment = h 83 90 (lit≤ tt) (lit≤ tt) (and-left (t 83 90) _ c6);
       same-status = h 196 196 (lit≤ tt) (lit≤ tt) (and-left (t 196 196) _ c7);
-      same-filler = h 197 200 (lit≤ tt) (lit≤ tt) (and-right (t 196 196) _ c7);
+      same-cents = h 197 198 (lit≤ tt) (lit≤ tt) (and-left (t 197 198) _ c8);
+      same-filler = h 199 200 (lit≤ tt) (lit≤ tt) (and-right (t 197 198) _ c8);
     }
 
 -- ---- what is written into a row
 
--- each field has all or none of the columns of each of the eight
+-- each field has all or none of the columns of each of the nine
 abbrev pub areClear : List Put → Bool
 areClear ps = atEach (λ a z. isClear a z ps)
 

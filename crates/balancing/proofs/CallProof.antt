@@ -1,0 +1,141 @@
+-- Every posting that is carried out balances, under each key and over the whole master, keeps keys, order and soundness, and does under each
+-- key what the one-key machine does; so the order of lines of different keys has no say. Assumes nothing.
+use Prim.Native.Nat.{ℕ, suc, _+_, _<_, suc-le-suc}
+use native.Mathlib.Nat.{zero-lt-suc}
+use mathlib.Core.Path.{_≡_, refl, sym, ap, _∙_}
+use mathlib.Core.List.{List, [], _∷_, _++_}
+use mathlib.Core.Bool.{Bool, true, false, cond}
+use mathlib.Core.Option.{some}
+use native.Mathlib.Omega.{arith}
+use borrow.Author.Tests.{eq-eqb, eqb-true, eqb-false}
+use lib.Dec.{eqb}
+use lib.ListN.{length, drop, getD, length-map}
+use Rattle.text.specs.Blocks.{joined, over}
+use Rattle.text.specs.Fields.{sameBytes}
+use Rattle.text.specs.ByteOrder.{orderOf, isLess, isEqual, rising}
+use Rattle.text.proofs.BlocksLaws.{length-blocks}
+use Rattle.text.proofs.ByteOrderLaws.{same-order, less-sides}
+use Rattle.text.proofs.SameLaws.{same-eq}
+use Rattle.text.proofs.WidthLaws.{blocks-joined}
+use Rattle.casemaster.specs.Master.{keysOf}
+use Rattle.casemaster.specs.Refusals.{masterRefusal}
+use Rattle.casemaster.specs.Row.{rowKey, balance}
+use Rattle.casemaster.specs.Rows.{rowWith}
+use Rattle.casemaster.proofs.RefusalsLaws.{master-refused}
+use Rattle.casemaster.proofs.RowsLaws.{Fit, rows-rise, same-rows}
+use Rattle.casemaster.proofs.SearchLaws.{rows-head, rows-tail}
+use Rattle.collections.specs.File.{fileRefusal, linesIn, lineCount}
+use Rattle.posting.specs.Posting.{isPostedIn, afterLine, postedLines, listedFrom}
+use Rattle.balancing.specs.Under.{linesUnder, runRow, runPosted}
+use Rattle.balancing.specs.Balances.{oneKey, allKeys, sumUnder, balances, keyBalance, balanceIn}
+use Rattle.posting.specs.Post.{Call, rowsBefore, rowsAfter, carriedOut, refusalOf, postOutcome}
+use Rattle.balancing.specs.Theorem.{rowsLeft, Posts, SameEffect, TwoPostings}
+use Rattle.posting.proofs.TurnLaws as Turns
+use Rattle.balancing.proofs.SumLaws as Sums
+use Rattle.balancing.proofs.UnderLaws as Under
+use Rattle.posting.proofs.PostLaws.{rows-fit}
+use Rattle.balancing.proofs.BalanceProof.{balanced}
+
+-- ---- what stands under one key
+
+-- rows above a key have none of it
+none-under : (key : List ℕ) (rows : List (List ℕ)) → ((p : ℕ) → p < length rows → isLess (orderOf key (rowKey (getD rows p []))) ≡ true)
+    → balances (oneKey key) rows ≡ 0
+unfolding sumUnder isEqual
+none-under key [] h = refl
+none-under key (row ∷ rows) h =
+    let o : isLess (orderOf key (rowKey row)) ≡ true = h 0 (zero-lt-suc (length rows)) in
+    let z : balances (oneKey key) rows ≡ 0 = none-under key rows (λ p l. h (suc p) (suc-le-suc l)) in
+    rw (same-order (rowKey row) key, less-sides key (rowKey row) o .1) (omega arith)
+
+pub under-one : (key : List ℕ) (rows : List (List ℕ)) → rising (keysOf rows) ≡ true → balances (oneKey key) rows ≡ keyBalance key rows
+unfolding sumUnder keyBalance rowWith
+under-one key [] r = refl
+under-one key (row ∷ rows) r = go (sameBytes (rowKey row) key) refl (under-one key rows (rows-tail row rows r))
+  where
+    go : (b : Bool) → sameBytes (rowKey row) key ≡ b → balances (oneKey key) rows ≡ keyBalance key rows
+        → cond b (balance row) 0 + balances (oneKey key) rows ≡ balanceIn (cond b (some row) (rowWith key rows))
+    go true e ih =
+        let k : rowKey row ≡ key = same-eq (rowKey row) key e in
+        let z = none-under key rows (λ p l. rw k at (rows-head row rows r p l)) in
+        omega (arith, z)
+    go false e ih = omega (arith, ih)
+
+-- ---- each line is posted or listed
+
+told : (n : ℕ) (rows lines : List (List ℕ)) → length (postedLines rows lines) + length (listedFrom n rows lines) ≡ length lines
+unfolding postedLines listedFrom
+told n rows [] = refl
+told n rows (line ∷ lines) = go (isPostedIn rows line) (told (suc n) (afterLine rows line) lines)
+  where
+    go : (b : Bool) → length (postedLines (afterLine rows line) lines) + length (listedFrom (suc n) (afterLine rows line) lines) ≡ length lines
+        → length (cond b (line ∷ []) [] ++ postedLines (afterLine rows line) lines)
+        + length (cond b [] (n ∷ []) ++ listedFrom (suc n) (afterLine rows line) lines)
+        ≡ suc (length lines)
+    go true h = omega (arith, h)
+    go false h = omega (arith, h)
+
+-- ---- a posting carried out
+
+module _ (c : Call) (e : refusalOf c ≡ 0) where
+  master-right : masterRefusal (c .master) (c .rows) 0 ≡ 0
+  master-right = go (eqb (masterRefusal (c .master) (c .rows) 0) 0) refl
+    where
+      go : (b : Bool) → eqb (masterRefusal (c .master) (c .rows) 0) 0 ≡ b → masterRefusal (c .master) (c .rows) 0 ≡ 0
+      go true h = eqb-true (masterRefusal (c .master) (c .rows) 0) 0 h
+      go false h =
+          let n = eqb-false (masterRefusal (c .master) (c .rows) 0) 0 h in
+          absurd (n (sym (master-refused (c .master) (c .rows) n (fileRefusal (c .file) (length (c .lines)))) ∙ e))
+
+  fit-before : Fit (rowsBefore c)
+  fit-before = rows-fit (c .master) (c .rows) master-right
+
+  fit-after : Fit (rowsAfter c)
+  fit-after = Turns.all-fit (rowsBefore c) (linesIn (c .file)) fit-before
+
+  -- as many rows as before
+  as-many : length (rowsAfter c) ≡ c .rows
+  unfolding keysOf
+  as-many =
+      sym (length-map (rowsAfter c) rowKey)
+      ∙ ap length (Sums.keys-stay (rowsBefore c) (linesIn (c .file)) fit-before)
+      ∙ length-map (rowsBefore c) rowKey
+      ∙ length-blocks 200 (c .rows) (c .master)
+
+  left-are : rowsLeft c ≡ rowsAfter c
+  unfolding postOutcome carriedOut over
+  left-are =
+      rw (eq-eqb (refusalOf c) 0 e)
+      (rw as-many at (blocks-joined 200 (rowsAfter c) (drop (length (joined (rowsAfter c))) (c .master)) (fit-after .wide)))
+
+  rising-left : rising (keysOf (rowsLeft c)) ≡ true
+  rising-left = rw left-are (rows-rise (rowsAfter c) (fit-after .sound))
+
+  pub posts : Posts c
+  unfolding linesIn
+  posts =
+      record {
+        each-key = λ key. rw left-are (balanced (oneKey key) (rowsBefore c) (linesIn (c .file)) fit-before);
+        whole-master = rw left-are (balanced allKeys (rowsBefore c) (linesIn (c .file)) fit-before);
+        one-before = λ key. under-one key (rowsBefore c) (rows-rise (rowsBefore c) (fit-before .sound));
+        one-after = λ key. under-one key (rowsLeft c) rising-left;
+        keys-stay = rw left-are (Sums.keys-stay (rowsBefore c) (linesIn (c .file)) fit-before);
+        rows-sound = rw left-are (fit-after .sound);
+        all-told = told 1 (rowsBefore c) (linesIn (c .file)) ∙ length-blocks 240 (lineCount (c .file)) (c .file);
+        listed-idle = left-are ∙ Under.listed-idle (rowsBefore c) (linesIn (c .file));
+        row-run = λ key. ap (rowWith key) left-are ∙ Under.row-run key (rowsBefore c) (linesIn (c .file)) fit-before;
+        posted-run = λ key. Under.posted-run key (rowsBefore c) (linesIn (c .file)) fit-before;
+      }
+
+-- ---- two postings
+
+pub two-postings : TwoPostings
+two-postings g h eg eh same lines =
+    record {
+      rows =
+          same-rows (rowsLeft g) (rowsLeft h) (rising-left g eg) (rising-left h eh)
+          (λ key.
+          posts g eg .row-run key
+          ∙ rw (same, lines key) (sym (posts h eh .row-run key)));
+      posted-same = λ key. posts g eg .posted-run key ∙ rw (same, lines key) (sym (posts h eh .posted-run key));
+    }

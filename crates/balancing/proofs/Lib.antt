@@ -1,0 +1,5 @@
+pub mod BalanceProof
+pub mod CallProof
+pub mod SumLaws
+pub mod TableProof
+pub mod UnderLaws

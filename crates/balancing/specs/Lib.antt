@@ -1,0 +1,4 @@
+pub mod Balances
+pub mod Table
+pub mod Theorem
+pub mod Under

@@ -1,0 +1,4 @@
+pub mod AmountLaws
+pub mod FileLaws
+pub mod LineLaws
+pub mod TotalsLaws

@@ -1,0 +1,2 @@
+// Cents, as the collection file has its amounts.
+pub struct Cents(pub u64);

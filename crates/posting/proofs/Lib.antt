@@ -1,0 +1,5 @@
+pub mod BalanceLaws
+pub mod LineLaws
+pub mod PostLaws
+pub mod TurnLaws
+pub mod WorkLaws

@@ -1,0 +1,5 @@
+// Posting the weekly collection file to a master, to the cent.
+pub mod balance;
+pub mod money;
+pub mod post;
+pub mod turn;

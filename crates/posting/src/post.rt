@@ -1,0 +1,96 @@
+// Posting the lines of a collection file to the rows of a master, in place.
+use crate::turn;
+use casemaster::master;
+use casemaster::refusals;
+use casemaster::search;
+use casemaster::search::Place;
+use collections::file;
+use collections::line;
+use collections::line::LINE_WIDTH;
+ghost use mathlib.Core.Path.{_≡_};
+ghost use mathlib.Core.Bool.{true, cond};
+ghost use Prim.Native.Nat.{_+_, _*_, _≤_, _<_};
+ghost use lib.ListN.{length, take, drop, set};
+ghost use Rattle.casemaster.specs.Master.{rowsOf, areSoundRows};
+ghost use Rattle.casemaster.specs.Row.{isSoundRow};
+ghost use Rattle.posting.specs.Post.{postCall, postedAs, postOutcome};
+ghost use Rattle.posting.specs.Parts.{IsPut, LineDone, Worked};
+
+// The answer of the call: how many lines are listed, or the number of the refusal.
+pub enum Posted {
+    Done(u64),
+    Refused(u64),
+}
+
+// The row at place p through a line.
+fn post_at(m: &mut [u8], p: usize, line: &[u8]) -> bool
+    requires { ⌜ (p * 200 + 200 ≤ length (now m)) × (isSoundRow (take 200 (drop (p * 200) (now m))) ≡ true) × (length (now line) ≡ 240) ⌝ }
+    ensures { λ r. ⌜ IsPut (now (m .entry)) p (now (line .entry)) (now (m .exit)) r ⌝ }
+{
+    let old = master::row_at(m, p);
+    let turn = turn::post_row(old, line);
+    if !turn.posted {
+        return false;
+    }
+    let new = turn.row;
+    master::put_row(m, p, new);
+    true
+}
+
+// The first n rows through a line.
+fn post_line(m: &mut [u8], n: usize, line: &[u8]) -> bool
+    requires { ⌜ (n * 200 ≤ length (now m)) × (areSoundRows (rowsOf n (now m)) ≡ true) × (length (now line) ≡ 240) ⌝ }
+    ensures { λ r. ⌜ LineDone (now (m .entry)) n (now (line .entry)) (now (m .exit)) r ⌝ }
+{
+    let key = line::line_key(line);
+    match search::place_of(m, n, &key) {
+        Place::At(p) => post_at(m, p, line),
+        Place::Gap(_) => false,
+    }
+}
+
+// Writes the number of the line at place i behind k others, unless it is posted.
+fn note(lines: &mut [u16], k: usize, i: usize, posted: bool) -> usize
+    requires { ⌜ (k < length (now lines)) × (i < 65535) ⌝ }
+    ensures { λ r. ⌜ (r ≡ cond posted k (k + 1)) × (now (lines .exit) ≡ cond posted (now (lines .entry)) (set (now (lines .entry)) k (i + 1))) ⌝ }
+{
+    if posted {
+        return k;
+    }
+    lines[k] = (i + 1) as u16;
+    k + 1
+}
+
+// The first n rows through each of the first `count` lines.
+fn work(m: &mut [u8], n: usize, file: &[u8], count: usize, lines: &mut [u16]) -> usize
+    requires { ⌜ (n * 200 ≤ length (now m)) × (areSoundRows (rowsOf n (now m)) ≡ true) × (count * 240 ≤ length (now file)) × (count < 65536) × (count ≤ length (now lines)) ⌝ }
+    ensures { λ r. ⌜ Worked (now (m .entry)) n (now (file .entry)) count (now (lines .entry)) (now (m .exit)) (now (lines .exit)) r ⌝ }
+{
+    let mut k: usize = 0;
+    let mut i: usize = 0;
+    while i < count {
+        let at = i * LINE_WIDTH;
+        let end = at + LINE_WIDTH;
+        let posted = post_line(m, n, &file[at..end]);
+        k = note(lines, k, i, posted);
+        i += 1;
+    }
+    k
+}
+
+// Posts each line of a collection file to a master, and lists the numbers of those that are not posted.
+pub fn post(master: &mut [u8], rows: usize, file: &[u8], lines: &mut [u16]) -> Posted
+    ensures { λ r. ⌜ postedAs r (now (master .exit)) (now (lines .exit)) ≡ postOutcome (postCall (now (master .entry)) rows (now (file .entry)) (now (lines .entry))) ⌝ }
+{
+    let first = refusals::master_refusal(master, rows);
+    if first != 0 {
+        return Posted::Refused(first);
+    }
+    let second = file::file_refusal(file, lines.len());
+    if second != 0 {
+        return Posted::Refused(second);
+    }
+    let count = file.len() / LINE_WIDTH - 1;
+    let k = work(master, rows, file, count, lines);
+    Posted::Done(k as u64)
+}

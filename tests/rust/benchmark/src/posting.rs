@@ -1,0 +1,128 @@
+//! Collection files posted to a master, beside one memcpy of the master measured in turn with them.
+
+use std::hint::black_box;
+
+use generator::bulk;
+use generator::posting::{numbered, total, Line as Collection};
+use generator::rng::Rng;
+
+use crate::clock::seconds;
+use crate::input::MOST;
+use crate::{cell, median, print_beside, Line};
+
+const STATE: [u8; 2] = [0xD6, 0xC8];
+
+pub struct Postings {
+    copy: f64,
+    orders: Vec<Line>,
+    /// On as many rows as lines, scattered, each file twice as long as the one before.
+    doubled: Vec<Line>,
+}
+
+/// Lines on the rows given by their places.
+fn lines(places: &[usize]) -> Vec<Collection> {
+    let mut rng = Rng::new(19);
+    let line = |&place: &usize| numbered(&mut rng, STATE, 2 * place);
+    places.iter().map(line).collect()
+}
+
+/// The places of rows in scattered order.
+fn scattered(rows: usize) -> Vec<usize> {
+    let mut places: Vec<usize> = (0..rows).collect();
+    Rng::new(23).shuffle(&mut places);
+    places
+}
+
+pub fn posting(repetitions: usize) -> Postings {
+    let mut copies = Vec::new();
+    let mut time = |name: String, rows: usize, places: &[usize]| {
+        line(name, rows, &lines(places), repetitions, &mut copies)
+    };
+    let rising: Vec<usize> = (0..MOST).collect();
+    let orders = [
+        ("rising", rising),
+        ("scattered", scattered(MOST)),
+        ("all on one row", vec![MOST / 2; MOST]),
+    ]
+    .into_iter()
+    .map(|(order, places)| time(format!("{MOST} rows, {MOST} lines, {order}"), MOST, &places))
+    .collect();
+    let doubled = [8192, 16_384, 32_768, MOST]
+        .into_iter()
+        .map(|count| time(format!("{count}"), count, &scattered(count)))
+        .collect();
+    Postings {
+        copy: median(&copies),
+        orders,
+        doubled,
+    }
+}
+
+/// The times of one file, the library's and the reference's; those of the copies go to a list.
+fn line(
+    name: String,
+    rows: usize,
+    lines: &[Collection],
+    repetitions: usize,
+    copies: &mut Vec<f64>,
+) -> Line {
+    let master = bulk::rows(STATE, rows, 2);
+    let mut file = lines.concat();
+    file.extend_from_slice(&total(lines));
+    let (mut one, mut two) = (master.clone(), master.clone());
+    let (mut first, mut second) = (vec![0; lines.len()], vec![0; lines.len()]);
+    let mut times = [Vec::new(), Vec::new()];
+    for _ in 0..repetitions {
+        let copy = seconds(|| black_box(&mut one[..]).copy_from_slice(black_box(&master)));
+        if rows == MOST {
+            copies.push(copy);
+        }
+        two.copy_from_slice(&master);
+        let (mut answer, mut listed, mut done) = (1, 0, Err(0));
+        times[0].push(seconds(|| {
+            answer = library::post(
+                black_box(&mut one),
+                rows,
+                black_box(&file),
+                &mut first,
+                &mut listed,
+            );
+        }));
+        times[1].push(seconds(|| {
+            done = reference::post(black_box(&mut two), rows, &file, &mut second);
+        }));
+        assert_eq!(answer, 0, "{name} was refused");
+        assert!(
+            done == Ok(listed) && one == two && first == second,
+            "{name} differs"
+        );
+    }
+    let [library, reference] = times.map(|series| Some(median(&series)));
+    Line {
+        name,
+        times: [library, reference, None],
+    }
+}
+
+impl Postings {
+    pub fn print(&self) {
+        println!(
+            "one memcpy of {} bytes: {:.2} ms; below, x counts such copies",
+            MOST * 200,
+            self.copy * 1e3
+        );
+        println!("{:<40}{:>22}{:>22}", "posting", "library", "reference");
+        for line in &self.orders {
+            let [library, reference, _] = line.times.map(|time| cell(time, self.copy));
+            println!("{:<40}{library:>22}{reference:>22}", line.name);
+        }
+        println!();
+        println!(
+            "{:<40}{:>22}{:>22}",
+            "doubling: n rows, n lines scattered", "library", "reference"
+        );
+        for (at, line) in self.doubled.iter().enumerate() {
+            print_beside(line, at.checked_sub(1).map(|at| &self.doubled[at]), 2);
+        }
+    }
+}
