@@ -150,7 +150,8 @@ extern "C" {
  * The one-case machine of document 01 runs on each detail in turn. Accepted details change the rows, or add one; every
  * detail gets its verdict, and every detail with a code its record in the reject file. A name (columns 30-33) matches
  * that of the row, or that of a B record of the same key, wherever it stands in the batch, that has none of errors 01
- * to 06 and 18; else the detail gets error 17 and its reject record the four characters stored.
+ * to 06 and 18; else the detail gets error 17 and its reject record the four characters stored. Where the exclusion
+ * field of an A or R names ADM, the set stored has RET, VEN and SAL as well; a set that is stored stays as it is.
  *
  * master, master_length   The rows, 200 bytes each, and the space for new ones. The length is in bytes and a multiple of
  *                         200. Bytes behind the last row may hold anything.

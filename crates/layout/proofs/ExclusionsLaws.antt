@@ -14,7 +14,7 @@ use lib.ListN.{length, getD, take, drop, length-append, length-drop, drop-of-len
 use lib.Seq.{drop-cons, take-suc, getD-drop}
 use Rattle.text.specs.Characters.{space, isByte}
 use Rattle.text.specs.Fields.{every, isBlank, sameBytes, spaces}
-use Rattle.layout.specs.Exclusions.{exclusionNames, isSeparator, unlessEmpty, wordsFrom, placeAmong, readOnto, namesShown, exclusionColumns}
+use Rattle.layout.specs.Exclusions.{exclusionNames, isSeparator, unlessEmpty, wordsFrom, placeAmong, bitsNamed, readOnto, namesShown, exclusionColumns}
 use Rattle.text.proofs.FieldsLaws.{and-left, and-right}
 
 -- ---- words
@@ -93,7 +93,7 @@ place-end word n e = rw e
 -- ---- the words read onto a set
 
 module _ (set : ℕ) (word : List ℕ) (words : List (List ℕ)) (n : ℕ) (e : placeAmong word exclusionNames ≡ n) where
-  pub read-word : n < 8 → readOnto set (word ∷ words) ≡ readOnto (bitOr set (2 ^ n)) words
+  pub read-word : n < 8 → readOnto set (word ∷ words) ≡ readOnto (bitOr set (bitsNamed n)) words
   unfolding readOnto
   read-word h = rw (e, lt-ltb n 8 h)
 

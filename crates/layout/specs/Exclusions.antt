@@ -1,5 +1,5 @@
--- Document 01, error 16: the exclusion words, and the set that they name. Assumes nothing.
-use Prim.Native.Nat.{ℕ, suc, _/_, _%_, _^_}
+-- Document 01, error 16: the exclusion words, and the set that they name; document 02, item 7: what ADM puts into it. Assumes nothing.
+use Prim.Native.Nat.{ℕ, zero, suc, _+_, _/_, _%_, _^_}
 use mathlib.Core.List.{List, [], _∷_, _++_}
 use mathlib.Core.Bool.{Bool, cond, _||_}
 use mathlib.Core.Option.{Option, none, some}
@@ -35,11 +35,16 @@ abbrev pub placeAmong : List ℕ → List (List ℕ) → ℕ
 placeAmong word [] = 0
 placeAmong word (name ∷ names) = cond (sameBytes word name) 0 (suc (placeAmong word names))
 
+-- what the name at a place puts into the set: its own bit; where a field names ADM, RET, SAL and VEN as well
+abbrev pub bitsNamed : ℕ → ℕ
+bitsNamed zero = 2 ^ 0 + 2 ^ 1 + 2 ^ 2 + 2 ^ 3
+bitsNamed (suc n) = 2 ^ suc n
+
 -- the words read one after the other onto a set; the reading stops at the first that isn't one of the eight; repeats count once
 unfoldable pub readOnto : ℕ → List (List ℕ) → Option ℕ
 readOnto set [] = some set
 readOnto set (word ∷ words) =
-    cond (ltb (placeAmong word exclusionNames) 8) (readOnto (bitOr set (2 ^ placeAmong word exclusionNames)) words) none
+    cond (ltb (placeAmong word exclusionNames) 8) (readOnto (bitOr set (bitsNamed (placeAmong word exclusionNames))) words) none
 
 -- the set of an exclusion field, or none with error 16
 unfoldable pub exclusionsOf : List ℕ → Option ℕ

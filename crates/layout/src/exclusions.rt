@@ -6,9 +6,9 @@ ghost use mathlib.Core.List.{[], _∷_};
 ghost use Prim.Native.Nat.{_<_, _≤_, _-_, _^_};
 ghost use lib.ListN.{length, getD, take, drop};
 ghost use Rattle.text.specs.Fields.{isBlank, spaces};
-ghost use Rattle.layout.specs.Exclusions.{exclusionNames, isSeparator, wordsFrom, exclusionsOf, setRead, exclusionColumns};
+ghost use Rattle.layout.specs.Exclusions.{exclusionNames, isSeparator, wordsFrom, bitsNamed, exclusionsOf, setRead, exclusionColumns};
 
-// What an exclusion field names: a set, bit 0 for ADM, or failure at a word that is none of the eight.
+// What an exclusion field names: a set, ADM in bit 0, or failure at a word that is none of the eight.
 pub enum Exclusions {
     Set(u8),
     Failure,
@@ -26,7 +26,8 @@ const NAMES: [[u8; 3]; 8] = [
     [0xC4, 0xC3, 0xD2],
 ];
 
-const BITS: [u8; 8] = [1, 2, 4, 8, 16, 32, 64, 128];
+// What each puts into the set: its own bit; ADM those of RET, VEN and SAL too.
+const BITS: [u8; 8] = [15, 2, 4, 8, 16, 32, 64, 128];
 
 // The name at place n.
 fn name_at(n: usize) -> [u8; 3]
@@ -36,10 +37,10 @@ fn name_at(n: usize) -> [u8; 3]
     NAMES[n]
 }
 
-// The bit of the name at place n.
-fn bit_at(n: usize) -> u8
+// What the name at place n puts into the set.
+fn bits_at(n: usize) -> u8
     requires { ⌜ n < 8 ⌝ }
-    ensures { λ r. ⌜ r ≡ 2 ^ n ⌝ }
+    ensures { λ r. ⌜ r ≡ bitsNamed n ⌝ }
 {
     BITS[n]
 }
@@ -116,7 +117,7 @@ pub fn read_exclusions(s: &[u8]) -> Exclusions
             }
             let name = name_at(n);
             if fields::same(&s[at..end], &name) {
-                set = set | bit_at(n);
+                set = set | bits_at(n);
                 at = end;
                 continue 'words;
             }

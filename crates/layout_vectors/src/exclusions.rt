@@ -38,6 +38,8 @@ fn words() {
     lists::each(Subject::Words, names);
     let twice = b"words|ADM,ADM ADM|FIN RET FIN,RET|ADM,,  DCK|DCK,,  ADM| SAL|, ,,  ,";
     lists::each(Subject::Words, twice);
+    let with_adm = b"words|ADM RET|RET ADM|ADM,VEN|SAL ADM|ADM TAX|PAS,ADM|ADM FIN|DCK ADM";
+    lists::each(Subject::Words, with_adm);
     let last =
         b"words|                                     DCK|,,,,,,,,,,,,,,,,,,,,,,,,,,,,,,,,,,,,,VEN";
     lists::each(Subject::Words, last);

@@ -2,6 +2,7 @@
 
 mod contacts;
 mod control;
+mod exclusions;
 mod names;
 mod posting;
 mod run;
@@ -13,6 +14,7 @@ use std::time::{Instant, SystemTime, UNIX_EPOCH};
 
 use contacts::Contacts;
 use control::Control;
+use exclusions::Exclusions;
 use generator::rng::mix;
 use generator::{ApplyCase, Case};
 use names::Names;
@@ -67,6 +69,7 @@ struct Seen {
     names: Names,
     contacts: Contacts,
     posting: Posting,
+    exclusions: Exclusions,
     records: u64,
     limits: u64,
     failed: u64,
@@ -104,11 +107,13 @@ impl Seen {
                 self.note_rows(case, after);
                 self.names.note(case, after);
                 self.posting.note_batch(case, after);
+                self.exclusions.note_batch(case, after);
                 self.kept_room += u64::from(after.result[4] < (case.master.len() / 200) as u64);
             }
             (_, Case::Reconcile(after)) => {
                 self.records += after.records;
                 self.posting.note_reconciled(after);
+                self.exclusions.note_reconciled(after);
             }
             (Case::Update(case), _) => self.contacts.note_update(case),
             (Case::Codes(case), Case::Codes(after)) => {
@@ -196,6 +201,7 @@ impl Seen {
         let mut tallies = vec![&self.control.0, &self.names.0];
         tallies.extend(self.contacts.tallies());
         tallies.extend(self.posting.tallies());
+        tallies.push(&self.exclusions.0);
         tallies
     }
 

@@ -1,5 +1,5 @@
-//! A record's errors and warnings ("A record's errors" in document 01, with item 3 of document 02),
-//! a function each.
+//! A record's errors and warnings ("A record's errors" in document 01, with items 3 and 7 of document
+//! 02), a function each.
 
 use std::collections::BTreeSet;
 
@@ -166,6 +166,18 @@ pub fn error_15(record: &[u8]) -> bool {
     is_type(record, b"A") && !is_blank(date) && !is_date(date)
 }
 
+/// Item 7 of document 02: "Where an exclusion field names ADM, its set now has RET, SAL and VEN as
+/// well". The bits are ADM RET VEN SAL, lowest first.
+fn widened(named: u8) -> u8 {
+    const ADM: u8 = 0b0001;
+    const RET_VEN_SAL: u8 = 0b1110;
+    if named & ADM == ADM {
+        named | RET_VEN_SAL
+    } else {
+        named
+    }
+}
+
 /// "commas and spaces divide 188–227 into words; empty words are skipped; the reading stops at
 /// the first word that isn't one of the eight. Repeats count once." None stands for such a word.
 pub fn exclusion_set(record: &[u8]) -> Option<u8> {
@@ -177,7 +189,7 @@ pub fn exclusion_set(record: &[u8]) -> Option<u8> {
         let bit = EXCLUSIONS.iter().position(|name| name == word)?;
         set |= 1 << bit;
     }
-    Some(set)
+    Some(widened(set))
 }
 
 /// "(A, R)": a word that isn't one of the eight

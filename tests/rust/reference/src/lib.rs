@@ -1,4 +1,4 @@
-//! Document 01 and items 1 and 3 to 6 of document 02 written out rule by rule, in their order and
+//! Document 01 and items 1 and 3 to 7 of document 02 written out rule by rule, in their order and
 //! words; simple before fast.
 //! Nothing here panics: every length is looked at by a refusal before it is relied on.
 

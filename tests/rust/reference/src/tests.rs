@@ -2,6 +2,7 @@
 
 mod contacts;
 mod control;
+mod exclusions;
 mod names;
 mod posting;
 
@@ -160,7 +161,7 @@ fn d_exclusions() {
         (",,TAX", Some(0b1_0000)),
         ("RETPAS", None),
         ("", Some(0)),
-        ("ADM,ADM", Some(1)),
+        ("ADM,ADM", Some(0b1111)),
         ("ADM,XYZ", None),
     ] {
         let mut replace = record("R", "SMITH", "");

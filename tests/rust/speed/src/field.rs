@@ -173,7 +173,7 @@ const fn word(bytes: [u8; 3]) -> u32 {
     (bytes[0] as u32) << 16 | (bytes[1] as u32) << 8 | bytes[2] as u32
 }
 
-/// The bit of an exclusion word, or none.
+/// The bits of an exclusion word, or none; ADM has those of RET, VEN and SAL too.
 fn exclusion(bytes: [u8; 3]) -> Option<u8> {
     const ADM: u32 = word([0xC1, 0xC4, 0xD4]);
     const RET: u32 = word([0xD9, 0xC5, 0xE3]);
@@ -184,7 +184,7 @@ fn exclusion(bytes: [u8; 3]) -> Option<u8> {
     const FIN: u32 = word([0xC6, 0xC9, 0xD5]);
     const DCK: u32 = word([0xC4, 0xC3, 0xD2]);
     Some(match word(bytes) {
-        ADM => 1,
+        ADM => 1 | 2 | 4 | 8,
         RET => 2,
         VEN => 4,
         SAL => 8,

@@ -3,14 +3,14 @@
 use mathlib.Core.Path.{_≡_, refl, sym, ap, _∙_}
 use mathlib.Core.Bool.{true, false}
 use mathlib.Core.List.{List, [], _∷_}
-use Prim.Native.Nat.{ℕ, _+_, _-_, _^_, _≤_}
+use Prim.Native.Nat.{ℕ, _+_, _-_, _≤_}
 use native.Mathlib.Nat.{add-zero}
 use native.Mathlib.Omega.{arith}
 use borrow.Author.Needs.{needs}
 use lib.Bits.{bitOr}
 use lib.ListN.{length, getD, take, drop}
 use Rattle.text.specs.Fields.{sameBytes}
-use Rattle.layout.specs.Exclusions.{exclusionNames, wordsFrom, placeAmong, readOnto, exclusionsOf}
+use Rattle.layout.specs.Exclusions.{exclusionNames, wordsFrom, placeAmong, bitsNamed, readOnto, exclusionsOf}
 use Rattle.layout.proofs.ExclusionsLaws.{words-none, place-here, place-next, place-end, read-word, read-fails}
 use Rattle.layout.proofs.exclusions.read_exclusions.Statement.{statement}
 use Rattle.layout.proofs.exclusions.read_exclusions.Tie as tie
@@ -102,8 +102,8 @@ slice-aggregate-same c = search needs
 same-requires : tie.Need-same-requires Inv-names μ-names Inv-words μ-words
 same-requires c κs = search needs
 
-bit-at-requires : tie.Need-bit-at-requires Inv-names μ-names Inv-words μ-words
-bit-at-requires c κs = search needs
+bits-at-requires : tie.Need-bits-at-requires Inv-names μ-names Inv-words μ-words
+bits-at-requires c κs = search needs
 
 words-less-2 : tie.Need-words-less-2 Inv-names μ-names Inv-words μ-words
 words-less-2 c = search needs
@@ -118,8 +118,8 @@ words-again-2 c =
     let n : placeAmong (word q) exclusionNames ≡ q .names .n = omega (arith, q .names .inv .3) in (
       q .before .word-end .ensures .1,
       at-word q ∙ read-word (outer-set q) (word q) (rest q) (q .names .n) n (omega arith)
-          ∙ ap (λ (x : ℕ). readOnto (bitOr x (2 ^ q .names .n)) (rest q)) (sym (q .names .inv .0))
-          ∙ ap (λ (x : ℕ). readOnto (bitOr (q .names .set) x) (rest q)) (sym (c .bit-at .ensures)),
+          ∙ ap (λ (x : ℕ). readOnto (bitOr x (bitsNamed (q .names .n))) (rest q)) (sym (q .names .inv .0))
+          ∙ ap (λ (x : ℕ). readOnto (bitOr (q .names .set) x) (rest q)) (sym (c .bits-at .ensures)),
     )
 
 add-n : tie.Need-add-n Inv-names μ-names Inv-words μ-words
@@ -173,7 +173,7 @@ read-exclusions-spec =
     part-same-end
     slice-aggregate-same
     same-requires
-    bit-at-requires
+    bits-at-requires
     words-less-2
     words-again-2
     add-n
