@@ -55,7 +55,8 @@ fn count_codes(m: &[u8], n: usize, state: &[u8]) -> usize
 // Writes the code of a record behind k codes where it is wanted, and returns how many there are.
 fn put_code(out: &mut [u8], k: usize, rec: &[u8], state: &[u8]) -> usize
     requires { ⌜ (length (now rec) ≡ 220) × ((k + length (localCodes (now state) (now rec ∷ []))) * 3 ≤ length (now out)) ⌝ }
-    ensures { λ r. ⌜ (r ≡ k + length (localCodes (now (state .entry)) (now (rec .entry) ∷ []))) × (now (out .exit) ≡ spliced (now (out .entry)) (k * 3) (joined (localCodes (now (state .entry)) (now (rec .entry) ∷ [])))) ⌝ }
+    ensures { λ r. ⌜ (r ≡ k + length (localCodes (now (state .entry)) (now (rec .entry) ∷ [])))
+        × (now (out .exit) ≡ spliced (now (out .entry)) (k * 3) (joined (localCodes (now (state .entry)) (now (rec .entry) ∷ [])))) ⌝ }
 {
     if !is_local_of(rec, state) {
         return k;

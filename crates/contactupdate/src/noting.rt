@@ -22,7 +22,9 @@ fn note_record(
     listed: usize,
 ) -> usize
     requires { ⌜ (length (now rec) ≡ 220) × (number < 65536) × (length (now lasts) ≡ 54000) × (listed < length (now faulty)) ⌝ }
-    ensures { λ r. ⌜ (r ≡ cond (isFaulty (now (rec .entry))) (listed + 1) listed) × (now (lasts .exit) ≡ cond (isFaulty (now (rec .entry))) (now (lasts .entry)) (set (now (lasts .entry)) (keyNumber (now (rec .entry))) number)) × (now (faulty .exit) ≡ cond (isFaulty (now (rec .entry))) (set (now (faulty .entry)) listed number) (now (faulty .entry))) ⌝ }
+    ensures { λ r. ⌜ (r ≡ cond (isFaulty (now (rec .entry))) (listed + 1) listed)
+        × (now (lasts .exit) ≡ cond (isFaulty (now (rec .entry))) (now (lasts .entry)) (set (now (lasts .entry)) (keyNumber (now (rec .entry))) number))
+        × (now (faulty .exit) ≡ cond (isFaulty (now (rec .entry))) (set (now (faulty .entry)) listed number) (now (faulty .entry))) ⌝ }
 {
     if contact::is_faulty(rec) {
         faulty[listed] = number as u16;
@@ -35,7 +37,9 @@ fn note_record(
 // Notes the numbers of the last good records of each key, and lists those of the faulty ones; returns how many are listed.
 pub fn note_file(file: &[u8], n: usize, lasts: &mut [u32], faulty: &mut [u16]) -> usize
     requires { ⌜ (n * 220 ≤ length (now file)) × (n < 65536) × (length (now lasts) ≡ 54000) × (n ≤ length (now faulty)) ⌝ }
-    ensures { λ r. ⌜ (r ≡ length (faultyFrom 1 (contactsOf n (now (file .entry))))) × (now (lasts .exit) ≡ lastsFrom 1 (contactsOf n (now (file .entry))) (now (lasts .entry))) × (now (faulty .exit) ≡ over (faultyFrom 1 (contactsOf n (now (file .entry)))) (now (faulty .entry))) ⌝ }
+    ensures { λ r. ⌜ (r ≡ length (faultyFrom 1 (contactsOf n (now (file .entry)))))
+        × (now (lasts .exit) ≡ lastsFrom 1 (contactsOf n (now (file .entry))) (now (lasts .entry)))
+        × (now (faulty .exit) ≡ over (faultyFrom 1 (contactsOf n (now (file .entry)))) (now (faulty .entry))) ⌝ }
 {
     let mut listed: usize = 0;
     let mut i: usize = 0;

@@ -33,7 +33,9 @@ fn is_wrong_file(file: &[u8]) -> bool
 // Reads the file into a table whose keys are marked.
 fn work(table: &mut [u8], count: usize, file: &[u8], faulty: &mut [u16], held: &[u8]) -> Updated
     requires { ⌜ Passed (now table) count (now file) (now faulty) (now held) ⌝ }
-    ensures { λ r. ⌜ (r ≡ Updated.Done (length (newTable (now (table .entry)) count (now (file .entry)))) (length (faultyFrom 1 (recordsOf (now (file .entry)))))) × (now (table .exit) ≡ over (joined (newTable (now (table .entry)) count (now (file .entry)))) (now (table .entry))) × (now (faulty .exit) ≡ over (faultyFrom 1 (recordsOf (now (file .entry)))) (now (faulty .entry))) ⌝ }
+    ensures { λ r. ⌜ (r ≡ Updated.Done (length (newTable (now (table .entry)) count (now (file .entry)))) (length (faultyFrom 1 (recordsOf (now (file .entry))))))
+        × (now (table .exit) ≡ over (joined (newTable (now (table .entry)) count (now (file .entry)))) (now (table .entry)))
+        × (now (faulty .exit) ≡ over (faultyFrom 1 (recordsOf (now (file .entry)))) (now (faulty .entry))) ⌝ }
 {
     let n = file.len() / CONTACT_WIDTH;
     let mut lasts = [0u32; 54000];
