@@ -41,8 +41,8 @@
  * Stack. fantanolive_contacts_update takes some 270 kilobytes of stack, the other calls a few.
  *
  * Cents. A row's columns 197-198 are its cents, 199-200 spaces; its balance is the dollars of columns 66-73 and these
- * cents, and it is deleted exactly when both are zero. A master from before the cents (spaces in 197-200) is refused (4)
- * by every call until fantanolive_add_cents has converted it, once.
+ * cents, and it is deleted exactly when both are zero. A master with rows from before the cents (spaces in 197-200) gets
+ * 4 from every other call that takes a master until fantanolive_add_cents has converted it, once.
  *
  * Limits. A master has at most 65,535 rows, a batch at most 65,536 records (65,535 details and the control record), a
  * contact file at most 65,535 records, a collection file at most 65,536 (65,535 lines and the last record); a table of
@@ -80,7 +80,7 @@ extern "C" {
 #define FANTANOLIVE_MAX_RECORDS 65536
 #define FANTANOLIVE_MAX_CONTACTS 65535
 
-/* Sizes that are always enough, as size_t. The arguments are numbers of details or rows.
+/* Sizes that are always enough, as size_t. The arguments are numbers of details, rows or contact records.
  *   verdicts of fantanolive_apply:  one number per detail
  *   rejects of fantanolive_apply:   FANTANOLIVE_REJECTS_SIZE(details) bytes; fewer are refused (11)
  *   master of fantanolive_apply:    FANTANOLIVE_MASTER_SIZE(rows + details of type A) bytes, for at most
@@ -89,6 +89,7 @@ extern "C" {
  *   table of fantanolive_contacts_update:   FANTANOLIVE_TABLE_SIZE(count + records of the file) bytes
  *   faulty of fantanolive_contacts_update:  one number per record of the file; fewer are refused (19)
  *   out of fantanolive_contacts_codes:      FANTANOLIVE_CODES_SIZE(count) bytes
+ *   lines of fantanolive_post:              one number per line of the file; fewer are refused (24)
  * The details of a batch are its records less one: batch_length / FANTANOLIVE_RECORD - 1. */
 #define FANTANOLIVE_MASTER_SIZE(rows) ((size_t)FANTANOLIVE_ROW * (size_t)(rows))
 #define FANTANOLIVE_REJECTS_SIZE(details) ((size_t)FANTANOLIVE_RECORD * ((size_t)(details) + 1))
@@ -121,7 +122,7 @@ extern "C" {
 #define FANTANOLIVE_WRONG_AMOUNT 8    /* an amount of the control record differs from the details' */
 #define FANTANOLIVE_NO_ROOM 9         /* rows plus A records whose key has no row exceed length / 200 or 65,535 */
 #define FANTANOLIVE_SHORT_VERDICTS 10 /* verdict list shorter than the details */
-#define FANTANOLIVE_SHORT_OUTPUT 11   /* reject or reconciliation buffer below 245 x (records + 1) */
+#define FANTANOLIVE_SHORT_OUTPUT 11   /* reject buffer below 245 x (details + 1), reconciliation buffer 245 x (records + 1) */
 #define FANTANOLIVE_WRONG_STATE 12    /* state not in the table of 54 */
 #define FANTANOLIVE_WRONG_DATE 13     /* not a Gregorian date CCYYMMDD of 1900-9999 */
 #define FANTANOLIVE_UNSOUND_KEY 14    /* key not of twelve bytes, or not sound */
@@ -147,10 +148,11 @@ extern "C" {
 
 /* fantanolive_apply: applies a batch to a master.
  *
- * The one-case machine of document 01 runs on each detail in turn. Accepted details change the rows, or add one; every
- * detail gets its verdict, and every detail with a code its record in the reject file. A name (columns 30-33) matches
- * that of the row, or that of a B record of the same key, wherever it stands in the batch, that has none of errors 01
- * to 06 and 18; else the detail gets error 17 and its reject record the four characters stored. Where the exclusion
+ * The one-case machine of document 01, as document 02 changes it, runs on each detail in turn. Accepted details change
+ * the rows, or add one; every detail gets its verdict, and every detail with a code its record in the reject file. The
+ * name (columns 30-33) of a detail of a type other than A and B matches that of the row, or that of a B record of the
+ * same key, wherever it stands in the batch, that has none of errors 01 to 06 and 18. Where all differ, and none of 01
+ * to 05 and 09 holds, the detail gets error 17 and its reject record the four characters stored. Where the exclusion
  * field of an A or R names ADM, the set stored has RET, VEN and SAL as well; a set that is stored stays as it is.
  *
  * master, master_length   The rows, 200 bytes each, and the space for new ones. The length is in bytes and a multiple of

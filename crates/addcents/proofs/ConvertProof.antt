@@ -17,7 +17,7 @@ use Rattle.casemaster.specs.Refusals.{oldMasterRefusal}
 use Rattle.casemaster.proofs.RefusalsLaws.{old-master-sound}
 use Rattle.casemaster.proofs.RowsLaws.{IsWide}
 use Rattle.addcents.specs.Convert.{withZeroCents, convertOutcome}
-use Rattle.addcents.specs.Theorem.{dollarCents, Converts}
+use Rattle.addcents.specs.Theorem.{dollarCents, Converts, EveryConversion}
 use Rattle.addcents.proofs.ConvertLaws.{rows-inside, wide, key-kept, dollars-kept, status-kept, balance-dollars, converted-sound}
 
 -- ---- each row converted
@@ -67,8 +67,8 @@ module _ (master : List ℕ) (rows : ℕ) (e : oldMasterRefusal master rows ≡ 
       rw (eq-eqb (oldMasterRefusal master rows) 0 e)
       (rw n at (blocks-joined 200 (converted before) (drop (length (joined (converted before))) master) (all-wide before wide-before)))
 
-  pub converts : Converts master rows
-  converts =
+  leaves : Converts master rows
+  leaves =
       record {
         sound = rw left-are (rows-sound before wide-before (old-master-sound master rows e));
         keys = rw left-are (keys-kept before wide-before);
@@ -76,3 +76,6 @@ module _ (master : List ℕ) (rows : ℕ) (e : oldMasterRefusal master rows ≡ 
         status = rw left-are (all-kept rowStatus rowStatus status-kept before wide-before);
         balances = rw left-are (all-kept balance dollarCents balance-dollars before wide-before);
       }
+
+pub converts : EveryConversion
+converts master rows e = leaves master rows e

@@ -15,23 +15,27 @@ use Rattle.addcents.specs.declared.convert.CentsAdded.the-variants.{Done
 unfoldable pub withZeroCents : List ℕ → List ℕ
 withZeroCents row = placed 197 198 (zeroDigit ∷ zeroDigit ∷ []) row
 
--- the number of the refusal, 0 where none holds; and the master
-pub record ConvertOutcome : Type 0 where
-  pub refusal : ℕ
-  pub master : List ℕ
+-- the result: done, or a refusal's number
+pub data ConvertResult : Type 0 where
+  done : ConvertResult
+  refused : ℕ → ConvertResult
 
 -- what each answer of the call stands for
-abbrev pub addedNumber : CentsAdded → ℕ
-addedNumber Done = 0
-addedNumber (Refused n) = n
+abbrev pub addedResult : CentsAdded → ConvertResult
+addedResult Done = done
+addedResult (Refused n) = refused n
+
+-- the result and the master
+pub record ConvertOutcome : Type 0 where
+  pub result : ConvertResult
+  pub master : List ℕ
 
 abbrev pub addedAs : CentsAdded → List ℕ → ConvertOutcome
-addedAs r master = record { refusal = addedNumber r; master = master }
+addedAs r master = record { result = addedResult r; master = master }
 
 -- every row, deleted ones too, and nothing behind the rows; a refusal leaves the master alone
 unfoldable pub convertOutcome : List ℕ → ℕ → ConvertOutcome
 convertOutcome master rows =
-    record {
-      refusal = oldMasterRefusal master rows;
-      master = cond (eqb (oldMasterRefusal master rows) 0) (over (joined (map withZeroCents (rowsOf rows master))) master) master;
-    }
+    cond (eqb (oldMasterRefusal master rows) 0)
+    (record { result = done; master = over (joined (map withZeroCents (rowsOf rows master))) master })
+    (record { result = refused (oldMasterRefusal master rows); master = master })

@@ -1,4 +1,4 @@
--- Document 02, item 6: what a conversion that is carried out leaves, read off the master. Assumes nothing.
+-- What a conversion that is carried out leaves, read off the master: no sentence of the papers, a consequence. Assumes nothing.
 use Prim.Native.Nat.{ℕ, _*_}
 use mathlib.Core.Path.{_≡_}
 use mathlib.Core.List.{List, map}
@@ -6,6 +6,7 @@ use mathlib.Core.Bool.{true}
 use Rattle.text.specs.Fields.{number}
 use Rattle.casemaster.specs.Row.{rowArrearage, rowStatus, balance}
 use Rattle.casemaster.specs.Master.{rowsOf, keysOf, areSoundRows}
+use Rattle.casemaster.specs.Refusals.{oldMasterRefusal}
 use Rattle.addcents.specs.Convert.{convertOutcome}
 
 -- a row's dollars, in cents
@@ -19,3 +20,7 @@ pub record Converts (master : List ℕ) (rows : ℕ) : Type 0 where
   pub dollars : map rowArrearage (rowsOf rows (convertOutcome master rows .master)) ≡ map rowArrearage (rowsOf rows master)
   pub status : map rowStatus (rowsOf rows (convertOutcome master rows .master)) ≡ map rowStatus (rowsOf rows master)
   pub balances : map balance (rowsOf rows (convertOutcome master rows .master)) ≡ map dollarCents (rowsOf rows master)
+
+-- for every conversion that no refusal stops
+abbrev pub EveryConversion : Type 0
+EveryConversion = (master : List ℕ) (rows : ℕ) → oldMasterRefusal master rows ≡ 0 → Converts master rows

@@ -29,7 +29,7 @@ use Rattle.posting.specs.Posting.{isPostedIn, afterLine, postedLines, listedFro
 use Rattle.balancing.specs.Under.{linesUnder, runRow, runPosted}
 use Rattle.balancing.specs.Balances.{oneKey, allKeys, sumUnder, balances, keyBalance, balanceIn}
 use Rattle.posting.specs.Post.{Call, rowsBefore, rowsAfter, carriedOut, refusalOf, postOutcome}
-use Rattle.balancing.specs.Theorem.{rowsLeft, Posts, SameEffect, TwoPostings}
+use Rattle.balancing.specs.Theorem.{rowsLeft, Posts, EveryPosting, SameEffect, TwoPostings}
 use Rattle.posting.proofs.TurnLaws as Turns
 use Rattle.balancing.proofs.SumLaws as Sums
 use Rattle.balancing.proofs.UnderLaws as Under
@@ -111,9 +111,9 @@ module _ (c : Call) (e : refusalOf c ≡ 0) where
   rising-left : rising (keysOf (rowsLeft c)) ≡ true
   rising-left = rw left-are (rows-rise (rowsAfter c) (fit-after .sound))
 
-  pub posts : Posts c
+  holds : Posts c
   unfolding linesIn
-  posts =
+  holds =
       record {
         each-key = λ key. rw left-are (balanced (oneKey key) (rowsBefore c) (linesIn (c .file)) fit-before);
         whole-master = rw left-are (balanced allKeys (rowsBefore c) (linesIn (c .file)) fit-before);
@@ -126,6 +126,9 @@ module _ (c : Call) (e : refusalOf c ≡ 0) where
         row-run = λ key. ap (rowWith key) left-are ∙ Under.row-run key (rowsBefore c) (linesIn (c .file)) fit-before;
         posted-run = λ key. Under.posted-run key (rowsBefore c) (linesIn (c .file)) fit-before;
       }
+
+pub posts : EveryPosting
+posts c e = holds c e
 
 -- ---- two postings
 

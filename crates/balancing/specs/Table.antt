@@ -48,7 +48,7 @@ unfoldable pub file : ℕ → ℕ → List ℕ
 file adjustments collections = line 75 0 ++ line 0 100 ++ last adjustments collections
 
 pub record Examples : Type 0 where
-  -- the last digit: F5 and C5 are five cents, D5 and a letter are bad
+  -- the last digit: F5 and C5 are five cents, D5 (a minus) and CA are bad
   pub plain : amountCents (field 0xF5) ≡ some 5
   pub signed : amountCents (field 0xC5) ≡ some 5
   pub minus : amountCents (field 0xD5) ≡ none

@@ -1,4 +1,4 @@
--- Document 02, item 6: what holds of every posting that is carried out, read off the master that it leaves. Assumes nothing.
+-- Document 02, item 6: what holds of every posting that is carried out. The rows are read off the master that it leaves. Assumes nothing.
 use Prim.Native.Nat.{ℕ, _+_}
 use mathlib.Core.Path.{_≡_}
 use mathlib.Core.List.{List}
@@ -30,13 +30,17 @@ pub record Posts (c : Call) : Type 0 where
   -- no key appears or goes away, and the master stays sound
   pub keys-stay : keysOf (rowsLeft c) ≡ keysOf (rowsBefore c)
   pub rows-sound : areSoundRows (rowsLeft c) ≡ true
-  -- each line is posted or listed, and a line that is listed changes nothing: the posted ones alone leave the same rows
+  -- posted and listed lines together are as many as the file has; a line that is listed changes nothing: the posted ones alone leave the same rows
   pub all-told : length (posted c) + length (listedNumbers c) ≡ lineCount (c .file)
   pub listed-idle : rowsLeft c ≡ afterLines (rowsBefore c) (posted c)
   -- under each key the row, and which of its lines are posted, are the one-key machine's
   pub row-run : (key : List ℕ) → rowWith key (rowsLeft c) ≡ runRow (rowWith key (rowsBefore c)) (linesUnder key (linesIn (c .file)))
   pub posted-run : (key : List ℕ)
       → postedUnder key (rowsBefore c) (linesIn (c .file)) ≡ runPosted (rowWith key (rowsBefore c)) (linesUnder key (linesIn (c .file)))
+
+-- for every posting carried out, the balance theorem among it
+abbrev pub EveryPosting : Type 0
+EveryPosting = (c : Call) → refusalOf c ≡ 0 → Posts c
 
 -- order of lines of different keys has no say: two postings from the same rows, with the same lines in the same order under each key, leave
 -- the same rows and post the same lines under each key

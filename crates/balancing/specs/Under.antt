@@ -1,4 +1,4 @@
--- Document 02, item 6, as document 01 has it for batches ("For demand 3"): the lines of a key, and the one-key machine run over them. Its state
+-- No sentence of the papers: as document 01 has it for batches ("For demand 3"), the lines of a key, and the one-key machine run over them. Its state
 -- is one row or none; its step reads the line, nothing else. Assumes nothing.
 use Prim.Native.Nat.{ℕ}
 use mathlib.Core.List.{List, [], _∷_, _++_}

@@ -1,4 +1,4 @@
--- Document 02, item 4: the codes of a state are what `apply` takes as its list. Over a whole call. Assumes nothing.
+-- No sentence of the papers, a consequence: the codes of a state are what `apply` takes as its list. Over a whole call. Assumes nothing.
 use Prim.Native.Nat.{ℕ, _*_}
 use mathlib.Core.Path.{_≡_}
 use mathlib.Core.List.{List}

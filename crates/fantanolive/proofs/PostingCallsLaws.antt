@@ -6,11 +6,13 @@ use Rattle.addcents.specs.Convert.{addedAs, convertOutcome}
 use Rattle.addcents.specs.declared.convert.CentsAdded.{CentsAdded}
 use Rattle.posting.specs.Post.{Call, Outcome, postedAs, postOutcome}
 use Rattle.posting.specs.declared.post.Posted.{Posted}
+use Rattle.fantanolive.specs.AddCentsCalls.{convertLeftBy, convertLeft}
 use Rattle.fantanolive.specs.PostingCalls.{postLeftBy, postLeft}
 
 pub convert-left : (master left : List ℕ) (rows : ℕ) (answer told : CentsAdded) → addedAs answer left ≡ convertOutcome master rows
-    → answer ≡ told → addedAs told left ≡ convertOutcome master rows
-convert-left master left rows answer told o e = ap (λ (a : CentsAdded). addedAs a left) (sym e) ∙ o
+    → answer ≡ told → convertLeftBy (addedAs told left) ≡ convertLeft master rows
+unfolding convertLeft
+convert-left master left rows answer told o e = ap (λ (a : CentsAdded). convertLeftBy (addedAs a left)) (sym e) ∙ ap convertLeftBy o
 
 pub post-left : (c : Call) (master lines : List ℕ) (listed : ℕ) (answer told : Posted) → postedAs answer master lines ≡ postOutcome c
     → answer ≡ told → postLeftBy (postedAs told master lines) listed ≡ postLeft c listed

@@ -5,14 +5,14 @@ use addcents::convert::CentsAdded;
 use posting::post;
 use posting::post::Posted;
 ghost use mathlib.Core.Path.{_≡_};
-ghost use Rattle.addcents.specs.Convert.{convertOutcome};
 ghost use Rattle.posting.specs.Post.{postCall};
+ghost use Rattle.fantanolive.specs.AddCentsCalls.{convertLeft};
 ghost use Rattle.fantanolive.specs.PostingCalls.{postLeft};
 
 // Writes 00 into the cents of every row of a master that has none yet.
 #[no_mangle]
 pub extern "C" fn fantanolive_add_cents(master: &mut [u8], rows: usize) -> u64
-    ensures { λ r. ⌜ record { refusal = r; master = now (master .exit) } ≡ convertOutcome (now (master .entry)) rows ⌝ }
+    ensures { λ r. ⌜ record { number = r; master = now (master .exit) } ≡ convertLeft (now (master .entry)) rows ⌝ }
 {
     match convert::add_cents(master, rows) {
         CentsAdded::Done => 0,

@@ -43,7 +43,7 @@ pub record Outcome : Type 0 where
   pub master : List ℕ
   pub lines : List ℕ
 
--- the rows and the list at entry and after all lines
+-- the rows at entry and after all lines, and the numbers listed
 abbrev pub rowsBefore : Call → List (List ℕ)
 rowsBefore c = rowsOf (c .rows) (c .master)
 
