@@ -13,7 +13,7 @@ use Rattle.text.specs.Fields.{columns, isBlank, isZero, allDigits, number}
 use Rattle.text.specs.Blocks.{blocks, joined, over}
 use Rattle.text.proofs.BlocksLaws.{holds-over, blocks-snoc, kept-further}
 use Rattle.text.proofs.FieldsLaws.{and-left, and-right, every-columns}
-use Rattle.text.proofs.ColumnsLaws.{Put, put, written, length-written, columns-written, isFree, columns-free, AllFit, columns-of-columns}
+use Rattle.text.proofs.ColumnsLaws.{Put, put, length-written, columns-written, isFree, columns-free, AllFit, columns-of-columns}
 use Rattle.layout.specs.Key.{isSoundKey}
 use Rattle.casemaster.specs.Row.{rowKey, rowArrearage, balance, isBalanceZero, isLive, isDeleted, isDeletedAt, areFieldsSound, isEndSound, isSoundRow, isOldEndSound, isSoundOldRow}
 use Rattle.casemaster.specs.Master.{rowsOf}

@@ -1,8 +1,8 @@
 -- A conversion that is carried out leaves a sound master, with the same keys, dollars and status. Assumes nothing.
 use Prim.Native.Nat.{ℕ}
-use mathlib.Core.Path.{_≡_, refl, sym, ap, _∙_}
-use mathlib.Core.List.{List, [], _∷_, _++_, map}
-use mathlib.Core.Bool.{true, _&&_}
+use mathlib.Core.Path.{_≡_, refl, _∙_}
+use mathlib.Core.List.{List, [], _∷_, map}
+use mathlib.Core.Bool.{true}
 use borrow.Author.Tests.{eq-eqb}
 use lib.ListN.{length, drop, length-map}
 use Rattle.text.specs.Blocks.{joined, over}

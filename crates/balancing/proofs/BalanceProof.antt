@@ -1,11 +1,11 @@
 -- Over any set of keys, and over the posted lines: balances before plus adjustments equal balances after plus collections less excess.
 -- Assumes nothing.
-use Prim.Native.Nat.{ℕ, _+_, _-_, _≤_}
-use mathlib.Core.Path.{_≡_, refl, sym, ap, _∙_}
+use Prim.Native.Nat.{ℕ, _+_, _-_}
+use mathlib.Core.Path.{_≡_, refl, sym}
 use mathlib.Core.Logic.{_⊎_, inl, inr}
 use mathlib.Core.List.{List, [], _∷_, _++_}
 use mathlib.Core.Bool.{Bool, true, false, cond}
-use mathlib.Core.Option.{Option, none, some}
+use mathlib.Core.Option.{some}
 use native.Mathlib.Omega.{arith}
 use Rattle.text.specs.Fields.{sameBytes}
 use Rattle.casemaster.specs.Row.{balance}
@@ -14,8 +14,8 @@ use Rattle.text.proofs.SameLaws.{same-eq}
 use Rattle.casemaster.proofs.SearchLaws.{row-with-same, row-with-other}
 use Rattle.casemaster.proofs.RowsLaws.{Fit, rows-rise}
 use Rattle.collections.specs.Line.{lineKey, collected, adjusted}
-use Rattle.posting.specs.Posting.{balanceAfter, isPostedOn, isPostedIn, postedRow, afterLine, afterLines, postedLines}
-use Rattle.balancing.specs.Balances.{Keys, sumUnder, balances, adjustments, collections, balanceGiven, balanceIn, keyBalance, excess, excessesFrom, Balanced}
+use Rattle.posting.specs.Posting.{balanceAfter, isPostedOn, postedRow, afterLines, postedLines}
+use Rattle.balancing.specs.Balances.{Keys, sumUnder, balances, adjustments, collections, balanceGiven, keyBalance, excess, excessesFrom, Balanced}
 use Rattle.balancing.specs.Under.{linesUnder}
 use Rattle.posting.proofs.TurnLaws.{Turn, posted, left, turn, posted-one-zero, found-key, posted-key, posted-balance, after-fit}
 use Rattle.balancing.proofs.SumLaws.{sum-replaced, lines-append, given-append, excess-within}

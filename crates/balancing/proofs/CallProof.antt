@@ -26,7 +26,6 @@ use Rattle.casemaster.proofs.RowsLaws.{Fit, rows-rise, same-rows}
 use Rattle.casemaster.proofs.SearchLaws.{rows-head, rows-tail}
 use Rattle.collections.specs.File.{fileRefusal, linesIn, lineCount}
 use Rattle.posting.specs.Posting.{isPostedIn, afterLine, postedLines, listedFrom}
-use Rattle.balancing.specs.Under.{linesUnder, runRow, runPosted}
 use Rattle.balancing.specs.Balances.{oneKey, allKeys, sumUnder, balances, keyBalance, balanceIn}
 use Rattle.posting.specs.Post.{Call, rowsBefore, rowsAfter, carriedOut, refusalOf, postOutcome}
 use Rattle.balancing.specs.Theorem.{rowsLeft, Posts, EveryPosting, SameEffect, TwoPostings}

@@ -1,10 +1,10 @@
 -- Laws of sums under keys and of keys, where one row takes another's place. Assumes nothing.
 use Prim.Native.Nat.{ℕ, zero, suc, _+_, _-_, _≤_, _<_}
 use native.Mathlib.Nat.{not-suc-le-zero, le-of-suc-le-suc}
-use mathlib.Core.Path.{_≡_, refl, sym, ap, _∙_}
+use mathlib.Core.Path.{_≡_, refl, sym, _∙_}
 use mathlib.Core.List.{List, [], _∷_, _++_}
 use mathlib.Core.Bool.{Bool, true, false, cond}
-use mathlib.Core.Option.{Option, none, some}
+use mathlib.Core.Option.{some}
 use native.Mathlib.Omega.{arith}
 use lib.ListN.{length, getD, set}
 use Rattle.text.specs.Fields.{sameBytes}
@@ -13,8 +13,8 @@ use Rattle.casemaster.specs.Row.{rowKey, balance}
 use Rattle.casemaster.specs.Rows.{rowWith, withRow}
 use Rattle.casemaster.specs.Master.{keysOf}
 use Rattle.casemaster.proofs.SearchLaws.{row-place, place-inside, place-set}
-use Rattle.collections.specs.Line.{lineKey, collected, adjusted}
-use Rattle.posting.specs.Posting.{balanceAfter, isPostedIn, postedRow, afterLine, afterLines}
+use Rattle.collections.specs.Line.{lineKey, collected}
+use Rattle.posting.specs.Posting.{balanceAfter, postedRow, afterLine, afterLines}
 use Rattle.balancing.specs.Balances.{Keys, sumUnder, balances, collections, balanceGiven, excess, excessesFrom}
 use Rattle.balancing.specs.Under.{linesUnder}
 use Rattle.posting.proofs.TurnLaws.{Turn, posted, left, turn, posted-key, after-fit}

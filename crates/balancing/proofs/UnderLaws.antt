@@ -1,12 +1,12 @@
 -- Under each key the row, and which of its lines are posted, are the one-key machine's; listed lines could be left out. Assumes nothing.
 use Prim.Native.Nat.{ℕ}
-use mathlib.Core.Path.{_≡_, refl, ap, _∙_}
+use mathlib.Core.Path.{_≡_, refl, _∙_}
 use mathlib.Core.List.{List, [], _∷_, _++_}
 use mathlib.Core.Bool.{Bool, true, false, cond}
 use mathlib.Core.Option.{Option, none, some}
 use Rattle.text.specs.Fields.{sameBytes}
 use Rattle.text.proofs.SameLaws.{same-eq}
-use Rattle.casemaster.specs.Rows.{rowWith, withRow}
+use Rattle.casemaster.specs.Rows.{rowWith}
 use Rattle.casemaster.proofs.SearchLaws.{row-with-same, row-with-other}
 use Rattle.casemaster.proofs.RowsLaws.{Fit}
 use Rattle.collections.specs.Line.{lineKey}

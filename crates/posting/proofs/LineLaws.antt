@@ -3,16 +3,16 @@
 use Prim.Native.Nat.{ℕ, suc, _+_, _-_, _*_, _≤_, _<_}
 use mathlib.Core.Path.{_≡_, refl, sym, ap, _∙_}
 use mathlib.Core.List.{List, [], _∷_, _++_, append-assoc}
-use mathlib.Core.Bool.{Bool, true, false, cond}
-use mathlib.Core.Option.{Option, none, some}
+use mathlib.Core.Bool.{Bool, true, false}
+use mathlib.Core.Option.{none, some}
 use native.Mathlib.Numerals.{add-one}
 use native.Mathlib.Omega.{arith}
-use lib.ListN.{length, take, drop, getD, set}
+use lib.ListN.{length, take, drop, set}
 use lib.Seq.{set-split}
 use Rattle.text.specs.Blocks.{blocks}
 use Rattle.casemaster.specs.Master.{rowsOf, areSoundRows}
 use Rattle.text.proofs.WidthLaws.{blocks-wide}
-use Rattle.casemaster.specs.Rows.{rowWith, placeWith, withRow}
+use Rattle.casemaster.specs.Rows.{rowWith, placeWith}
 use Rattle.casemaster.specs.Search.{RowPut}
 use Rattle.text.proofs.BlocksLaws.{length-blocks, blocks-get, take-blocks, drop-blocks}
 use Rattle.text.proofs.BlocksLaws.{blocks-split, kept-further}

@@ -1,5 +1,5 @@
 -- `convert::add_cents` meets its contract: the refusals, then the rows. Assumes nothing.
-use mathlib.Core.Path.{_≡_, sym, ap, _∙_}
+use mathlib.Core.Path.{sym, _∙_}
 use denote.Ref.{now}
 use Rattle.addcents.proofs.ConvertLaws.{convert-refused, rows-inside, convert-done}
 use borrow.Author.Needs.{needs}

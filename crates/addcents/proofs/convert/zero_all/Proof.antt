@@ -1,7 +1,6 @@
 -- `convert::zero_all` meets its contract: the first i rows have zero cents, the rest is kept. Assumes nothing.
-use borrow.Author.Needs.{needs}
 use mathlib.Core.Path.{_≡_}
-use Prim.Native.Nat.{_+_, _-_, _*_, _≤_, _<_}
+use Prim.Native.Nat.{_-_, _≤_}
 use native.Mathlib.Omega.{arith}
 use denote.Ref.{now}
 use Rattle.addcents.specs.Zeroed.{Zeroed}

@@ -1,9 +1,7 @@
 -- `amount::read_amount` meets its contract: the definition's tests in turn, and tens and the last digit fit 64 bits. Assumes nothing.
-use mathlib.Core.Path.{_≡_, refl, sym, ap, _∙_}
+use mathlib.Core.Path.{sym, _∙_}
 use native.Mathlib.Omega.{arith}
 use borrow.Author.Tests.{not-true, not-false}
-use lib.ListN.{length}
-use Rattle.text.specs.Fields.{columns}
 use Rattle.collections.proofs.AmountLaws.{no-digits, no-last, good, front-width}
 use borrow.Author.Needs.{needs}
 use Rattle.collections.proofs.amount.read_amount.Statement.{statement}

@@ -1,13 +1,11 @@
 -- `file::count_totals` meets its contract: those counted and those among the lines left are all. Assumes nothing.
 use borrow.Author.Needs.{needs}
-use mathlib.Core.Path.{_≡_, refl, sym, ap, _∙_}
-use Prim.Native.Nat.{ℕ, _+_, _-_, _*_, _≤_, _<_}
-use mathlib.Core.List.{List}
+use mathlib.Core.Path.{_≡_}
+use Prim.Native.Nat.{ℕ, _+_, _-_, _≤_}
 use native.Mathlib.Omega.{arith}
 use denote.Ref.{now}
-use lib.ListN.{length, take, drop, length-take, length-drop}
+use lib.ListN.{drop, length-take, length-drop}
 use Rattle.text.specs.Blocks.{blocks}
-use Rattle.text.proofs.BlocksLaws.{part-width}
 use Rattle.collections.specs.Line.{collected, adjusted}
 use Rattle.collections.specs.File.{linesAbove}
 use Rattle.collections.proofs.TotalsLaws.{count-step, count-end}

@@ -1,11 +1,7 @@
 -- `file::is_last_right` meets its contract: the definition's tests on the record behind the lines. Assumes nothing.
 use Prim.Native.Nat.{_*_}
-use mathlib.Core.Path.{_≡_, refl, sym, ap, _∙_}
-use native.Mathlib.Omega.{arith}
 use denote.Ref.{now}
 use lib.Dec.{lit≤}
-use lib.ListN.{length, length-take, length-drop}
-use Rattle.text.proofs.FieldsLaws.{length-columns}
 use Rattle.text.proofs.BlocksLaws.{part-width}
 use Rattle.collections.proofs.FileLaws.{last-is, last-width}
 use borrow.Author.Needs.{needs}

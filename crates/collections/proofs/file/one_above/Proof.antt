@@ -1,5 +1,4 @@
 -- `file::one_above` meets its contract: by cases. Assumes nothing.
-use native.Mathlib.Omega.{arith}
 use lib.Dec.{lit≤}
 use borrow.Author.Tests.{lt-ltb, le-ltb}
 use Rattle.collections.proofs.file.one_above.Statement.{statement}

@@ -1,14 +1,11 @@
 -- `line::read_amounts` meets its contract: both fields as `read_amount` reads them. Assumes nothing.
 use Rattle.collections.proofs.AmountLaws.{amounts-are}
-use mathlib.Core.Path.{_≡_, refl, sym, ap, _∙_}
-use mathlib.Core.List.{List}
+use mathlib.Core.Path.{refl, ap, _∙_}
 use Prim.Native.Nat.{ℕ}
 use native.Mathlib.Omega.{arith}
 use lib.Dec.{lit≤}
-use lib.ListN.{length}
-use Rattle.text.specs.Fields.{columns}
 use Rattle.text.proofs.FieldsLaws.{length-columns}
-use Rattle.collections.specs.Line.{collected, adjusted, isRight, amountCents, isBad, orZero}
+use Rattle.collections.specs.Line.{amountCents}
 use borrow.Author.Needs.{needs}
 use Rattle.collections.proofs.line.read_amounts.Statement.{statement}
 use Rattle.collections.proofs.line.read_amounts.Tie as tie

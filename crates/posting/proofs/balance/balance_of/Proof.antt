@@ -1,8 +1,6 @@
 -- `balance::balance_of` meets its contract: the two numbers of a sound row are digits, and both fit. Assumes nothing.
-use mathlib.Core.Path.{_≡_, refl, sym, ap, _∙_}
 use native.Mathlib.Omega.{arith}
 use lib.Dec.{lit≤}
-use lib.ListN.{length}
 use Rattle.casemaster.specs.Row.{balance}
 use Rattle.casemaster.proofs.SoundLaws.{sound-columns}
 use borrow.Author.Needs.{needs}

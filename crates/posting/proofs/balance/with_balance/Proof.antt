@@ -1,6 +1,5 @@
 -- `balance::with_balance` meets its contract: the writes of the definition, in its order. Assumes nothing.
 use Rattle.posting.proofs.BalanceLaws.{balance-written}
-use Rattle.posting.specs.Posting.{withBalance}
 use borrow.Author.Needs.{needs}
 use Rattle.posting.proofs.balance.with_balance.Statement.{statement}
 use Rattle.posting.proofs.balance.with_balance.Tie as tie

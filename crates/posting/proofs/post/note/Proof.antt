@@ -1,5 +1,4 @@
 -- `post::note` meets its contract: by cases. Assumes nothing.
-use mathlib.Core.Path.{_≡_, refl}
 use borrow.Author.Needs.{needs}
 use Rattle.posting.proofs.post.note.Statement.{statement}
 use Rattle.posting.proofs.post.note.Tie as tie

@@ -1,6 +1,5 @@
 -- `post::post_at` meets its contract: the row is put back exactly where the line is posted. Assumes nothing.
 use mathlib.Core.List.{[]}
-use mathlib.Core.Path.{_≡_, refl, sym, ap, _∙_}
 use borrow.Author.Tests.{not-true, not-false}
 use denote.Ref.{now}
 use Rattle.posting.proofs.LineLaws.{put-left, put-done}

@@ -1,11 +1,10 @@
 -- `post::post_line` meets its contract: the row under the line's key goes through it; without one nothing is written. Assumes nothing.
-use mathlib.Core.Path.{_≡_, refl, sym, ap, _∙_, subst}
+use mathlib.Core.Path.{subst}
 use native.Mathlib.Omega.{arith}
 use denote.Ref.{now}
 use Rattle.casemaster.specs.Master.{rowsOf}
 use Rattle.casemaster.specs.Search.{IsPlace}
 use Rattle.casemaster.specs.declared.search.Place.{Place}
-use Rattle.collections.specs.Line.{lineKey}
 use Rattle.casemaster.proofs.RowsLaws.{rows-rise}
 use Rattle.collections.proofs.LineLaws.{key-length}
 use Rattle.posting.proofs.LineLaws.{fit-of, line-missing, line-found, place-within, place-sound}

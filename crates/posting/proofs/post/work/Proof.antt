@@ -2,11 +2,10 @@
 use Rattle.posting.proofs.LineLaws.{fit-of}
 use Rattle.text.proofs.BlocksLaws.{part-width}
 use borrow.Author.Needs.{needs}
-use mathlib.Core.Path.{_≡_, refl, sym, ap, _∙_}
-use Prim.Native.Nat.{_+_, _-_, _*_, _≤_, _<_}
+use Prim.Native.Nat.{_-_, _*_, _<_}
 use native.Mathlib.Omega.{arith}
 use denote.Ref.{now}
-use lib.ListN.{length, take, drop, length-take, length-drop}
+use lib.ListN.{length}
 use Rattle.posting.proofs.WorkLaws.{Going, going-none, going-next, going-end}
 use Rattle.posting.proofs.post.work.Statement.{statement}
 use Rattle.posting.proofs.post.work.Tie as tie

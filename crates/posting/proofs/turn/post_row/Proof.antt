@@ -1,8 +1,7 @@
 -- `turn::post_row` meets its contract: each refusal to post is the definition's, and the row is that of the new balance. Assumes nothing.
-use mathlib.Core.Path.{_≡_, refl, sym, ap, _∙_}
+use mathlib.Core.Path.{refl, sym, _∙_}
 use native.Mathlib.Omega.{arith}
 use borrow.Author.Tests.{not-true, not-false}
-use Rattle.posting.specs.Posting.{most}
 use Rattle.posting.proofs.BalanceLaws.{not-right, not-live, too-much, is-posted, left-turn, posted-turn}
 use borrow.Author.Needs.{needs}
 use Rattle.posting.proofs.turn.post_row.Statement.{statement}
