@@ -27,7 +27,7 @@ abbrev pub resultOf : Applied → Result
 resultOf (Done a r w n rows) = done a r w n rows
 resultOf (Refused n) = refused n
 
--- the result and every byte lent that can be outcomeWith
+-- the result and every byte lent that can be written
 pub record Outcome : Type 0 where
   pub result : Result
   pub master : List ℕ
@@ -44,7 +44,7 @@ resultIn counts rows =
     done (counts .acceptedTanf + counts .acceptedNonTanf) (counts .rejectedTanf + counts .rejectedNonTanf)
     (counts .warnedTanf + counts .warnedNonTanf) (counts .neither) rows
 
--- the rows, the numbers and the reject file outcomeWith, with what stood behind each kept
+-- the rows, the numbers and the reject file written, with what stood behind each kept
 abbrev pub outcomeWith : List ℕ → List (List ℕ) → List (List ℕ) → List Judgement → Counts → Call → Outcome
 outcomeWith state rows details verdicts counts c =
     record {
