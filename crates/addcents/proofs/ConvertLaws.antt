@@ -66,11 +66,11 @@ module _ (master : List ℕ) (rows : ℕ) where
 
 -- ---- a row converted
 
-abbrev puts : List Put
-puts = put 197 198 (zeroDigit ∷ zeroDigit ∷ []) ∷ []
+abbrev zerosPut : List Put
+zerosPut = put 197 198 (zeroDigit ∷ zeroDigit ∷ []) ∷ []
 
-fit : AllFit 200 puts
-fit = (record { low = lit≤ tt; wide = refl; high = lit≤ tt }, tt)
+zeros-fit : AllFit 200 zerosPut
+zeros-fit = (record { low = lit≤ tt; wide = refl; high = lit≤ tt }, tt)
 
 zeros-digits : allDigits (zeroDigit ∷ zeroDigit ∷ []) ≡ true
 unfolding allDigits isDigit
@@ -81,17 +81,17 @@ unfolding isZero
 zeros-zero = refl
 
 module _ (row : List ℕ) (l : length row ≡ 200) where
-  kept : (a z : ℕ) → 1 ≤ a → a ≤ z + 1 → isFree a z puts ≡ true → columns a z (withZeroCents row) ≡ columns a z row
+  kept : (a z : ℕ) → 1 ≤ a → a ≤ z + 1 → isFree a z zerosPut ≡ true → columns a z (withZeroCents row) ≡ columns a z row
   unfolding withZeroCents
-  kept a z h o t = columns-free 200 a z h o puts row t fit l
+  kept a z h o t = columns-free 200 a z h o zerosPut row t zeros-fit l
 
   zero-there : columns 197 198 (withZeroCents row) ≡ zeroDigit ∷ zeroDigit ∷ []
   unfolding withZeroCents
-  zero-there = columns-written 200 197 198 (lit≤ tt) (lit≤ tt) puts row refl fit l
+  zero-there = columns-written 200 197 198 (lit≤ tt) (lit≤ tt) zerosPut row refl zeros-fit l
 
   pub wide : length (withZeroCents row) ≡ 200
   unfolding withZeroCents
-  wide = length-written 200 puts row fit l
+  wide = length-written 200 zerosPut row zeros-fit l
 
   pub key-kept : columns 1 12 (withZeroCents row) ≡ columns 1 12 row
   key-kept = kept 1 12 (lit≤ tt) (lit≤ tt) refl

@@ -28,7 +28,7 @@ use Rattle.collections.specs.File.{fileRefusal, linesIn, lineCount}
 use Rattle.posting.specs.Posting.{isPostedIn, afterLine, postedLines, listedFrom}
 use Rattle.balancing.specs.Balances.{oneKey, allKeys, sumUnder, balances, keyBalance, balanceIn}
 use Rattle.posting.specs.Post.{Call, rowsBefore, rowsAfter, carriedOut, refusalOf, postOutcome}
-use Rattle.balancing.specs.Theorem.{rowsLeft, Posts, EveryPosting, SameEffect, TwoPostings}
+use Rattle.balancing.specs.Theorem.{rowsAfterPosting, Posts, EveryPosting, SameEffect, TwoPostings}
 use Rattle.posting.proofs.TurnLaws as Turns
 use Rattle.balancing.proofs.SumLaws as Sums
 use Rattle.balancing.proofs.UnderLaws as Under
@@ -38,13 +38,13 @@ use Rattle.balancing.proofs.BalanceProof.{balanced}
 -- ---- what stands under one key
 
 -- rows above a key have none of it
-none-under : (key : List ℕ) (rows : List (List ℕ)) → ((p : ℕ) → p < length rows → isLess (orderOf key (rowKey (getD rows p []))) ≡ true)
+none-of-key : (key : List ℕ) (rows : List (List ℕ)) → ((p : ℕ) → p < length rows → isLess (orderOf key (rowKey (getD rows p []))) ≡ true)
     → balances (oneKey key) rows ≡ 0
 unfolding sumUnder isEqual
-none-under key [] h = refl
-none-under key (row ∷ rows) h =
+none-of-key key [] h = refl
+none-of-key key (row ∷ rows) h =
     let o : isLess (orderOf key (rowKey row)) ≡ true = h 0 (zero-lt-suc (length rows)) in
-    let z : balances (oneKey key) rows ≡ 0 = none-under key rows (λ p l. h (suc p) (suc-le-suc l)) in
+    let z : balances (oneKey key) rows ≡ 0 = none-of-key key rows (λ p l. h (suc p) (suc-le-suc l)) in
     rw (same-order (rowKey row) key, less-sides key (rowKey row) o .1) (omega arith)
 
 pub under-one : (key : List ℕ) (rows : List (List ℕ)) → rising (keysOf rows) ≡ true → balances (oneKey key) rows ≡ keyBalance key rows
@@ -56,7 +56,7 @@ under-one key (row ∷ rows) r = go (sameBytes (rowKey row) key) refl (under-one
         → cond b (balance row) 0 + balances (oneKey key) rows ≡ balanceIn (cond b (some row) (rowWith key rows))
     go true e ih =
         let k : rowKey row ≡ key = same-eq (rowKey row) key e in
-        let z = none-under key rows (λ p l. rw k at (rows-head row rows r p l)) in
+        let z = none-of-key key rows (λ p l. rw k at (rows-head row rows r p l)) in
         omega (arith, z)
     go false e ih = omega (arith, ih)
 
@@ -101,13 +101,13 @@ module _ (c : Call) (e : refusalOf c ≡ 0) where
       ∙ length-map (rowsBefore c) rowKey
       ∙ length-blocks 200 (c .rows) (c .master)
 
-  left-are : rowsLeft c ≡ rowsAfter c
+  left-are : rowsAfterPosting c ≡ rowsAfter c
   unfolding postOutcome carriedOut over
   left-are =
       rw (eq-eqb (refusalOf c) 0 e)
       (rw as-many at (blocks-joined 200 (rowsAfter c) (drop (length (joined (rowsAfter c))) (c .master)) (fit-after .wide)))
 
-  rising-left : rising (keysOf (rowsLeft c)) ≡ true
+  rising-left : rising (keysOf (rowsAfterPosting c)) ≡ true
   rising-left = rw left-are (rows-rise (rowsAfter c) (fit-after .sound))
 
   holds : Posts c
@@ -117,7 +117,7 @@ module _ (c : Call) (e : refusalOf c ≡ 0) where
         each-key = λ key. rw left-are (balanced (oneKey key) (rowsBefore c) (linesIn (c .file)) fit-before);
         whole-master = rw left-are (balanced allKeys (rowsBefore c) (linesIn (c .file)) fit-before);
         one-before = λ key. under-one key (rowsBefore c) (rows-rise (rowsBefore c) (fit-before .sound));
-        one-after = λ key. under-one key (rowsLeft c) rising-left;
+        one-after = λ key. under-one key (rowsAfterPosting c) rising-left;
         keys-stay = rw left-are (Sums.keys-stay (rowsBefore c) (linesIn (c .file)) fit-before);
         rows-sound = rw left-are (fit-after .sound);
         all-told = told 1 (rowsBefore c) (linesIn (c .file)) ∙ length-blocks 240 (lineCount (c .file)) (c .file);
@@ -135,7 +135,7 @@ pub two-postings : TwoPostings
 two-postings g h eg eh same lines =
     record {
       rows =
-          same-rows (rowsLeft g) (rowsLeft h) (rising-left g eg) (rising-left h eh)
+          same-rows (rowsAfterPosting g) (rowsAfterPosting h) (rising-left g eg) (rising-left h eh)
           (λ key.
           posts g eg .row-run key
           ∙ rw (same, lines key) (sym (posts h eh .row-run key)));

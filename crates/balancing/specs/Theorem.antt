@@ -13,8 +13,8 @@ use Rattle.balancing.specs.Balances.{oneKey, allKeys, balances, keyBalan
 use Rattle.posting.specs.Post.{Call, Outcome, rowsBefore, listedNumbers, refusalOf, postOutcome}
 
 -- the rows that a call leaves
-abbrev pub rowsLeft : Call → List (List ℕ)
-rowsLeft c = rowsOf (c .rows) (postOutcome c .master)
+abbrev pub rowsAfterPosting : Call → List (List ℕ)
+rowsAfterPosting c = rowsOf (c .rows) (postOutcome c .master)
 
 -- the lines that it posts
 abbrev pub posted : Call → List (List ℕ)
@@ -22,19 +22,19 @@ posted c = postedLines (rowsBefore c) (linesIn (c .file))
 
 pub record Posts (c : Call) : Type 0 where
   -- the balance theorem, under each key and over the whole master
-  pub each-key : (key : List ℕ) → Balanced (oneKey key) (rowsBefore c) (rowsLeft c) (posted c)
-  pub whole-master : Balanced allKeys (rowsBefore c) (rowsLeft c) (posted c)
+  pub each-key : (key : List ℕ) → Balanced (oneKey key) (rowsBefore c) (rowsAfterPosting c) (posted c)
+  pub whole-master : Balanced allKeys (rowsBefore c) (rowsAfterPosting c) (posted c)
   -- what stands under a key is the balance of its row
   pub one-before : (key : List ℕ) → balances (oneKey key) (rowsBefore c) ≡ keyBalance key (rowsBefore c)
-  pub one-after : (key : List ℕ) → balances (oneKey key) (rowsLeft c) ≡ keyBalance key (rowsLeft c)
+  pub one-after : (key : List ℕ) → balances (oneKey key) (rowsAfterPosting c) ≡ keyBalance key (rowsAfterPosting c)
   -- no key appears or goes away, and the master stays sound
-  pub keys-stay : keysOf (rowsLeft c) ≡ keysOf (rowsBefore c)
-  pub rows-sound : areSoundRows (rowsLeft c) ≡ true
+  pub keys-stay : keysOf (rowsAfterPosting c) ≡ keysOf (rowsBefore c)
+  pub rows-sound : areSoundRows (rowsAfterPosting c) ≡ true
   -- posted and listed lines together are as many as the file has; a line that is listed changes nothing: the posted ones alone leave the same rows
   pub all-told : length (posted c) + length (listedNumbers c) ≡ lineCount (c .file)
-  pub listed-idle : rowsLeft c ≡ afterLines (rowsBefore c) (posted c)
+  pub listed-idle : rowsAfterPosting c ≡ afterLines (rowsBefore c) (posted c)
   -- under each key the row, and which of its lines are posted, are the one-key machine's
-  pub row-run : (key : List ℕ) → rowWith key (rowsLeft c) ≡ runRow (rowWith key (rowsBefore c)) (linesUnder key (linesIn (c .file)))
+  pub row-run : (key : List ℕ) → rowWith key (rowsAfterPosting c) ≡ runRow (rowWith key (rowsBefore c)) (linesUnder key (linesIn (c .file)))
   pub posted-run : (key : List ℕ)
       → postedUnder key (rowsBefore c) (linesIn (c .file)) ≡ runPosted (rowWith key (rowsBefore c)) (linesUnder key (linesIn (c .file)))
 
@@ -45,7 +45,7 @@ EveryPosting = (c : Call) → refusalOf c ≡ 0 → Posts c
 -- order of lines of different keys has no say: two postings from the same rows, with the same lines in the same order under each key, leave
 -- the same rows and post the same lines under each key
 pub record SameEffect (g h : Call) : Type 0 where
-  pub rows : rowsLeft g ≡ rowsLeft h
+  pub rows : rowsAfterPosting g ≡ rowsAfterPosting h
   pub posted-same : (key : List ℕ)
       → postedUnder key (rowsBefore g) (linesIn (g .file)) ≡ postedUnder key (rowsBefore h) (linesIn (h .file))
 

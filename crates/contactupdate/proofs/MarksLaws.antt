@@ -16,7 +16,7 @@ use Rattle.contactrecord.specs.Contact.{isContactKey}
 use Rattle.contacttable.specs.Table.{contactsOf, isTable}
 use Rattle.contactupdate.specs.Update.{lacking}
 use Rattle.contactupdate.specs.KeyNumbers.{keyNumber, cell, heldIn}
-use Rattle.contactupdate.specs.Marks.{marked, lackingIn, Flagged}
+use Rattle.contactupdate.specs.Marks.{keysMarked, lackingIn, Flagged}
 use Rattle.contactupdate.proofs.KeyNumberLaws.{below, key-number-below}
 use Rattle.contactupdate.proofs.SpreadLaws.{Risen, risen-table}
 use Rattle.text.proofs.ByteOrderLaws.{Heads, lower, upper, same, heads}
@@ -24,13 +24,13 @@ use Rattle.text.proofs.ByteOrderLaws.{Heads, lower, upper, same, heads}
 -- ---- from one record to the next
 
 module _ (n : ℕ) (bytes : List ℕ) (i : ℕ) (held : List ℕ) where
-  pub marked-next : i < n → marked (drop i (contactsOf n bytes)) held
-      ≡ marked (drop (i + 1) (contactsOf n bytes)) (set held (keyNumber (contactAt bytes i)) 1)
-  unfolding marked
+  pub marked-next : i < n → keysMarked (drop i (contactsOf n bytes)) held
+      ≡ keysMarked (drop (i + 1) (contactsOf n bytes)) (set held (keyNumber (contactAt bytes i)) 1)
+  unfolding keysMarked
   marked-next h = rw (contacts-next n bytes i h)
 
-  pub marked-end : n ≤ i → marked (drop i (contactsOf n bytes)) held ≡ held
-  unfolding marked
+  pub marked-end : n ≤ i → keysMarked (drop i (contactsOf n bytes)) held ≡ held
+  unfolding keysMarked
   marked-end h = rw (contacts-end n bytes i h)
 
   pub lacking-next : i < n → lackingIn held (drop i (contactsOf n bytes))
@@ -50,8 +50,8 @@ zeros-get zero j = refl
 zeros-get (suc n) zero = refl
 zeros-get (suc n) (suc j) = zeros-get n j
 
-marked-length : (rows : List (List ℕ)) (held : List ℕ) → length (marked rows held) ≡ length held
-unfolding marked
+marked-length : (rows : List (List ℕ)) (held : List ℕ) → length (keysMarked rows held) ≡ length held
+unfolding keysMarked
 marked-length [] held = refl
 marked-length (r ∷ rows) held = marked-length rows (set held (keyNumber r) 1) ∙ length-set held (keyNumber r) 1
 
@@ -60,8 +60,8 @@ flagOf none x = x
 flagOf (some r) x = 1
 
 marked-flags : (k : ℕ) (rows : List (List ℕ)) (held : List ℕ) → Risen k rows → length held ≡ 54000
-    → (j : ℕ) → getD (marked rows held) j 0 ≡ flagOf (heldIn rows j) (getD held j 0)
-unfolding marked heldIn
+    → (j : ℕ) → getD (keysMarked rows held) j 0 ≡ flagOf (heldIn rows j) (getD held j 0)
+unfolding keysMarked heldIn
 marked-flags k [] held h l j = refl
 marked-flags k (r ∷ rows) held h l j =
     marked-flags (suc (keyNumber r)) rows (set held (keyNumber r) 1) (h .2) (length-set held (keyNumber r) 1 ∙ l) j ∙ go (heads (keyNumber r) j)
@@ -82,7 +82,7 @@ marked-flags k (r ∷ rows) held h l j =
         let b = key-number-below r (h .0) in
         rw (← n, getD-set-same held (keyNumber r) 1 0 (omega arith), eq-eqb (keyNumber r) (keyNumber r) refl) (ones (heldIn rows (keyNumber r)))
 
-pub flagged : (rows : List (List ℕ)) (held : List ℕ) → isTable rows ≡ true → length held ≡ 54000 → ((j : ℕ) → getD held j 0 ≡ 0) → Flagged rows (marked rows held)
+pub flagged : (rows : List (List ℕ)) (held : List ℕ) → isTable rows ≡ true → length held ≡ 54000 → ((j : ℕ) → getD held j 0 ≡ 0) → Flagged rows (keysMarked rows held)
 flagged rows held t l z =
     record {
       wide = marked-length rows held ∙ l;

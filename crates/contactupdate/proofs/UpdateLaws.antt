@@ -12,7 +12,7 @@ use Rattle.text.proofs.BoolLaws.{or-right}
 use Rattle.contacttable.specs.Table.{contactsOf, isWrongTable}
 use Rattle.contacttable.proofs.TableLaws.{right-table}
 use Rattle.contactupdate.specs.Update.{faultyFrom, maxContacts, isWrongFile, recordsOf, lacking, refusal19, updateRefusal, updatedAs, newTable, updateOutcome}
-use Rattle.contactupdate.specs.Marks.{marked, lackingIn, Flagged}
+use Rattle.contactupdate.specs.Marks.{keysMarked, lackingIn, Flagged}
 use Rattle.contactupdate.specs.Merging.{Passed}
 use Rattle.contactupdate.specs.declared.update.Updated.{Updated}
 use Rattle.contactupdate.specs.declared.update.Updated.the-variants.{Done, Refused}
@@ -21,7 +21,7 @@ use Rattle.contactupdate.proofs.LackingLaws.{lacking-is}
 
 -- the marks of a table that isn't refused
 pub table-flagged : (table : List ℕ) (count : ℕ) (held : List ℕ) → isWrongTable table count ≡ false
-    → held ≡ marked (contactsOf count table) (replicate 54000 0) → Flagged (contactsOf count table) held
+    → held ≡ keysMarked (contactsOf count table) (replicate 54000 0) → Flagged (contactsOf count table) held
 table-flagged table count held t e =
     rw e
     (flagged (contactsOf count table) (replicate 54000 0) (right-table table count t .table) (length-replicate {A = ℕ} 54000 0) (zeros-get 54000))

@@ -9,9 +9,9 @@ use Rattle.contactrecord.specs.Contact.{isContactKey}
 use Rattle.contactupdate.specs.KeyNumbers.{keyNumber, cell, heldIn}
 
 -- the marks with those of a table's records
-unfoldable pub marked : List (List ℕ) → List ℕ → List ℕ
-marked [] held = held
-marked (rec ∷ table) held = marked table (set held (keyNumber rec) 1)
+unfoldable pub keysMarked : List (List ℕ) → List ℕ → List ℕ
+keysMarked [] held = held
+keysMarked (rec ∷ table) held = keysMarked table (set held (keyNumber rec) 1)
 
 -- the keys of some records are marked, and no others
 pub record Flagged (rows : List (List ℕ)) (held : List ℕ) : Type 0 where

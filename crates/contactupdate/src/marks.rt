@@ -9,12 +9,12 @@ ghost use lib.ListN.{length, getD};
 ghost use Rattle.contactrecord.specs.Contact.{isContactKey};
 ghost use Rattle.contacttable.specs.Table.{contactsOf, isTable};
 ghost use Rattle.contactupdate.specs.KeyNumbers.{keyNumber};
-ghost use Rattle.contactupdate.specs.Marks.{marked, lackingIn};
+ghost use Rattle.contactupdate.specs.Marks.{keysMarked, lackingIn};
 
 // Marks the keys of a table's records by 1.
 pub fn mark_table(table: &[u8], count: usize, held: &mut [u8])
     requires { ⌜ (count * 220 ≤ length (now table)) × (length (now held) ≡ 54000) × (isTable (contactsOf count (now table)) ≡ true) ⌝ }
-    ensures { λ _. ⌜ now (held .exit) ≡ marked (contactsOf count (now (table .entry))) (now (held .entry)) ⌝ }
+    ensures { λ _. ⌜ now (held .exit) ≡ keysMarked (contactsOf count (now (table .entry))) (now (held .entry)) ⌝ }
 {
     let mut i: usize = 0;
     while i < count {

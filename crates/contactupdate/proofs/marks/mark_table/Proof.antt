@@ -1,7 +1,7 @@
 -- `mark_table`: the marks so far, with those of the records that are left, make the whole. Assumes nothing.
 use Rattle.contacttable.proofs.TableLaws.{contactAt, length-contact, contact-good}
 use Rattle.contactrecord.proofs.ContactLaws.{good-key}
-use Rattle.contactupdate.specs.Marks.{marked}
+use Rattle.contactupdate.specs.Marks.{keysMarked}
 use Rattle.contactupdate.proofs.MarksLaws.{marked-next, marked-end}
 use Rattle.contacttable.specs.Table.{contactsOf}
 use lib.ListN.{length, drop, length-set}
@@ -14,7 +14,7 @@ use Rattle.contactupdate.proofs.marks.mark_table.Statement.{statement}
 use Rattle.contactupdate.proofs.marks.mark_table.Tie as tie
 
 abbrev Inv-loop : tie.InvT-loop
-Inv-loop table count held₀ i₀ held i = (i ≤ count) × (length held ≡ 54000) × (marked (drop i (contactsOf count table)) held ≡ marked (contactsOf count table) held₀)
+Inv-loop table count held₀ i₀ held i = (i ≤ count) × (length held ≡ 54000) × (keysMarked (drop i (contactsOf count table)) held ≡ keysMarked (contactsOf count table) held₀)
 
 abbrev μ-loop : tie.MeasureT-loop
 μ-loop table count held₀ i₀ held i = count - i
