@@ -11,7 +11,7 @@ use lib.ListN.{length, take, drop}
 use Rattle.text.specs.Characters.{space, zeroDigit, isDigit}
 use Rattle.text.specs.Fields.{columns, isBlank, isZero, allDigits, number}
 use Rattle.text.specs.Blocks.{blocks, joined, over}
-use Rattle.text.proofs.BlocksLaws.{holds-over, blocks-snoc, kept-further}
+use Rattle.text.proofs.BlocksLaws.{map-snoc, holds-over, blocks-snoc, kept-further}
 use Rattle.text.proofs.FieldsLaws.{and-left, and-right, every-columns}
 use Rattle.text.proofs.ColumnsLaws.{Put, put, length-written, columns-written, isFree, columns-free, AllFit, columns-of-columns}
 use Rattle.layout.specs.Key.{isSoundKey}
@@ -29,10 +29,6 @@ use Rattle.addcents.specs.declared.convert.CentsAdded.the-variants.{Done
 pub zeroed-none : (m : List ℕ) → Zeroed m 0 m
 unfolding blocks
 zeroed-none m = record { rows-are = refl; rest-kept = refl; same-length = refl }
-
-map-snoc : (f : List ℕ → List ℕ) (xs : List (List ℕ)) (x : List ℕ) → map f (xs ++ x ∷ []) ≡ map f xs ++ f x ∷ []
-map-snoc f [] x = refl
-map-snoc f (y ∷ xs) x = rw (map-snoc f xs x)
 
 pub zeroed-next : (m₀ m after : List ℕ) (i : ℕ) → i * 200 + 200 ≤ length m₀ → Zeroed m₀ i m
     → RowPut m i (withZeroCents (take 200 (drop (i * 200) m))) after → Zeroed m₀ (i + 1) after

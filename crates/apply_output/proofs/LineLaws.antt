@@ -6,6 +6,7 @@ use native.Mathlib.Numerals.{add-one}
 use native.Mathlib.Omega.{arith}
 use lib.ListN.{length, getD, take, drop, set, length-append, length-take, take-append-drop}
 use lib.Seq.{take-suc, take-suc-set, take-take, drop-drop, drop-set-lt}
+use Rattle.text.proofs.BlocksLaws.{map-snoc}
 use Rattle.text.specs.Blocks.{over, spliced}
 use Rattle.text.proofs.SplicedLaws.{take-through, drop-spliced}
 use Rattle.apply_output.specs.Ascii.{asciiLetter}
@@ -19,10 +20,6 @@ control-state batch at e = rw e (sym (take-take 2 245 (drop (detailCount batch *
 
 pub length-two : (s : List ℕ) → length (take 2 s) ≤ 2
 length-two s = simp length-take (omega arith)
-
-map-snoc : (f : ℕ → ℕ) (s : List ℕ) (b : ℕ) → map f (s ++ (b ∷ [])) ≡ map f s ++ (f b ∷ [])
-map-snoc f [] b = refl
-map-snoc f (x ∷ s) b = ap (λ (z : List ℕ). f x ∷ z) (map-snoc f s b)
 
 -- one letter more
 pub letters-next : (out state : List ℕ) (i b : ℕ) → i < length out → i < length state → take i out ≡ letters (take i state)

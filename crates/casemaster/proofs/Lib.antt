@@ -1,5 +1,6 @@
 pub mod HalvingLaws
 pub mod MovedLaws
+pub mod PassLaws
 pub mod RefusalsLaws
 pub mod RowsLaws
 pub mod SearchLaws

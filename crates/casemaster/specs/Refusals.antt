@@ -1,4 +1,5 @@
--- Document 01, "Applying a batch": the refusals 3 and 4, which every call over a master begins with. Assumes nothing.
+-- Document 01, "Applying a batch", with document 02, item 6 (cents): the refusals 3 and 4, which every call over a master begins with.
+-- Assumes nothing.
 use Prim.Native.Nat.{ℕ, _/_, _%_}
 use mathlib.Core.List.{List}
 use mathlib.Core.Bool.{Bool, not, cond, _||_}

@@ -1,16 +1,18 @@
 // A master: rows one behind the other, and a tail that is kept.
 use crate::row;
 use crate::row::Form;
+use layout::key;
+use layout::states;
 use text::byte_order;
 use text::fields;
+use text::words;
 ghost use mathlib.Core.Path.{_≡_};
 ghost use Prim.Native.Nat.{_+_, _*_, _≤_};
 ghost use lib.ListN.{length, take, drop};
 ghost use Rattle.text.specs.Blocks.{spliced};
-ghost use Rattle.casemaster.specs.Forms.{isSoundIn, areSoundIn};
+ghost use Rattle.casemaster.specs.Forms.{areSoundIn};
 ghost use Rattle.casemaster.specs.Master.{rowsOf};
 ghost use Rattle.casemaster.specs.Search.{Pulled, RowPut, Raised};
-ghost use Rattle.text.specs.Fields.{every};
 
 pub const ROW_WIDTH: usize = 200;
 
@@ -73,38 +75,36 @@ pub fn shift_rows(m: &mut [u8], n: usize, by: usize)
     }
 }
 
-// Whether each of the first n rows is sound.
-fn all_sound(m: &[u8], n: usize, form: Form) -> bool
-    requires { ⌜ n * 200 ≤ length (now m) ⌝ }
-    ensures { λ r. ⌜ r ≡ every (isSoundIn form) (rowsOf n (now (m .entry))) ⌝ }
-{
-    if n < 1 {
-        return true;
-    }
-    if !row::is_sound_row(&m[0..ROW_WIDTH], form) {
-        return false;
-    }
-    let mut i: usize = 1;
-    while i < n {
-        let before = (i - 1) * ROW_WIDTH;
-        let at = i * ROW_WIDTH;
-        let end = at + ROW_WIDTH;
-        if !row::is_sound_row_after(&m[before..at], &m[at..end], form) {
-            return false;
-        }
-        i += 1;
-    }
-    true
-}
-
-// Whether the first n rows are sound and in strictly rising order of key.
+// Whether the first n rows are sound and in strictly rising order of key, in one pass. The two numbers of a row's key are read when it is
+// compared with the one before, and again serve for its own soundness.
 pub fn are_sound_rows(m: &[u8], n: usize, form: Form) -> bool
     requires { ⌜ n * 200 ≤ length (now m) ⌝ }
     ensures { λ r. ⌜ r ≡ areSoundIn form (rowsOf n (now (m .entry))) ⌝ }
 {
-    if all_sound(m, n, form) {
-        byte_order::is_rising(m, n, ROW_WIDTH, 12)
-    } else {
-        false
+    if n < 1 {
+        return true;
+    }
+    let mut known = states::FIRST_CODE;
+    let mut front = words::eight_number(m, 0);
+    let mut back = words::four_number(m, 8);
+    let mut i: usize = 0;
+    loop {
+        let at = i * ROW_WIDTH;
+        let end = at + ROW_WIDTH;
+        if !row::is_sound_row_in(&m[at..end], known, front, back, form) {
+            return false;
+        }
+        i += 1;
+        if i == n {
+            return true;
+        }
+        let next_front = words::eight_number(m, end);
+        let next_back = words::four_number(m, end + 8);
+        if !byte_order::is_twelve_below_in(front, back, next_front, next_back) {
+            return false;
+        }
+        known = key::state_in(front);
+        front = next_front;
+        back = next_back;
     }
 }

@@ -1,11 +1,17 @@
 // A case's row: its columns and its soundness.
 use layout::key;
 use layout::name;
+use layout::states;
 use text::fields;
 use text::fields::Columns;
+use text::words;
 ghost use mathlib.Core.Path.{_≡_};
 ghost use mathlib.Core.Bool.{true};
-ghost use lib.ListN.{length};
+ghost use Prim.Native.Nat.{_<_};
+ghost use lib.ListN.{length, take, drop};
+ghost use Rattle.text.specs.Fields.{columns, isZero, allDigits};
+ghost use Rattle.text.specs.ByteNumbers.{bytesNumber};
+ghost use Rattle.layout.specs.StateCodes.{isStateCode};
 ghost use Rattle.casemaster.specs.Row.{isLive, isDeletedAt, areFieldsSound, isEndSound, isOldEndSound};
 ghost use Rattle.casemaster.specs.Forms.{isEndSoundIn, isSoundIn};
 
@@ -167,17 +173,37 @@ fn is_deleted_at(row: &[u8], zero: bool) -> bool
     }
 }
 
+// Whether the arrearage, columns 66–73, is digits.
+fn has_arrearage_digits(row: &[u8]) -> bool
+    requires { ⌜ length (now row) ≡ 200 ⌝ }
+    ensures { λ r. ⌜ r ≡ allDigits (columns 66 73 (now (row .entry))) ⌝ }
+{
+    words::are_eight_digits(words::eight_number(row, 65))
+}
+
+// Whether it is zero.
+fn has_zero_arrearage(row: &[u8]) -> bool
+    requires { ⌜ length (now row) ≡ 200 ⌝ }
+    ensures { λ r. ⌜ r ≡ isZero (columns 66 73 (now (row .entry))) ⌝ }
+{
+    words::are_eight_zeros(words::eight_number(row, 65))
+}
+
 // Whether the fields between the key and the status hold what a sound row's hold.
 fn are_fields_sound(row: &[u8]) -> bool
     requires { ⌜ length (now row) ≡ 200 ⌝ }
     ensures { λ r. ⌜ r ≡ areFieldsSound (now (row .entry)) ⌝ }
 {
-    let local = fields::all_digits(fields::field(row, LOCAL_CODE));
-    let arrearage = fields::all_digits(fields::field(row, ARREARAGE));
-    let payment = fields::all_digits(fields::field(row, PAYMENT_FIELDS));
-    let name = name::is_name(fields::field(row, NAME_FRONT));
-    let letter = name::has_letter(fields::field(row, NAME_FRONT));
-    local & (arrearage & (payment & (name & letter)))
+    if !fields::all_digits(fields::field(row, LOCAL_CODE)) {
+        return false;
+    }
+    if !has_arrearage_digits(row) {
+        return false;
+    }
+    if !fields::all_digits(fields::field(row, PAYMENT_FIELDS)) {
+        return false;
+    }
+    name::is_lettered_name(fields::field(row, NAME_FRONT))
 }
 
 // Whether the status and what stands behind it are a sound row's.
@@ -185,7 +211,7 @@ fn is_end_sound(row: &[u8]) -> bool
     requires { ⌜ length (now row) ≡ 200 ⌝ }
     ensures { λ r. ⌜ r ≡ isEndSound (now (row .entry)) ⌝ }
 {
-    let dollars = fields::is_zero(fields::field(row, ARREARAGE));
+    let dollars = has_zero_arrearage(row);
     let cents = fields::is_zero(fields::field(row, CENTS));
     let status = is_deleted_at(row, dollars & cents);
     let digits = fields::all_digits(fields::field(row, CENTS));
@@ -198,7 +224,7 @@ fn is_old_end_sound(row: &[u8]) -> bool
     requires { ⌜ length (now row) ≡ 200 ⌝ }
     ensures { λ r. ⌜ r ≡ isOldEndSound (now (row .entry)) ⌝ }
 {
-    let status = is_deleted_at(row, fields::is_zero(fields::field(row, ARREARAGE)));
+    let status = is_deleted_at(row, has_zero_arrearage(row));
     let filler = fields::is_blank(fields::field(row, OLD_FILLER));
     status & filler
 }
@@ -214,21 +240,28 @@ fn is_end_sound_in(row: &[u8], form: Form) -> bool
     }
 }
 
+// Whether a row is sound, given the numbers of its key's first eight bytes and last four; a state of the table whose number is known
+// already is not looked up again.
+pub fn is_sound_row_in(row: &[u8], known: u16, front: u64, back: u64, form: Form) -> bool
+    requires { ⌜ (length (now row) ≡ 200) × (isStateCode known ≡ true) × (back < 4294967296) ⌝ }
+    requires { ⌜ (front ≡ bytesNumber (take 8 (now row))) × (back ≡ bytesNumber (take 4 (drop 8 (now row)))) ⌝ }
+    ensures { λ r. ⌜ r ≡ isSoundIn form (now (row .entry)) ⌝ }
+{
+    if !key::is_sound_key_in(known, front, back) {
+        return false;
+    }
+    if !are_fields_sound(row) {
+        return false;
+    }
+    is_end_sound_in(row, form)
+}
+
 // Whether a row is sound.
 pub fn is_sound_row(row: &[u8], form: Form) -> bool
     requires { ⌜ length (now row) ≡ 200 ⌝ }
     ensures { λ r. ⌜ r ≡ isSoundIn form (now (row .entry)) ⌝ }
 {
-    let key = key::is_sound_key(fields::field(row, KEY));
-    key & (are_fields_sound(row) & is_end_sound_in(row, form))
-}
-
-// Whether a row is sound, where the one before it is.
-pub fn is_sound_row_after(before: &[u8], row: &[u8], form: Form) -> bool
-    requires { ⌜ (length (now before) ≡ 200) × (isSoundIn form (now before) ≡ true) × (length (now row) ≡ 200) ⌝ }
-    ensures { λ r. ⌜ r ≡ isSoundIn form (now (row .entry)) ⌝ }
-{
-    let known = fields::field(before, KEY);
-    let key = key::is_sound_key_after(known, fields::field(row, KEY));
-    key & (are_fields_sound(row) & is_end_sound_in(row, form))
+    let front = words::eight_number(row, 0);
+    let back = words::four_number(row, 8);
+    is_sound_row_in(row, states::FIRST_CODE, front, back, form)
 }

@@ -5,6 +5,7 @@ use mathlib.Core.List.{List, [], _∷_, _++_}
 use Prim.Native.Nat.{ℕ, suc, _+_, _-_, _≤_, _<_}
 use native.Mathlib.Numerals.{add-one}
 use native.Mathlib.Omega.{arith}
+use borrow.Author.Tests.{ne-eqb}
 use lib.ListN.{length, getD, take, drop, length-drop, drop-of-length-le}
 use lib.Seq.{drop-cons, take-suc, take-all, getD-drop}
 use Rattle.text.specs.Characters.{isDigit, isLetter}
@@ -21,6 +22,18 @@ pub starts-short : (text s : List ℕ) → length s < length text → startsWith
 unfolding startsWith
 starts-short text s h =
     rw (take-all (length text) s (omega arith)) (same-lengths s text (λ e. omega arith))
+
+pub starts-none : (text s : List ℕ) → length text ≡ 0 → startsWith text s ≡ true
+unfolding startsWith sameBytes
+starts-none [] s h = refl
+starts-none (x ∷ text) s h = absurd (omega arith)
+
+-- another first byte
+pub starts-other : (text s : List ℕ) → (length text ≡ 0 → ⊥) → (getD s 0 0 ≡ getD text 0 0 → ⊥) → startsWith text s ≡ false
+unfolding startsWith sameBytes
+starts-other [] s h k = absurd (h refl)
+starts-other (x ∷ text) [] h k = refl
+starts-other (x ∷ text) (y ∷ s) h k = rw (ne-eqb y x k)
 
 module _ (text s : List ℕ) (i : ℕ) where
   pub contains-pass : i < length s → startsWith text (drop i s) ≡ true → contains text (drop i s) ≡ true

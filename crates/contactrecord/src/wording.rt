@@ -2,7 +2,8 @@
 use text::characters;
 use text::fields;
 ghost use mathlib.Core.Path.{_≡_};
-ghost use mathlib.Core.Bool.{cond};
+ghost use mathlib.Core.Bool.{cond, not, _&&_};
+ghost use Rattle.text.specs.Fields.{sameBytes};
 ghost use Prim.Native.Nat.{_<_};
 ghost use lib.ListN.{length};
 ghost use Rattle.contactrecord.specs.Wording.{startsWith, contains, hasRun};
@@ -13,6 +14,12 @@ fn starts_with(s: &[u8], text: &[u8]) -> bool
 {
     let n = text.len();
     if s.len() < n {
+        return false;
+    }
+    if n == 0 {
+        return true;
+    }
+    if s[0] != text[0] {
         return false;
     }
     fields::same(&s[0..n], text)
@@ -39,6 +46,16 @@ fn run_start(letter: bool, start: usize, next: usize) -> usize
     if letter { start } else { next }
 }
 
+// Whether the word is a run of letters that ends before a byte: where that is a letter too nothing is compared.
+fn ends_run(word: &[u8], run: &[u8], letter: bool) -> bool
+    ensures { λ r. ⌜ r ≡ (sameBytes (now (word .entry)) (now (run .entry)) && not letter) ⌝ }
+{
+    if letter {
+        return false;
+    }
+    fields::same(word, run)
+}
+
 // Whether the word, which isn't empty, is a whole run of letters of s.
 pub fn has_run(s: &[u8], word: &[u8]) -> bool
     requires { ⌜ 0 < length (now word) ⌝ }
@@ -48,8 +65,7 @@ pub fn has_run(s: &[u8], word: &[u8]) -> bool
     let mut i: usize = 0;
     while i < s.len() {
         let letter = characters::is_letter(s[i]);
-        let ends = fields::same(word, &s[start..i]) & !letter;
-        if ends {
+        if ends_run(word, &s[start..i], letter) {
             return true;
         }
         i += 1;

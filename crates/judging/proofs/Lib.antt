@@ -1,4 +1,5 @@
 pub mod CodeSums
+pub mod FillerLaws
 pub mod HeldLaws
 pub mod JudgeLaws
 pub mod NamesLaws

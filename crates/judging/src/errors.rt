@@ -14,10 +14,12 @@ use layout::states;
 use layout::zip;
 use text::characters;
 use text::fields;
+use text::words;
 ghost use mathlib.Core.Path.{_≡_};
 ghost use mathlib.Core.Bool.{_&&_};
+ghost use lib.Dec.{ltb};
 ghost use Rattle.text.specs.Characters;
-ghost use Rattle.text.specs.Fields.{columns};
+ghost use Rattle.text.specs.Fields.{columns, areDigits, number};
 ghost use Rattle.layout.specs.Exclusions.{exclusionsOf};
 ghost use Rattle.layout.specs.Record.{isType};
 ghost use Rattle.judging.specs.Errors.{error01, error02, error03, error04, error05, error06, error07, error08, error09, isLocalCode, error10, error11, error12, error13, error14, wrongAddress, wrongPart, error15, isNone, error16, error17, error18};
@@ -80,13 +82,24 @@ pub fn has_07(rec: &[u8; 245]) -> bool
     ((t == record::ADD) | (t == record::MODIFY) | (t == record::PAYMENT)) & !digits
 }
 
+// Whether an amount is eight digits, below 25.
+fn is_below_25(amount: &[u8]) -> bool
+    ensures { λ r. ⌜ r ≡ (areDigits 8 (now (amount .entry)) && ltb (number (now (amount .entry))) 25) ⌝ }
+{
+    if fields::are_digits(amount, 8) {
+        fields::number_of(amount) < 25
+    } else {
+        false
+    }
+}
+
 // Error 08 (A): digits, below 25.
 pub fn has_08(rec: &[u8; 245]) -> bool
     ensures { λ r. ⌜ r ≡ error08 (now (rec .entry)) ⌝ }
 {
-    let amount = fields::field(rec, chart_a1::ARREARAGE);
-    if fields::are_digits(amount, 8) {
-        (rec[72] == record::ADD) & (fields::number_of(amount) < 25)
+    let t = rec[72];
+    if t == record::ADD {
+        is_below_25(fields::field(rec, chart_a1::ARREARAGE))
     } else {
         false
     }
@@ -123,7 +136,12 @@ pub fn has_10(rec: &[u8; 245], list: &[u8]) -> bool
 pub fn has_11(rec: &[u8; 245]) -> bool
     ensures { λ r. ⌜ r ≡ error11 (now (rec .entry)) ⌝ }
 {
-    (rec[72] == record::CASE_ID) & fields::is_blank(fields::field(rec, chart_a1::CASE_ID))
+    let t = rec[72];
+    if t == record::CASE_ID {
+        fields::is_blank(fields::field(rec, chart_a1::CASE_ID))
+    } else {
+        false
+    }
 }
 
 // Error 12 (T): the transfer state.
@@ -250,9 +268,11 @@ pub fn has_17(rec: &[u8; 245], held: bool, row: &[u8; 200], given: bool) -> bool
     !((t == record::ADD) | (t == record::RENAME)) & (held & !same & !given)
 }
 
-// Error 18: the filler.
+// Error 18: the filler, columns 228–244, as eight, eight and one.
 pub fn has_18(rec: &[u8; 245]) -> bool
     ensures { λ r. ⌜ r ≡ error18 (now (rec .entry)) ⌝ }
 {
-    !fields::is_blank(fields::field(rec, chart_a1::FILLER))
+    let front = words::are_eight_spaces(rec, 227);
+    let back = words::are_eight_spaces(rec, 235);
+    !(front & (back & (rec[243] == 0x40)))
 }

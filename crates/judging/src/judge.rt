@@ -124,13 +124,13 @@ pub fn judge(
         IsJudged (settingOf (now (state .entry)) year (now (list .entry)) names) (rowIf held (now (row .entry))) (now (rec .entry)) r) ⌝ }
 {
     let f = judge_first(rec, state);
-    let b = judge_last(f, rec, held, row, given);
     let known = !f.kind;
-    let set = set_first(f)
+    let alone = set_first(f)
         + set_06_to_08(rec, known)
         + set_10_to_13(rec, year, list, known)
-        + set_14_to_16(rec, known)
-        + set_last(b);
+        + set_14_to_16(rec, known);
+    let b = judge_last(f, rec, held, row, given);
+    let set = alone + set_last(b);
     Judged {
         set,
         named: b.named,

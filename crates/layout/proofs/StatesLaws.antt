@@ -193,3 +193,8 @@ state-wide state t = go (eqb (length state) 2) refl
         let f : isState state ≡ false = state-other state (eqb-false (length state) 2 e) in
         let z : _≡_ {A = ℕ} 0 1 = cc in
         absurd (omega arith)
+
+-- the first code of the table is a state's
+pub first-code : isStateCode 0xC1D2 ≡ true
+unfolding isStateCode stateCodes stateTable
+first-code = refl

@@ -1,11 +1,13 @@
 // Error 16: exclusion words, and the set that they name.
 use text::fields;
 ghost use mathlib.Core.Path.{_≡_};
-ghost use mathlib.Core.Bool.{true, false, cond};
-ghost use mathlib.Core.List.{[], _∷_};
-ghost use Prim.Native.Nat.{_<_, _≤_, _-_, _^_};
-ghost use lib.ListN.{length, getD, take, drop};
-ghost use Rattle.text.specs.Fields.{isBlank, spaces};
+ghost use mathlib.Core.Bool.{cond, _&&_};
+ghost use mathlib.Core.List.{[]};
+ghost use Prim.Native.Nat.{ℕ, _+_, _*_, _<_, _≤_};
+ghost use lib.Dec.{leb};
+ghost use lib.ListN.{length, getD, take};
+ghost use Rattle.text.specs.Characters.{space};
+ghost use Rattle.text.specs.Fields.{spaces};
 ghost use Rattle.layout.specs.Exclusions.{exclusionNames, isSeparator, wordsFrom, bitsNamed, exclusionsOf, setRead, exclusionColumns};
 
 // What an exclusion field names: a set, ADM in bit 0, or failure at a word that is none of the eight.
@@ -29,20 +31,18 @@ const NAMES: [[u8; 3]; 8] = [
 // What each puts into the set: its own bit; ADM those of RET, VEN and SAL too.
 const BITS: [u8; 8] = [15, 2, 4, 8, 16, 32, 64, 128];
 
-// The name at place n.
-fn name_at(n: usize) -> [u8; 3]
-    requires { ⌜ n < 8 ⌝ }
-    ensures { λ r. ⌜ r ≡ getD exclusionNames n [] ⌝ }
+// The names.
+fn names() -> [[u8; 3]; 8]
+    ensures { λ r. ⌜ r ≡ exclusionNames ⌝ }
 {
-    NAMES[n]
+    NAMES
 }
 
-// What the name at place n puts into the set.
-fn bits_at(n: usize) -> u8
-    requires { ⌜ n < 8 ⌝ }
-    ensures { λ r. ⌜ r ≡ bitsNamed n ⌝ }
+// What each name puts into the set.
+fn name_bits() -> [u8; 8]
+    ensures { λ r. ⌜ ((n : ℕ) → n < 8 → getD r n 0 ≡ bitsNamed n) ⌝ }
 {
-    BITS[n]
+    BITS
 }
 
 // Whether a byte parts words.
@@ -52,52 +52,92 @@ fn is_separator(b: u8) -> bool
     b == 0x6B || b == 0x40
 }
 
-// The end of the word that starts at `at`.
-fn word_end(s: &[u8], at: usize) -> usize
-    requires { ⌜ (at < length (now s)) × (isSeparator (getD (now s) at 0) ≡ false) ⌝ }
-    ensures { λ r. ⌜ (at < r) × (r ≤ length (now (s .entry))) × (wordsFrom [] (drop at (now (s .entry))) ≡ take (r - at) (drop at (now (s .entry))) ∷ wordsFrom [] (drop r (now (s .entry)))) ⌝ }
+// Three bytes as a number, the first the highest.
+fn number_of(a: u8, b: u8, c: u8) -> u32
+    ensures { λ r. ⌜ r ≡ (a * 256 + b) * 256 + c ⌝ }
 {
-    let mut i = at + 1;
-    while i < s.len() {
-        let b = s[i];
-        if is_separator(b) {
-            return i;
-        }
-        i += 1;
-    }
-    i
+    ((a as u32) * 256 + (b as u32)) * 256 + (c as u32)
 }
 
-// Whether the byte behind `at` is a space, and all from `at` on are: what mostly stands behind the last word.
-fn ends_blank(s: &[u8], at: usize) -> bool
+// A name as a number.
+fn name_number(name: [u8; 3]) -> u32
+    ensures { λ r. ⌜ r ≡ (getD name 0 0 * 256 + getD name 1 0) * 256 + getD name 2 0 ⌝ }
+{
+    number_of(name[0], name[1], name[2])
+}
+
+// Whether a word can end before the byte at `end`: a separator, or the field's end.
+fn ends_word(s: &[u8], end: usize) -> bool
+    ensures { λ r. ⌜ r ≡ (leb end (length (now (s .entry))) && isSeparator (getD (now (s .entry)) end space)) ⌝ }
+{
+    if s.len() < end {
+        return false;
+    }
+    if s.len() == end {
+        return true;
+    }
+    let b = s[end];
+    is_separator(b)
+}
+
+// The three bytes from `at` on as a number where a word can end behind them; else 0, which is no name's number.
+fn word_number(s: &[u8], at: usize) -> u32
     requires { ⌜ at < length (now s) ⌝ }
-    ensures { λ r. ⌜ (r ≡ true → isBlank (drop at (now (s .entry))) ≡ true) ⌝ }
+    ensures { λ r. ⌜ r ≡ cond (leb (at + 3) (length (now (s .entry))) && isSeparator (getD (now (s .entry)) (at + 3) space)) ((getD (now (s .entry)) at 0 * 256 + getD (now (s .entry)) (at + 1) 0) * 256 + getD (now (s .entry)) (at + 2) 0) 0 ⌝ }
 {
-    let next = at + 1;
-    if s.len() <= next {
-        return false;
+    if !ends_word(s, at + 3) {
+        return 0;
     }
-    if s[next] != 0x40 {
-        return false;
-    }
-    fields::is_blank(&s[at..])
+    number_of(s[at], s[at + 1], s[at + 2])
 }
 
-// The place behind the separator at `at`, or the end where only spaces are left.
-fn past_separator(s: &[u8], at: usize) -> usize
-    requires { ⌜ (at < length (now s)) × (isSeparator (getD (now s) at 0) ≡ true) ⌝ }
-    ensures { λ r. ⌜ (at < r) × (r ≤ length (now (s .entry))) × (wordsFrom [] (drop at (now (s .entry))) ≡ wordsFrom [] (drop r (now (s .entry)))) ⌝ }
+// An end of the field behind which there are only spaces, eight columns at a time.
+fn words_end(s: &[u8]) -> usize
+    ensures { λ r. ⌜ (r ≤ length (now (s .entry))) × (wordsFrom [] (take r (now (s .entry))) ≡ wordsFrom [] (now (s .entry))) ⌝ }
 {
-    if ends_blank(s, at) {
-        return s.len();
+    let mut end = s.len();
+    while 8 <= end {
+        let start = end - 8;
+        if !fields::is_blank(&s[start..end]) {
+            return end;
+        }
+        end = start;
     }
-    at + 1
+    end
 }
 
-// Reads the exclusion words of a field: their set, or failure at the first word that is none of the eight.
-pub fn read_exclusions(s: &[u8]) -> Exclusions
+// The field without its last four columns where they are spaces.
+fn without_four(s: &[u8]) -> &[u8]
+    ensures { λ r. ⌜ wordsFrom [] (now r) ≡ wordsFrom [] (now (s .entry)) ⌝ }
+{
+    if s.len() < 4 {
+        return s;
+    }
+    let end = s.len() - 4;
+    if fields::is_blank(&s[end..]) {
+        return &s[0..end];
+    }
+    s
+}
+
+// A field of forty columns without most of the spaces behind its words. The width is known here, so that a few comparisons do.
+fn words_part(s: &[u8]) -> &[u8]
+    ensures { λ r. ⌜ wordsFrom [] (now r) ≡ wordsFrom [] (now (s .entry)) ⌝ }
+{
+    if s.len() != 40 {
+        return s;
+    }
+    let end = words_end(s);
+    without_four(&s[0..end])
+}
+
+// Reads the exclusion words: their set, or failure at the first word that is none of the eight. A name and the separator behind it
+// are four columns.
+fn read_words(s: &[u8]) -> Exclusions
     ensures { λ r. ⌜ setRead r ≡ exclusionsOf (now (s .entry)) ⌝ }
 {
+    let table = names();
+    let bits = name_bits();
     let mut set: u8 = 0;
     let mut at: usize = 0;
     'words: loop {
@@ -106,19 +146,19 @@ pub fn read_exclusions(s: &[u8]) -> Exclusions
         }
         let b = s[at];
         if is_separator(b) {
-            at = past_separator(s, at);
+            at += 1;
             continue 'words;
         }
-        let end = word_end(s, at);
+        let word = word_number(s, at);
         let mut n: usize = 0;
         'names: loop {
             if n == 8 {
                 break 'words Exclusions::Failure;
             }
-            let name = name_at(n);
-            if fields::same(&s[at..end], &name) {
-                set = set | bits_at(n);
-                at = end;
+            let name = name_number(table[n]);
+            if name == word {
+                set = set | bits[n];
+                at += 4;
                 continue 'words;
             }
             n += 1;
@@ -126,13 +166,19 @@ pub fn read_exclusions(s: &[u8]) -> Exclusions
     }
 }
 
-// The three columns of the name at place n: its letters where its bit is set, else spaces.
-fn name_columns(n: usize, on: bool) -> [u8; 3]
-    requires { ⌜ n < 8 ⌝ }
-    ensures { λ r. ⌜ r ≡ cond on (getD exclusionNames n []) (spaces 3) ⌝ }
+// Reads an exclusion field: the set of its words, or failure.
+pub fn read_exclusions(s: &[u8]) -> Exclusions
+    ensures { λ r. ⌜ setRead r ≡ exclusionsOf (now (s .entry)) ⌝ }
+{
+    read_words(words_part(s))
+}
+
+// The three columns of a name: its letters where its bit is set, else spaces.
+fn name_columns(name: [u8; 3], on: bool) -> [u8; 3]
+    ensures { λ r. ⌜ r ≡ cond on name (spaces 3) ⌝ }
 {
     if on {
-        return name_at(n);
+        return name;
     }
     [0x40; 3]
 }
@@ -142,10 +188,14 @@ pub fn exclusion_columns(set: u8) -> [u8; 24]
     ensures { λ r. ⌜ r ≡ exclusionColumns set ⌝ }
 {
     let mut out = [0x40u8; 24];
+    if set == 0 {
+        return out;
+    }
+    let table = names();
     let mut left = set;
     let mut n: usize = 0;
     while n < 8 {
-        let name = name_columns(n, left % 2 == 1);
+        let name = name_columns(table[n], left % 2 == 1);
         fields::copy_in(&mut out, n * 3, &name);
         left = left / 2;
         n += 1;

@@ -1,5 +1,4 @@
 // The state table and membership in it.
-use text::fields;
 ghost use mathlib.Core.Path.{_≡_};
 ghost use mathlib.Core.Bool.{true, cond};
 ghost use Prim.Native.Nat.{_≤_, _<_};
@@ -110,15 +109,18 @@ pub fn is_state(s: &[u8]) -> bool
     is_code((s[0] as u16) * 256 + (s[1] as u16))
 }
 
-// Whether s is a code of the state table, where another is: the same is not looked up again.
-pub fn is_state_after(before: &[u8], s: &[u8]) -> bool
-    requires { ⌜ isState (now before) ≡ true ⌝ }
-    ensures { λ r. ⌜ r ≡ isState (now (s .entry)) ⌝ }
+// The number of the first state of the table.
+pub const FIRST_CODE: u16 = 0xC1D2;
+
+// Whether a number is a state's, where another is: the same is not looked up again.
+pub fn is_code_after(known: u16, x: u16) -> bool
+    requires { ⌜ isStateCode known ≡ true ⌝ }
+    ensures { λ r. ⌜ r ≡ isStateCode x ⌝ }
 {
-    if fields::same(before, s) {
+    if x == known {
         return true;
     }
-    is_state(s)
+    is_code(x)
 }
 
 // One where it holds, else nothing.

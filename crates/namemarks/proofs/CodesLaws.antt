@@ -10,11 +10,11 @@ use lib.ListN.{length, getD, take, drop, length-drop}
 use lib.Seq.{drop-drop, length-take-le}
 use borrow.Author.Tests.{eqb-true, eqb-false, eq-eqb, ne-eqb}
 use Rattle.text.specs.Fields.{sameBytes}
-use Rattle.text.specs.ByteNumbers.{bytesNumber}
+use Rattle.text.specs.ByteNumbers.{AreBytes, bytesNumber}
 use Rattle.text.proofs.BoolLaws.{either}
 use Rattle.text.proofs.FieldsLaws.{part-of-front}
 use Rattle.text.proofs.SameLaws.{eq-same, same-eq}
-use Rattle.text.proofs.ByteNumberLaws.{AreBytes, bytes-take, bytes-drop, four-number, number-same}
+use Rattle.text.proofs.ByteNumberLaws.{bytes-take, bytes-drop, four-number, number-same}
 use Rattle.layout.specs.Batch.{recordAt}
 use Rattle.judging.specs.Names.{givesName}
 use Rattle.judging.proofs.NamesLaws.{given-none, given-next}

@@ -12,7 +12,7 @@ use lib.Seq.{take-suc, getD-drop, ext-getD}
 use borrow.Author.Tests.{eq-eqb, ne-eqb}
 use Rattle.text.specs.Characters.{B}
 use Rattle.text.specs.Blocks.{blocks}
-use Rattle.text.proofs.BlocksLaws.{length-blocks, blocks-get}
+use Rattle.text.proofs.BlocksLaws.{map-snoc, length-blocks, blocks-get}
 use Rattle.layout.specs.Record.{recordKey, isType}
 use Rattle.layout.specs.Batch.{recordAt}
 use Rattle.judging.specs.Errors.{isGiven}
@@ -114,11 +114,7 @@ module _ {state batch : List ℕ} {d own : ℕ} {numbers₀ : List ℕ} (o : Ord
     from-numbers (suc n) h =
         let w : n < length (drop p numbers) = rw length-drop (omega (arith, o .numbered, g .same .len)) in
         rw (from-numbers n (omega arith), ← Keys.record-is o (g .same) (p + n) (omega arith), take-suc (drop p numbers) n 0 w, getD-drop p numbers n 0)
-        (sym (map-snoc (take n (drop p numbers)) (getD numbers (p + n) 0)))
-      where
-        map-snoc : (s : List ℕ) (x : ℕ) → map (recordOf batch) (s ++ (x ∷ [])) ≡ map (recordOf batch) s ++ (recordOf batch x ∷ [])
-        map-snoc [] x = refl
-        map-snoc (y ∷ s) x = rw (map-snoc s x)
+        (sym (map-snoc (recordOf batch) (take n (drop p numbers)) (getD numbers (p + n) 0)))
 
     -- all details of the key
     under-part : detailsUnder (keyIn batch numbers p) (blocks 245 d batch) ≡ map (recordOf batch) (part p e numbers)

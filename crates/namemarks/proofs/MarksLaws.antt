@@ -10,7 +10,7 @@ use lib.Seq.{length-take-le, getD-take, getD-drop, getD-append-add}
 use borrow.Rule.Slice.PartMut.{putMid, postOf, same-len-mid, put-same, take-put, drop-put}
 use Rattle.text.specs.Fields.{any}
 use Rattle.text.proofs.BoolLaws.{or-left, or-right}
-use Rattle.text.proofs.ByteNumberLaws.{AreBytes}
+use Rattle.text.specs.ByteNumbers.{AreBytes}
 use Rattle.judging.specs.Names.{givesName}
 use Rattle.judging.proofs.NamesLaws.{given-none, given-next}
 use Rattle.sorting.specs.Sorting.{sorted}

@@ -1,10 +1,11 @@
 -- Laws of reconciliation: the fields that make a REC and an RCT record, the records and the counts from any row on, and the buffer that
 -- the records are written to. Assumes nothing.
-use Prim.Native.Nat.{ℕ, _+_, _*_, _≤_, _<_}
+use Prim.Native.Nat.{ℕ, _+_, _-_, _*_, _≤_, _<_}
 use mathlib.Core.Path.{_≡_, refl, sym, ap, _∙_}
 use mathlib.Core.List.{List, [], _∷_, _++_, append-assoc, append-nil}
 use mathlib.Core.Bool.{Bool, true, false, cond, _&&_}
 use native.Mathlib.Omega.{arith}
+use borrow.Rule.Slice.PartMut.{putMid, post-is}
 use lib.Dec.{eqb, lit≤}
 use lib.ListN.{length, getD, take, drop, length-append, drop-of-length-le}
 use Rattle.text.specs.Characters.{A, N}
@@ -16,13 +17,19 @@ use Rattle.text.proofs.FieldsLaws.{one-column}
 use Rattle.text.proofs.NumberLaws.{length-digits}
 use Rattle.text.proofs.BlocksLaws.{blocks-next, length-blocks, holds-append}
 use Rattle.reconciliation.specs.Reconcile.{REC, RCT, isReported, recRecord, recRecords, reportedOf, rctRecord}
-use Rattle.text.proofs.ColumnsWritten.{written-none, written-field, written-columns, written-kept}
+use Rattle.text.proofs.ColumnsWritten.{written-none, written-field, written-columns, written-all}
+use Rattle.text.proofs.SplicedLaws.{take-through}
 use Rattle.text.proofs.HoldsLaws.{holds-kept, holds-then}
 
 -- ---- the records, field by field
 
-pub rec-filled : (row : List ℕ) → length row ≡ 200 → (names s1 s2 s3 s4 s5 s6 s7 s8 s9 s10 s11 : List ℕ) → length names ≡ 24
-    → s1 ≡ placed 1 3 REC (spaces 245)
+-- what is spliced in at the front stands there
+pub cut-front : (d s b : List ℕ) → b ≡ spliced d 0 s → take (length s - 0) b ≡ s
+cut-front d s b e = let z : length s - 0 ≡ length s = omega arith in rw (z, e) (take-through d 0 s (length s) (omega arith) (omega arith))
+
+pub rec-filled : (row s0 : List ℕ) → length row ≡ 200 → length s0 ≡ 245
+    → (names s1 s2 s3 s4 s5 s6 s7 s8 s9 s10 s11 s12 s13 : List ℕ) → length names ≡ 24
+    → s1 ≡ placed 1 3 REC s0
     → s2 ≡ placed 4 5 (columns 1 2 row) s1
     → s3 ≡ placed 6 8 (columns 13 15 row) s2
     → s4 ≡ placed 9 17 (columns 3 11 row) s3
@@ -32,24 +39,27 @@ pub rec-filled : (row : List ℕ) → length row ≡ 200 → (names s1 s2 s3 s4 
     → s8 ≡ placed 63 70 (columns 66 73 row) s7
     → s9 ≡ placed 71 71 (columns 12 12 row) s8
     → s10 ≡ placed 72 79 (columns 187 194 row) s9
+    → s11 ≡ placed 80 81 (spaces 2) s10
     → names ≡ exclusionColumns (getD row 194 0)
-    → s11 ≡ placed 82 105 names s10
-    → s11 ≡ recRecord row
+    → s12 ≡ placed 82 105 names s11
+    → s13 ≡ placed 106 245 (spaces 140) s12
+    → s13 ≡ recRecord row
 unfolding recRecord
-rec-filled row w names s1 s2 s3 s4 s5 s6 s7 s8 s9 s10 s11 wn e1 e2 e3 e4 e5 e6 e7 e8 e9 e10 en e11 =
-    let f1 = written-field (written-none (spaces 245)) 1 3 REC e1 refl refl (lit≤ tt) in
-    let f2 = written-columns f1 4 5 200 1 2 row e2 w refl in
-    let f3 = written-columns f2 6 8 200 13 15 row e3 w refl in
-    let f4 = written-columns f3 9 17 200 3 11 row e4 w refl in
-    let f5 = written-columns f4 18 32 200 16 30 row e5 w refl in
-    let f6 = written-columns f5 33 52 200 31 50 row e6 w refl in
-    let f7 = written-columns f6 53 62 200 51 60 row e7 w refl in
-    let f8 = written-columns f7 63 70 200 66 73 row e8 w refl in
-    let f9 = written-columns f8 71 71 200 12 12 row e9 w refl in
-    let f10 = written-columns f9 72 79 200 187 194 row e10 w refl in
-    let f11 = written-kept f10 80 81 refl (lit≤ tt) (lit≤ tt) in
-    let f12 = written-field f11 82 105 names e11 refl (omega arith) (lit≤ tt) in
-    f12 .is ∙ rw (en, one-column 195 row (lit≤ tt))
+rec-filled row s0 w w0 names s1 s2 s3 s4 s5 s6 s7 s8 s9 s10 s11 s12 s13 wn e1 e2 e3 e4 e5 e6 e7 e8 e9 e10 e11 en e12 e13 =
+    let f1 = written-field (written-none s0) 1 3 REC e1 refl refl (omega arith) in
+    let f2 = written-columns f1 4 5 200 1 2 row e2 w (rw w0) in
+    let f3 = written-columns f2 6 8 200 13 15 row e3 w (rw w0) in
+    let f4 = written-columns f3 9 17 200 3 11 row e4 w (rw w0) in
+    let f5 = written-columns f4 18 32 200 16 30 row e5 w (rw w0) in
+    let f6 = written-columns f5 33 52 200 31 50 row e6 w (rw w0) in
+    let f7 = written-columns f6 53 62 200 51 60 row e7 w (rw w0) in
+    let f8 = written-columns f7 63 70 200 66 73 row e8 w (rw w0) in
+    let f9 = written-columns f8 71 71 200 12 12 row e9 w (rw w0) in
+    let f10 = written-columns f9 72 79 200 187 194 row e10 w (rw w0) in
+    let f11 = written-field f10 80 81 (spaces 2) e11 refl refl (omega arith) in
+    let f12 = written-field f11 82 105 names e12 refl (omega arith) (omega arith) in
+    let f13 = written-field f12 106 245 (spaces 140) e13 refl refl (omega arith) in
+    written-all f13 (sym w0) ∙ rw (en, one-column 195 row (lit≤ tt))
 
 pub rct-filled : (state date : List ℕ) (tanf nonTanf total : ℕ) → length state ≡ 2 → length date ≡ 8
     → (s1 s2 s3 s4 s5 s6 : List ℕ)
@@ -133,6 +143,11 @@ module _ (state : List ℕ) where
 
 -- ---- the buffer
 
+-- a part put back
+put-spliced : (out rec : List ℕ) (at end : ℕ) → end ≡ at + length rec → putMid at (end - at) out rec ≡ spliced out at rec
+unfolding spliced
+put-spliced out rec at end e = rw (post-is at end out (omega arith), e)
+
 module _ (state : List ℕ) where
   -- a row that is not reported leaves the buffer, and one that is appends its record
   pub put-none : (row out : List ℕ) (k : ℕ) → isReported state row ≡ false
@@ -141,8 +156,9 @@ module _ (state : List ℕ) where
 
   pub put-one : (row rec out : List ℕ) (k : ℕ) → isReported state row ≡ true → rec ≡ recRecord row → length rec ≡ 245
       → k * 245 + 245 ≤ length out
-      → Holds 245 out (spliced out (k * 245) rec) (k + 1) (blocks 245 k out ++ recRecords state (row ∷ []))
-  put-one row rec out k t e w l = rw (rec-one state row t, ← e) (holds-append 245 k out rec w l)
+      → Holds 245 out (putMid (k * 245) (k * 245 + 245 - k * 245) out rec) (k + 1) (blocks 245 k out ++ recRecords state (row ∷ []))
+  put-one row rec out k t e w l =
+      rw (rec-one state row t, ← e, put-spliced out rec (k * 245) (k * 245 + 245) (omega arith)) (holds-append 245 k out rec w l)
 
   module _ (n : ℕ) (m : List ℕ) where
     -- what is written of the records and those of the rows from i on are all of them

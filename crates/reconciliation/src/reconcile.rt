@@ -1,5 +1,5 @@
 // Reconciliation.
-use casemaster::master;
+use casemaster::master::ROW_WIDTH;
 use casemaster::refusals;
 use casemaster::row;
 use layout::calendar;
@@ -13,10 +13,10 @@ use text::fields::Columns;
 ghost use mathlib.Core.Path.{_≡_};
 ghost use mathlib.Core.Bool.{cond};
 ghost use mathlib.Core.List.{[], _∷_, _++_};
-ghost use Prim.Native.Nat.{_+_, _*_, _≤_};
+ghost use Prim.Native.Nat.{_+_, _*_, _≤_, _<_};
 ghost use lib.ListN.{length};
 ghost use Rattle.text.specs.Characters;
-ghost use Rattle.text.specs.Fields.{digitField, spaces};
+ghost use Rattle.text.specs.Fields.{columns, placed, Inside, digitField, spaces};
 ghost use Rattle.text.specs.Blocks.{blocks, Holds};
 ghost use Rattle.casemaster.specs.Master.{rowsOf};
 ghost use Rattle.reconciliation.specs.Reconcile.{isReported, RCT, recRecord, recRecords, reportedOf, reconciledAs, reconcileOutcome};
@@ -40,8 +40,15 @@ const FIRST_NAME_CUT: Columns = Columns {
     last: 60,
 };
 
+// The notice hold and the passport action of a REC record, which stay blank.
+const HOLD_AND_ACTION: Columns = Columns {
+    first: 80,
+    last: 81,
+};
+
 // Whether a row is live and of that state.
-fn is_reported(row: &[u8; 200], state: &[u8]) -> bool
+fn is_reported(row: &[u8], state: &[u8]) -> bool
+    requires { ⌜ length (now row) ≡ 200 ⌝ }
     ensures { λ r. ⌜ r ≡ isReported (now (state .entry)) (now (row .entry)) ⌝ }
 {
     row::is_live(row) & fields::same(fields::field(row, row::STATE), state)
@@ -66,9 +73,11 @@ fn count_cases(m: &[u8], n: usize, state: &[u8]) -> Cases
     let mut non_tanf: usize = 0;
     let mut i: usize = 0;
     while i < n {
-        let row = master::row_at(m, i);
+        let at = i * ROW_WIDTH;
+        let end = at + ROW_WIDTH;
+        let row = &m[at..end];
         let case_type = row[11];
-        let reported = is_reported(&row, state);
+        let reported = is_reported(row, state);
         total += one_if(reported);
         tanf += one_if(reported & (case_type == 0xC1));
         non_tanf += one_if(reported & (case_type == 0xD5));
@@ -81,24 +90,38 @@ fn count_cases(m: &[u8], n: usize, state: &[u8]) -> Cases
     }
 }
 
-// The REC record of a row.
-fn rec_record(row: &[u8; 200]) -> [u8; 245]
-    ensures { λ r. ⌜ r ≡ recRecord (now (row .entry)) ⌝ }
+// Copies at most twenty columns of a row into as many of a record. By way of an array: from slice to slice they would go byte by byte.
+fn copy_field(rec: &mut [u8], to: Columns, row: &[u8], from: Columns)
+    requires { ⌜ (Inside (to .first) (to .last) (now rec)) × (Inside (from .first) (from .last) (now row)) × (to .last + from .first ≡ from .last + to .first) × (to .last < to .first + 20) ⌝ }
+    ensures { λ _. ⌜ now (rec .exit) ≡ placed (to .first) (to .last) (columns (from .first) (from .last) (now (row .entry))) (now (rec .entry)) ⌝ }
 {
-    let mut out = [0x40u8; 245];
-    fields::put(&mut out, chart_06::IDENTIFIER, b"\xD9\xC5\xC3");
-    fields::copy(&mut out, chart_06::STATE, row, row::STATE);
-    fields::copy(&mut out, chart_06::LOCAL_CODE, row, row::LOCAL_CODE);
-    fields::copy(&mut out, chart_06::SSN, row, row::SSN);
-    fields::copy(&mut out, chart_06::CASE_ID, row, row::CASE_ID);
-    fields::copy(&mut out, chart_06::LAST_NAME, row, row::LAST_NAME);
-    fields::copy(&mut out, chart_06::FIRST_NAME, row, FIRST_NAME_CUT);
-    fields::copy(&mut out, chart_06::ARREARAGE, row, row::ARREARAGE);
-    fields::copy(&mut out, chart_06::CASE_TYPE, row, row::CASE_TYPE);
-    fields::copy(&mut out, chart_06::NOTICE_DATE, row, row::DATE_ISSUED);
+    let field = fields::field(row, from);
+    let width = field.len();
+    let mut bytes = [0u8; 20];
+    fields::copy_in(&mut bytes, 0, field);
+    fields::put(rec, to, &bytes[0..width]);
+}
+
+// Writes the REC record of a row, each column once.
+fn fill_rec(rec: &mut [u8], row: &[u8])
+    requires { ⌜ (length (now rec) ≡ 245) × (length (now row) ≡ 200) ⌝ }
+    ensures { λ _. ⌜ now (rec .exit) ≡ recRecord (now (row .entry)) ⌝ }
+{
+    fields::put(rec, chart_06::IDENTIFIER, b"\xD9\xC5\xC3");
+    copy_field(rec, chart_06::STATE, row, row::STATE);
+    copy_field(rec, chart_06::LOCAL_CODE, row, row::LOCAL_CODE);
+    copy_field(rec, chart_06::SSN, row, row::SSN);
+    copy_field(rec, chart_06::CASE_ID, row, row::CASE_ID);
+    copy_field(rec, chart_06::LAST_NAME, row, row::LAST_NAME);
+    copy_field(rec, chart_06::FIRST_NAME, row, FIRST_NAME_CUT);
+    copy_field(rec, chart_06::ARREARAGE, row, row::ARREARAGE);
+    copy_field(rec, chart_06::CASE_TYPE, row, row::CASE_TYPE);
+    copy_field(rec, chart_06::NOTICE_DATE, row, row::DATE_ISSUED);
+    fields::put(rec, HOLD_AND_ACTION, b"\x40\x40");
     let names = exclusions::exclusion_columns(row[194]);
-    fields::put(&mut out, chart_06::EXCLUSIONS, &names);
-    out
+    fields::put(rec, chart_06::EXCLUSIONS, &names);
+    let filler = [0x40u8; 140];
+    fields::put(rec, chart_06::FILLER, &filler);
 }
 
 // The RCT record.
@@ -117,15 +140,16 @@ fn rct_record(state: &[u8], date: &[u8], cases: Cases) -> [u8; 245]
 }
 
 // Writes the REC record of a row behind k records where the row is reported, and returns how many records there are.
-fn put_record(out: &mut [u8], k: usize, row: [u8; 200], state: &[u8]) -> usize
-    requires { ⌜ (k + length (recRecords (now state) (row ∷ []))) * 245 ≤ length (now out) ⌝ }
-    ensures { λ r. ⌜ Holds 245 (now (out .entry)) (now (out .exit)) r (blocks 245 k (now (out .entry)) ++ recRecords (now (state .entry)) (row ∷ [])) ⌝ }
+fn put_record(out: &mut [u8], k: usize, row: &[u8], state: &[u8]) -> usize
+    requires { ⌜ (length (now row) ≡ 200) × ((k + length (recRecords (now state) (now row ∷ []))) * 245 ≤ length (now out)) ⌝ }
+    ensures { λ r. ⌜ Holds 245 (now (out .entry)) (now (out .exit)) r (blocks 245 k (now (out .entry)) ++ recRecords (now (state .entry)) (now (row .entry) ∷ [])) ⌝ }
 {
-    if !is_reported(&row, state) {
+    if !is_reported(row, state) {
         return k;
     }
-    let rec = rec_record(&row);
-    fields::copy_in(out, k * RECORD_WIDTH, &rec);
+    let at = k * RECORD_WIDTH;
+    let end = at + RECORD_WIDTH;
+    fill_rec(&mut out[at..end], row);
     k + 1
 }
 
@@ -137,8 +161,9 @@ fn put_records(out: &mut [u8], m: &[u8], n: usize, state: &[u8]) -> usize
     let mut k: usize = 0;
     let mut i: usize = 0;
     while i < n {
-        let row = master::row_at(m, i);
-        k = put_record(out, k, row, state);
+        let at = i * ROW_WIDTH;
+        let end = at + ROW_WIDTH;
+        k = put_record(out, k, &m[at..end], state);
         i += 1;
     }
     k

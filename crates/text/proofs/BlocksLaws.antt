@@ -13,6 +13,11 @@ use Rattle.text.specs.Blocks.{blocks, joined, over, spliced, Holds}
 use Rattle.text.proofs.SplicedLaws.{drop-spliced, drop-take}
 use Rattle.text.specs.Fields.{every}
 
+-- what is done to each, with one more at the end
+pub map-snoc : {X Y : Type 0} (f : X → Y) (xs : List X) (x : X) → map f (xs ++ x ∷ []) ≡ map f xs ++ f x ∷ []
+map-snoc f [] x = refl
+map-snoc f (y ∷ xs) x = rw (map-snoc f xs x)
+
 module _ (w : ℕ) where
   -- ---- blocks cut from bytes
 

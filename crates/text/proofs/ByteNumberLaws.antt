@@ -7,17 +7,13 @@ use native.Mathlib.Nat.{zero-lt-suc, pow-suc, add-mul, mul-le-mul-right}
 use native.Mathlib.Omega.{arith}
 use lib.Dec.{ltb, eqb}
 use lib.ListN.{length, take, drop, getD, length-drop}
-use lib.Seq.{drop-cons, length-take-le, take-add, take-all}
+use lib.Seq.{drop-cons, drop-drop, length-take-le, take-add, take-all}
 use borrow.Author.Tests.{lt-ltb, le-ltb, eq-eqb, ne-eqb}
 use Rattle.text.specs.ByteOrder.{less, greater, orderOf, isLess}
-use Rattle.text.specs.ByteNumbers.{bytesOnto, bytesNumber}
+use Rattle.text.specs.ByteNumbers.{AreBytes, bytesOnto, bytesNumber}
 use Rattle.text.proofs.ByteOrderLaws.{Heads, lower, upper, same, heads, order-lt, order-gt, order-eq, order-front, order-refl}
 
 -- ---- bytes
-
-abbrev pub AreBytes : List ℕ → Type 0
-AreBytes [] = Unit {0}
-AreBytes (b ∷ bs) = (b < 256) × AreBytes bs
 
 pub bytes-of : (s : List ℕ) → ((i : ℕ) → i < length s → getD s i 0 < 256) → AreBytes s
 bytes-of [] h = tt
@@ -81,14 +77,12 @@ module _ (s : List ℕ) (i : ℕ) (h : i + 4 ≤ length s) where
   unfolding bytesNumber
   four-number = rw four-at (omega arith)
 
-  pub four-below : AreBytes s → bytesNumber (take 4 (drop i s)) < 4294967296
-  four-below b = let l = bytes-below (take 4 (drop i s)) (bytes-take 4 (drop i s) (bytes-drop i s b)) in rw length-four at l
-
 -- eight bytes from four and four
-pub eight-number : (s : List ℕ) → 8 ≤ length s → bytesNumber (take 4 s) * 4294967296 + bytesNumber (take 4 (drop 4 s)) ≡ bytesNumber (take 8 s)
-eight-number s h =
-    let e = number-parts (take 4 s) (take 4 (drop 4 s)) in
-    sym (ap bytesNumber (take-add 4 4 s) ∙ (rw (length-four s 4 (omega arith)) at e))
+pub eight-number : (s : List ℕ) (i : ℕ) → i + 8 ≤ length s
+    → bytesNumber (take 4 (drop i s)) * 4294967296 + bytesNumber (take 4 (drop (i + 4) s)) ≡ bytesNumber (take 8 (drop i s))
+eight-number s i h =
+    let e = number-parts (take 4 (drop i s)) (take 4 (drop (i + 4) s)) in
+    sym (ap bytesNumber (take-add 4 4 (drop i s) ∙ rw (drop-drop 4 i s)) ∙ (rw (length-four s (i + 4) (omega arith)) at e))
 
 -- ---- byte order
 

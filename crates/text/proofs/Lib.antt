@@ -11,4 +11,5 @@ pub mod SameLaws
 pub mod SplicedLaws
 pub mod SumLaws
 pub mod WidthLaws
+pub mod WordLaws
 pub mod PartsLaws

@@ -1,11 +1,12 @@
 // Byte order: how two byte strings of one length stand, and whether the keys of blocks rise.
+use crate::words;
 ghost use mathlib.Core.Path.{_≡_};
-ghost use mathlib.Core.List.{map};
-ghost use Prim.Native.Nat.{_+_, _*_, _≤_};
+ghost use mathlib.Core.List.{List, map};
+ghost use Prim.Native.Nat.{ℕ, _*_, _≤_};
 ghost use lib.ListN.{length, take, drop};
+ghost use Rattle.text.specs.ByteNumbers.{AreBytes, bytesNumber};
 ghost use Rattle.text.specs.Blocks.{blocks};
 ghost use Rattle.text.specs.ByteOrder.{orderIn, orderOf, isLess, rising};
-ghost use Rattle.text.specs.ByteNumbers.{bytesNumber};
 
 // How one byte string stands to another in byte order.
 pub enum Order {
@@ -34,30 +35,28 @@ pub fn order_of(a: &[u8], b: &[u8]) -> Order
     Order::Equal
 }
 
-// The four bytes from index i on as a number, the first the highest.
-fn four_number(a: &[u8], i: usize) -> u64
-    requires { ⌜ i + 4 ≤ length (now a) ⌝ }
-    ensures { λ r. ⌜ r ≡ bytesNumber (take 4 (drop i (now (a .entry)))) ⌝ }
+// Whether twelve bytes are below twelve others, both given as the numbers of the first eight and of the last four.
+pub fn is_twelve_below_in(front1: u64, back1: u64, front2: u64, back2: u64) -> bool
+    ensures { λ r. ⌜ ((a b : List ℕ) → length a ≡ 12 → length b ≡ 12 → AreBytes a → AreBytes b
+        → front1 ≡ bytesNumber (take 8 a) → back1 ≡ bytesNumber (take 4 (drop 8 a))
+        → front2 ≡ bytesNumber (take 8 b) → back2 ≡ bytesNumber (take 4 (drop 8 b)) → r ≡ isLess (orderOf a b)) ⌝ }
 {
-    (((a[i] as u64) * 256 + (a[i + 1] as u64)) * 256 + (a[i + 2] as u64)) * 256 + (a[i + 3] as u64)
+    (front1 < front2) | ((front1 == front2) & (back1 < back2))
 }
 
-// The first eight of twelve bytes as a number.
-fn front_number(a: &[u8]) -> u64
-    requires { ⌜ length (now a) ≡ 12 ⌝ }
-    ensures { λ r. ⌜ r ≡ bytesNumber (take 8 (now (a .entry))) ⌝ }
-{
-    four_number(a, 0) * 4294967296 + four_number(a, 4)
-}
-
-// Whether twelve bytes are below twelve others, by the numbers that they write.
+// Whether twelve bytes are below twelve others.
 fn is_twelve_below(a: &[u8], b: &[u8]) -> bool
     requires { ⌜ (length (now a) ≡ 12) × (length (now b) ≡ 12) ⌝ }
     ensures { λ r. ⌜ r ≡ isLess (orderOf (now (a .entry)) (now (b .entry))) ⌝ }
 {
-    let x = front_number(a);
-    let y = front_number(b);
-    (x < y) | ((x == y) & (four_number(a, 8) < four_number(b, 8)))
+    let front1 = words::eight_number(a, 0);
+    let front2 = words::eight_number(b, 0);
+    is_twelve_below_in(
+        front1,
+        words::four_number(a, 8),
+        front2,
+        words::four_number(b, 8),
+    )
 }
 
 // Whether a byte string is below another of its length.

@@ -139,19 +139,18 @@ pub fn put_number(dst: &mut [u8], c: Columns, n: u64)
     }
 }
 
-// Whether two runs of bytes are the same.
+// Whether two runs of bytes are the same. No way out in the middle either.
 pub fn same(a: &[u8], b: &[u8]) -> bool
     ensures { λ r. ⌜ r ≡ sameBytes (now (a .entry)) (now (b .entry)) ⌝ }
 {
     if a.len() != b.len() {
         return false;
     }
+    let mut ok = true;
     let mut i = 0;
     while i < a.len() {
-        if a[i] != b[i] {
-            return false;
-        }
+        ok = ok & (a[i] == b[i]);
         i += 1;
     }
-    true
+    ok
 }

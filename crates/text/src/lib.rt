@@ -2,3 +2,4 @@
 pub mod byte_order;
 pub mod characters;
 pub mod fields;
+pub mod words;

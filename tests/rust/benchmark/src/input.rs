@@ -6,7 +6,7 @@ use generator::rng::Rng;
 use generator::text::text;
 
 pub const MOST: usize = 65_535;
-const STATE: [u8; 2] = [0xD6, 0xC8];
+pub const STATE: [u8; 2] = [0xD6, 0xC8];
 const TYPES: &[u8] = b"MCBLRZST";
 
 /// What apply gets.
@@ -38,7 +38,7 @@ fn input(name: &str, rows: usize, room: usize, details: &[Record], moved: f64) -
 }
 
 /// Row numbers in scattered order.
-fn scattered(rng: &mut Rng, rows: usize) -> Vec<usize> {
+pub fn scattered(rng: &mut Rng, rows: usize) -> Vec<usize> {
     let mut places: Vec<usize> = (0..rows).collect();
     rng.shuffle(&mut places);
     places

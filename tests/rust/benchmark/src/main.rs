@@ -1,12 +1,13 @@
 //! Times of the library, the reference and the speed engine, each also as a multiple of one
 //! memcpy of 13,107,000 bytes measured in the same run; converting, reading contacts and posting
 //! as multiples of one memcpy of the file or master. `--quick` leaves out what is predicted to take
-//! more than two seconds.
+//! more than two seconds; `--once CASE ENGINE` makes one call and measures nothing.
 
 mod clock;
 mod contacts;
 mod convert;
 mod input;
+mod once;
 mod posting;
 
 use std::hint::black_box;
@@ -70,8 +71,26 @@ struct Line {
     times: Times,
 }
 
+impl Buffers {
+    fn fresh(input: &Input) -> Buffers {
+        Buffers {
+            master: input.master.clone(),
+            verdicts: vec![1; input.details],
+            rejects: vec![2; 245 * (input.details + 1)],
+            result: [3; 5],
+        }
+    }
+}
+
 fn main() {
-    let quick = std::env::args().any(|argument| argument == "--quick");
+    let arguments: Vec<String> = std::env::args().skip(1).collect();
+    if let [_, case, engine] = &arguments[..] {
+        return once::once(case, engine);
+    }
+    measure(arguments.iter().any(|argument| argument == "--quick"));
+}
+
+fn measure(quick: bool) {
     let mut bench = Bench {
         quick,
         repetitions: if quick { 3 } else { 9 },
@@ -151,12 +170,7 @@ fn run(engine: usize, input: &Input, buffers: &mut Buffers) {
 impl Bench {
     /// The median time of an engine, the buffers restored before each run.
     fn time(&self, engine: usize, input: &Input) -> (f64, Buffers) {
-        let fresh = Buffers {
-            master: input.master.clone(),
-            verdicts: vec![1; input.details],
-            rejects: vec![2; 245 * (input.details + 1)],
-            result: [3; 5],
-        };
+        let fresh = Buffers::fresh(input);
         let mut buffers = fresh.clone();
         let mut times = Vec::new();
         let begin = Instant::now();
@@ -222,13 +236,18 @@ impl Bench {
     /// Finding, per call.
     fn finding(&mut self) -> Line {
         let (master, keys, _) = lookup(if self.quick { 100 } else { 1000 });
-        let mut times = [Vec::new(), Vec::new()];
+        let mut times = [Vec::new(), Vec::new(), Vec::new()];
         for (at, key) in keys.iter().enumerate() {
             let (mut place, mut answer) = (0, 0);
             times[0].push(seconds(|| {
                 answer = library::find(black_box(&master), MOST, key, &mut place);
             }));
             assert_eq!(answer, 0, "find was refused");
+            let mut found = Err(0);
+            times[2].push(seconds(|| {
+                found = speed::find(black_box(&master), MOST, key);
+            }));
+            assert_eq!(found, Ok(place), "find differs");
             // The reference is slow: a part of the keys is enough.
             if at < 40 {
                 let mut found = Err(0);
@@ -240,7 +259,7 @@ impl Bench {
         }
         Line {
             name: format!("find, one call ({} keys)", keys.len()),
-            times: [Some(median(&times[0])), Some(median(&times[1])), None],
+            times: times.map(|times| Some(median(&times))),
         }
     }
 
@@ -249,10 +268,12 @@ impl Bench {
         let date = generator::text::text("20261115");
         let mut one = vec![1; 245 * (MOST + 1)];
         let mut two = one.clone();
-        let mut times = [Vec::new(), Vec::new()];
+        let mut three = one.clone();
+        let mut times = [Vec::new(), Vec::new(), Vec::new()];
         for _ in 0..self.repetitions {
             one.fill(1);
             two.fill(1);
+            three.fill(1);
             let mut records = 0;
             times[0].push(seconds(|| {
                 library::reconcile(
@@ -269,10 +290,14 @@ impl Bench {
                 written = reference::reconcile(black_box(&master), MOST, &state, &date, &mut two);
             }));
             assert!(written == Ok(records) && one == two, "reconcile differs");
+            times[2].push(seconds(|| {
+                written = speed::reconcile(black_box(&master), MOST, &state, &date, &mut three);
+            }));
+            assert!(written == Ok(records) && one == three, "reconcile differs");
         }
         Line {
             name: format!("reconcile, {MOST} records"),
-            times: [Some(median(&times[0])), Some(median(&times[1])), None],
+            times: times.map(|times| Some(median(&times))),
         }
     }
 }
@@ -301,15 +326,7 @@ fn print(bench: &Bench, applied: &[Line], doubled: &[Line], crowded: &[Line], lo
         "apply", "library", "reference", "speed engine", "lib/speed"
     );
     for line in applied {
-        let ratio = match line.times {
-            [Some(library), _, Some(speed)] => format!("{:.2}", library / speed),
-            _ => String::new(),
-        };
-        let [library, reference, speed] = line.times.map(|time| cell(time, copy));
-        println!(
-            "{:<40}{library:>22}{reference:>22}{speed:>22}{ratio:>11}",
-            line.name
-        );
+        print_engines(line, copy);
     }
     println!();
     println!(
@@ -328,11 +345,26 @@ fn print(bench: &Bench, applied: &[Line], doubled: &[Line], crowded: &[Line], lo
         print_beside(line, (at > 0).then_some(&crowded[0]), ENGINES);
     }
     println!();
-    println!("{:<40}{:>22}{:>22}", "65535 rows", "library", "reference");
+    println!(
+        "{:<40}{:>22}{:>22}{:>22}{:>11}",
+        "65535 rows", "library", "reference", "speed engine", "lib/speed"
+    );
     for line in looked {
-        let [library, reference, _] = line.times.map(|time| cell(time, copy));
-        println!("{:<40}{library:>22}{reference:>22}", line.name);
+        print_engines(line, copy);
     }
+}
+
+/// A line with the times of the three engines, and the library's as a multiple of the speed engine's.
+fn print_engines(line: &Line, copy: f64) {
+    let ratio = match line.times {
+        [Some(library), _, Some(speed)] => format!("{:.2}", library / speed),
+        _ => String::new(),
+    };
+    let [library, reference, speed] = line.times.map(|time| cell(time, copy));
+    println!(
+        "{:<40}{library:>22}{reference:>22}{speed:>22}{ratio:>11}",
+        line.name
+    );
 }
 
 /// The calls over other files than a master and a batch.

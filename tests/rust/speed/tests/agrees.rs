@@ -1,7 +1,7 @@
 //! The speed engine against the reference, every byte, on random cases.
 
 use generator::rng::mix;
-use generator::{apply_only, case, ApplyCase, Case};
+use generator::{apply_only, case, ApplyCase, Case, FindCase, ReconcileCase};
 
 fn agrees(case: &ApplyCase) -> bool {
     let (mut one, mut two) = (case.clone(), case.clone());
@@ -35,6 +35,27 @@ fn agrees(case: &ApplyCase) -> bool {
     speed == reference && one == two
 }
 
+fn finds(case: &FindCase) -> bool {
+    let FindCase {
+        master, rows, key, ..
+    } = case;
+    speed::find(master, *rows, key) == reference::find(master, *rows, key)
+}
+
+fn reconciles(case: &ReconcileCase) -> bool {
+    let (mut one, mut two) = (case.out.clone(), case.out.clone());
+    let ReconcileCase {
+        master,
+        rows,
+        state,
+        date,
+        ..
+    } = case;
+    let speed = speed::reconcile(master, *rows, state, date, &mut one);
+    let reference = reference::reconcile(master, *rows, state, date, &mut two);
+    speed == reference && one == two
+}
+
 #[test]
 fn small_cases() {
     for number in 0..20_000 {
@@ -46,8 +67,12 @@ fn small_cases() {
 fn all_cases() {
     for number in 0..10_000 {
         let seed = mix(1 << 40 | number);
-        if let Case::Apply(case) = case(seed) {
-            assert!(agrees(&case), "case {seed}");
-        }
+        let same = match case(seed) {
+            Case::Apply(case) => agrees(&case),
+            Case::Find(case) => finds(&case),
+            Case::Reconcile(case) => reconciles(&case),
+            _ => true,
+        };
+        assert!(same, "case {seed}");
     }
 }

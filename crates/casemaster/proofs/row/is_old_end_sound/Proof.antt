@@ -4,17 +4,14 @@ use Rattle.casemaster.specs.Row.{isOldEndSound}
 use Rattle.casemaster.proofs.row.is_old_end_sound.Statement.{statement}
 use Rattle.casemaster.proofs.row.is_old_end_sound.Tie as tie
 
-field-requires : tie.Need-field-requires
-field-requires c κs = search needs
-
-is-zero-requires : tie.Need-is-zero-requires
-is-zero-requires c κs = search needs
+has-zero-arrearage-requires : tie.Need-has-zero-arrearage-requires
+has-zero-arrearage-requires c κs = search needs
 
 is-deleted-at-requires : tie.Need-is-deleted-at-requires
 is-deleted-at-requires c κs = search needs
 
-field-requires-2 : tie.Need-field-requires-2
-field-requires-2 c κs = search needs
+field-requires : tie.Need-field-requires
+field-requires c κs = search needs
 
 is-blank-requires : tie.Need-is-blank-requires
 is-blank-requires c κs = search needs
@@ -24,19 +21,12 @@ unfolding isOldEndSound
 returns c =
     rw (
       c .is-blank .ensures,
-      c .before .field2 .ensures,
+      c .before .field .ensures,
       c .before .before .is-deleted-at .ensures,
-      c .before .before .before .is-zero .ensures,
-      c .before .before .before .before .field .ensures,
+      c .before .before .before .has-zero-arrearage .ensures,
     )
 
 pub is-old-end-sound-spec : {M : Type 1} → statement M
 is-old-end-sound-spec =
     tie.close
-    (tie.spec
-    field-requires
-    is-zero-requires
-    is-deleted-at-requires
-    field-requires-2
-    is-blank-requires
-    returns)
+    (tie.spec has-zero-arrearage-requires is-deleted-at-requires field-requires is-blank-requires returns)

@@ -1,37 +1,22 @@
--- `row::is_sound_row` meets its contract: the key's test and the others', by what the calls ensure. Assumes nothing.
-use borrow.Author.Needs.{needs}
-use Rattle.casemaster.specs.Forms.{isSoundIn}
+-- `row::is_sound_row` meets its contract: the key's two numbers are read first; the first state of the table is one. Assumes nothing.
+use native.Mathlib.Omega.{arith}
+use Rattle.layout.proofs.StatesLaws.{first-code}
 use Rattle.casemaster.proofs.row.is_sound_row.Statement.{statement}
 use Rattle.casemaster.proofs.row.is_sound_row.Tie as tie
 
-field-requires : tie.Need-field-requires
-field-requires c κs = search needs
+eight-number-requires : tie.Need-eight-number-requires
+eight-number-requires c κs = omega arith
 
-is-sound-key-requires : tie.Need-is-sound-key-requires
-is-sound-key-requires c κs = search needs
+four-number-requires : tie.Need-four-number-requires
+four-number-requires c κs = omega arith
 
-are-fields-sound-requires : tie.Need-are-fields-sound-requires
-are-fields-sound-requires c κs = search needs
-
-is-end-sound-in-requires : tie.Need-is-end-sound-in-requires
-is-end-sound-in-requires c κs = search needs
+is-sound-row-in-requires : tie.Need-is-sound-row-in-requires
+is-sound-row-in-requires c κs =
+    let s = c .before .before .before in
+    ((s .pre, first-code, c .four-number .ensures .1), (c .before .eight-number .ensures, c .four-number .ensures .0))
 
 returns : tie.Need-returns
-unfolding isSoundIn
-returns c =
-    rw (
-      c .is-end-sound-in .ensures,
-      c .before .are-fields-sound .ensures,
-      c .before .before .is-sound-key .ensures,
-      c .before .before .before .field .ensures,
-    )
+returns c = c .is-sound-row-in .ensures
 
 pub is-sound-row-spec : {M : Type 1} → statement M
-is-sound-row-spec =
-    tie.close
-    (tie.spec
-    field-requires
-    is-sound-key-requires
-    are-fields-sound-requires
-    is-end-sound-in-requires
-    returns)
+is-sound-row-spec = tie.close (tie.spec eight-number-requires four-number-requires is-sound-row-in-requires returns)

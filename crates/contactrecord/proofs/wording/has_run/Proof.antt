@@ -3,7 +3,7 @@ use mathlib.Core.Path.{refl, sym, _∙_, _≡_}
 use denote.Ref.{now}
 use lib.ListN.{length, drop, take}
 use Rattle.contactrecord.proofs.WordingLaws.{run-found, run-next, run-end, start-within}
-use Rattle.text.specs.Fields.{isOneOf}
+use Rattle.text.specs.Fields.{isOneOf, sameBytes}
 use Rattle.contactrecord.specs.Wording.{runsFrom, hasRun}
 use borrow.Author.Needs.{needs}
 use Prim.Native.Nat.{_-_, _≤_}
@@ -26,25 +26,29 @@ shared-slice-read-is-letter c = search needs
 is-letter-requires : tie.Need-is-letter-requires Inv-loop μ-loop
 is-letter-requires c κs = search needs
 
-sub-same : tie.Need-sub-same Inv-loop μ-loop
-sub-same c = search needs
+sub-ends-run : tie.Need-sub-ends-run Inv-loop μ-loop
+sub-ends-run c = search needs
 
-part-same-start : tie.Need-part-same-start Inv-loop μ-loop
-part-same-start c = search needs
+part-ends-run-start : tie.Need-part-ends-run-start Inv-loop μ-loop
+part-ends-run-start c = search needs
 
-part-same-end : tie.Need-part-same-end Inv-loop μ-loop
-part-same-end c = search needs
+part-ends-run-end : tie.Need-part-ends-run-end Inv-loop μ-loop
+part-ends-run-end c = search needs
 
-same-requires : tie.Need-same-requires Inv-loop μ-loop
-same-requires c κs = search needs
+ends-run-requires : tie.Need-ends-run-requires Inv-loop μ-loop
+ends-run-requires c κs = search needs
 
 returns : tie.Need-returns Inv-loop μ-loop
 returns c =
-    let i = c .before .before .before .before .before in
-    let p = i .before .before .before .before in
+    let p = c .before .before .before .before .before .before .before .before .before in
     let a = p .args in
-    let l = i .before .loop in
-    sym (l .inv .2 ∙ run-found (now (a .word)) (now (a .s)) (l .start) (l .i) (p .pre) (l .inv .0) (search needs) (c .before .before .before .is-letter .result) (c .before .same .result) (c .before .before .before .is-letter .ensures) (c .before .same .ensures) (c .if1 .taken))
+    let l = c .before .before .before .before .before .before .loop in
+    let r = c .before .before .before .is-letter in
+    let z = c .before .ends-run in
+    sym
+    (l .inv .2
+    ∙ run-found (now (a .word)) (now (a .s)) (l .start) (l .i) (p .pre) (l .inv .0) (search needs) (r .result)
+    (sameBytes (now (a .word)) (take (l .i - l .start) (drop (l .start) (now (a .s))))) (r .ensures) refl (sym (z .ensures) ∙ c .if1 .taken))
 
 add-i : tie.Need-add-i Inv-loop μ-loop
 add-i c = search needs
@@ -57,35 +61,37 @@ loop-less c = search needs
 
 loop-again : tie.Need-loop-again Inv-loop μ-loop
 loop-again c =
-    let i = c .before .before .before .before .before .before in
-    let p = i .before .before .before .before in
+    let p = c .before .before .before .before .before .before .before .before .before .before in
     let a = p .args in
-    let l = i .before .loop in
+    let l = c .before .before .before .before .before .before .before .loop in
     let r = c .before .before .before .before .is-letter in
-    let z = c .before .before .same in (
+    let z = c .before .before .ends-run in (
       rw (c .run-start .ensures) (start-within (r .result) (l .start) (l .i) (l .inv .0)),
       search needs,
-      rw (c .run-start .ensures) (l .inv .2 ∙ run-next (now (a .word)) (now (a .s)) (l .start) (l .i) (p .pre) (l .inv .0) (search needs) (r .result) (z .result) (r .ensures) (z .ensures) (c .before .if1 .left)),
+      rw (c .run-start .ensures)
+          (l .inv .2
+          ∙ run-next (now (a .word)) (now (a .s)) (l .start) (l .i) (p .pre) (l .inv .0) (search needs) (r .result)
+          (sameBytes (now (a .word)) (take (l .i - l .start) (drop (l .start) (now (a .s))))) (r .ensures) refl (sym (z .ensures) ∙ c .before .if1 .left)),
     )
 
-sub-same-2 : tie.Need-sub-same-2 Inv-loop μ-loop
-sub-same-2 c = search needs
+sub-same : tie.Need-sub-same Inv-loop μ-loop
+sub-same c = search needs
 
-part-same-start-2 : tie.Need-part-same-start-2 Inv-loop μ-loop
-part-same-start-2 c = search needs
+part-same-start : tie.Need-part-same-start Inv-loop μ-loop
+part-same-start c = search needs
 
-part-same-end-2 : tie.Need-part-same-end-2 Inv-loop μ-loop
-part-same-end-2 c = search needs
+part-same-end : tie.Need-part-same-end Inv-loop μ-loop
+part-same-end c = search needs
 
-same-requires-2 : tie.Need-same-requires-2 Inv-loop μ-loop
-same-requires-2 c κs = search needs
+same-requires : tie.Need-same-requires Inv-loop μ-loop
+same-requires c κs = search needs
 
 returns-2 : tie.Need-returns-2 Inv-loop μ-loop
 returns-2 c =
     let p = c .before .before .before .before .before .before in
     let a = p .args in
     let l = c .before .before .before .loop in
-    c .same2 .ensures ∙ sym (l .inv .2 ∙ run-end (now (a .word)) (now (a .s)) (l .start) (l .i) (p .pre) (search needs))
+    c .same .ensures ∙ sym (l .inv .2 ∙ run-end (now (a .word)) (now (a .s)) (l .start) (l .i) (p .pre) (search needs))
 
 pub has-run-spec : {M : Type 1} → statement M
 has-run-spec =
@@ -96,17 +102,17 @@ has-run-spec =
     loop-holds
     shared-slice-read-is-letter
     is-letter-requires
-    sub-same
-    part-same-start
-    part-same-end
-    same-requires
+    sub-ends-run
+    part-ends-run-start
+    part-ends-run-end
+    ends-run-requires
     returns
     add-i
     run-start-requires
     loop-less
     loop-again
-    sub-same-2
-    part-same-start-2
-    part-same-end-2
-    same-requires-2
+    sub-same
+    part-same-start
+    part-same-end
+    same-requires
     returns-2)

@@ -1,29 +1,44 @@
 -- `exclusions::exclusion_columns` meets its contract. The loop's invariant: what is written of the first n names, and behind it
 -- the columns of the names and bits that are left, is the answer. Assumes nothing.
 use mathlib.Core.Path.{_≡_, refl, sym, ap, _∙_}
-use mathlib.Core.List.{_++_, append-assoc, append-nil}
-use Prim.Native.Nat.{_+_, _-_, _*_, _≤_}
+use mathlib.Core.Bool.{cond}
+use mathlib.Core.List.{[], _++_, append-assoc, append-nil}
+use Prim.Native.Nat.{_+_, _-_, _*_, _%_, _≤_}
 use native.Mathlib.Omega.{arith}
 use borrow.Author.Needs.{needs}
-use lib.ListN.{length, take, drop}
+use lib.Dec.{eqb}
+use lib.ListN.{length, getD, take, drop}
 use lib.Seq.{take-all}
 use Rattle.text.specs.Blocks.{spliced}
+use Rattle.text.specs.Fields.{spaces}
 use Rattle.layout.specs.Exclusions.{exclusionNames, namesShown, exclusionColumns}
 use Rattle.text.proofs.SplicedLaws.{take-through}
-use Rattle.layout.proofs.ExclusionsLaws.{shown-step, shown-end}
+use Rattle.layout.proofs.ExclusionsLaws.{shown-step, shown-end, columns-none}
 use Rattle.layout.proofs.exclusions.exclusion_columns.Statement.{statement}
 use Rattle.layout.proofs.exclusions.exclusion_columns.Tie as tie
 
 abbrev Inv-loop : tie.InvT-loop
-Inv-loop set out₀ left₀ n₀ out left n =
+Inv-loop set out₀ table left₀ n₀ out left n =
     (n ≤ 8) × (length out ≡ 24) × (exclusionColumns set ≡ take (n * 3) out ++ namesShown left (drop n exclusionNames))
 
 abbrev μ-loop : tie.MeasureT-loop
-μ-loop set out₀ left₀ n₀ out left n = 8 - n
+μ-loop set out₀ table left₀ n₀ out left n = 8 - n
+
+returns : tie.Need-returns Inv-loop μ-loop
+returns c = columns-none _ (c .if1 .taken)
+
+names-requires : tie.Need-names-requires Inv-loop μ-loop
+names-requires c κs = search needs
 
 loop-holds : tie.Need-loop-holds Inv-loop μ-loop
 unfolding exclusionColumns
 loop-holds c = (search needs, search needs, refl)
+
+mul-name-columns : tie.Need-mul-name-columns Inv-loop μ-loop
+mul-name-columns c = search needs
+
+array-copy-out-name-columns : tie.Need-array-copy-out-name-columns Inv-loop μ-loop
+array-copy-out-name-columns c = search needs
 
 name-columns-requires : tie.Need-name-columns-requires Inv-loop μ-loop
 name-columns-requires c κs = search needs
@@ -48,19 +63,20 @@ loop-less c = search needs
 
 loop-again : tie.Need-loop-again Inv-loop μ-loop
 loop-again c =
-    let l = c .before .before .before .before .before .before .loop in
+    let l = c .before .before .before .before .before .before .before .loop in
     let k = c .before .before .before .before .name-columns in
     let w : length (k .result) ≡ 3 = search needs in
+    let r : k .result ≡ cond (eqb (l .left % 2) 1) (getD exclusionNames (l .n) []) (spaces 3) = rw (c .before .before .before .before .before .before .before .before .names .ensures) at (k .ensures) in
     let e : c .before .copy-in .last .0 ≡ spliced (l .out) (l .n * 3) (k .result) = c .before .copy-in .ensures in
     let f : take ((l .n + 1) * 3) (c .before .copy-in .last .0) ≡ take (l .n * 3) (l .out) ++ k .result =
     ap (take ((l .n + 1) * 3)) e ∙ take-through (l .out) (l .n * 3) (k .result) ((l .n + 1) * 3) (omega arith) (omega arith) in (
       search needs,
       search needs,
-      l .inv .2 ∙ rw (shown-step (l .left) (l .n) (search needs), ← k .ensures, f, append-assoc),
+      l .inv .2 ∙ rw (shown-step (l .left) (l .n) (search needs), ← r, f, append-assoc),
     )
 
-returns : tie.Need-returns Inv-loop μ-loop
-returns c =
+returns-2 : tie.Need-returns-2 Inv-loop μ-loop
+returns-2 c =
     let l = c .before .loop in
     let n : l .n ≡ 8 = omega arith in
     sym (l .inv .2 ∙ rw (shown-end (l .left) (l .n) n, take-all (l .n * 3) (l .out) (omega arith)) (append-nil (l .out)))
@@ -71,7 +87,11 @@ exclusion-columns-spec =
     (tie.spec
     Inv-loop
     μ-loop
+    returns
+    names-requires
     loop-holds
+    mul-name-columns
+    array-copy-out-name-columns
     name-columns-requires
     slice-aggregate-copy-in
     mul-copy-in
@@ -80,4 +100,4 @@ exclusion-columns-spec =
     add-n
     loop-less
     loop-again
-    returns)
+    returns-2)

@@ -1,29 +1,24 @@
--- `key::is_sound_behind` meets its contract: the definition's two tests, on the fields that `field` hands on. Assumes nothing.
-use borrow.Author.Needs.{needs}
+-- `key::is_sound_behind` meets its contract: the key by its two numbers. Assumes nothing.
+use native.Mathlib.Omega.{arith}
+use Rattle.text.proofs.ByteNumberLaws.{bytes-of}
 use Rattle.layout.proofs.key.is_sound_behind.Statement.{statement}
 use Rattle.layout.proofs.key.is_sound_behind.Tie as tie
 
-field-requires : tie.Need-field-requires
-field-requires c κs = search needs
+eight-number-requires : tie.Need-eight-number-requires
+eight-number-requires c κs = omega arith
 
-wrong-ssn-requires : tie.Need-wrong-ssn-requires
-wrong-ssn-requires c κs = search needs
+four-number-requires : tie.Need-four-number-requires
+four-number-requires c κs = omega arith
 
-shared-slice-read-is-case-type : tie.Need-shared-slice-read-is-case-type
-shared-slice-read-is-case-type c = search needs
-
-is-case-type-requires : tie.Need-is-case-type-requires
-is-case-type-requires c κs = search needs
+is-sound-behind-in-requires : tie.Need-is-sound-behind-in-requires
+is-sound-behind-in-requires c κs = c .four-number .ensures .1
 
 returns : tie.Need-returns
-returns c = rw (c .is-case-type .ensures, c .before .before .wrong-ssn .ensures, c .before .before .before .field .ensures)
+returns c =
+    let s = c .before .before .before .before in
+    let key = s .args .key .now in
+    let b = bytes-of key (λ i h. omega (arith, c .before .before .before .shared-slice-known .given i)) in
+    c .is-sound-behind-in .ensures key (s .pre) b (c .before .before .eight-number .ensures) (c .before .four-number .ensures .0)
 
 pub is-sound-behind-spec : {M : Type 1} → statement M
-is-sound-behind-spec =
-    tie.close
-    (tie.spec
-    field-requires
-    wrong-ssn-requires
-    shared-slice-read-is-case-type
-    is-case-type-requires
-    returns)
+is-sound-behind-spec = tie.close (tie.spec eight-number-requires four-number-requires is-sound-behind-in-requires returns)

@@ -5,11 +5,12 @@ use mathlib.Core.Path.{_≡_, ap, _∙_}
 use Prim.Native.Nat.{ℕ, _+_, _-_, _*_, _≤_}
 use native.Mathlib.Omega.{arith}
 use lib.Dec.{eqb}
-use lib.ListN.{length, getD, take, drop}
+use lib.ListN.{length, getD, take, drop, length-take, length-drop}
 use borrow.Author.Needs.{needs}
 use Rattle.reconciliation.specs.Reconcile.{isReported, recRecords, reportedOf}
 use Rattle.text.specs.Characters.{A, N}
 use Rattle.casemaster.specs.Master.{rowsOf}
+use Rattle.text.proofs.BlocksLaws.{part-width}
 use Rattle.reconciliation.proofs.ReconcileLaws.{count-next, reported-next, rec-end, reported-end}
 use Rattle.reconciliation.proofs.reconcile.count_cases.Statement.{statement}
 use Rattle.reconciliation.proofs.reconcile.count_cases.Tie as tie
@@ -27,14 +28,26 @@ abbrev μ-loop : tie.MeasureT-loop
 loop-holds : tie.Need-loop-holds Inv-loop μ-loop
 loop-holds c = search needs
 
-row-at-requires : tie.Need-row-at-requires Inv-loop μ-loop
-row-at-requires c κs = search needs
+mul-at : tie.Need-mul-at Inv-loop μ-loop
+mul-at c = search needs
 
-array-read-case-type : tie.Need-array-read-case-type Inv-loop μ-loop
-array-read-case-type c = search needs
+add-end : tie.Need-add-end Inv-loop μ-loop
+add-end c = search needs
+
+sub-row : tie.Need-sub-row Inv-loop μ-loop
+sub-row c = search needs
+
+part-row-start : tie.Need-part-row-start Inv-loop μ-loop
+part-row-start c = search needs
+
+part-row-end : tie.Need-part-row-end Inv-loop μ-loop
+part-row-end c = search needs
+
+shared-slice-read-case-type : tie.Need-shared-slice-read-case-type Inv-loop μ-loop
+shared-slice-read-case-type c = simp (length-take, length-drop) (omega arith)
 
 is-reported-requires : tie.Need-is-reported-requires Inv-loop μ-loop
-is-reported-requires c κs = search needs
+is-reported-requires c κs = simp (length-take, length-drop) (omega arith)
 
 one-if-requires : tie.Need-one-if-requires Inv-loop μ-loop
 one-if-requires c κs = search needs
@@ -68,8 +81,9 @@ loop-again c =
     let l = c .before .before .before .before .before .before .before .loop in
     let t = c .before .before .before .before .before .before .loop-test .taken in
     let row : List ℕ = take 200 (drop (l .i * 200) m) in
-    let r : c .before .before .before .is-reported .result ≡ isReported s row = c .before .before .before .is-reported .ensures ∙ ap (isReported s) (c .before .before .before .before .before .row-at .ensures) in
-    let k : getD (c .before .before .before .before .before .row-at .result) 11 0 ≡ getD row 11 0 = ap (λ (x : List ℕ). getD x 11 0) (c .before .before .before .before .before .row-at .ensures) in
+    let p : take (l .i * 200 + 200 - l .i * 200) (drop (l .i * 200) m) ≡ row = part-width 200 m (l .i * 200) in
+    let r : c .before .before .before .is-reported .result ≡ isReported s row = c .before .before .before .is-reported .ensures ∙ ap (isReported s) p in
+    let k : getD (take (l .i * 200 + 200 - l .i * 200) (drop (l .i * 200) m)) 11 0 ≡ getD row 11 0 = ap (λ (x : List ℕ). getD x 11 0) p in
     let e1 : c .before .before .one-if .result ≡ cond (isReported s row) 1 0 = c .before .before .one-if .ensures .0 ∙ ap (λ (b : Bool). cond b 1 0) r in
     let e2 : c .before .one-if2 .result ≡ cond (isReported s row && eqb (getD row 11 0) A) 1 0 = rw (← r, ← k) (c .before .one-if2 .ensures .0) in
     let e3 : c .one-if3 .result ≡ cond (isReported s row && eqb (getD row 11 0) N) 1 0 = rw (← r, ← k) (c .one-if3 .ensures .0) in (
@@ -99,8 +113,12 @@ count-cases-spec =
     Inv-loop
     μ-loop
     loop-holds
-    row-at-requires
-    array-read-case-type
+    mul-at
+    add-end
+    sub-row
+    part-row-start
+    part-row-end
+    shared-slice-read-case-type
     is-reported-requires
     one-if-requires
     add-total

@@ -13,7 +13,7 @@ same-requires : tie.Need-same-requires
 same-requires c κs = search needs
 
 returns : tie.Need-returns
-returns c = rw (c .before .before .before .is-live .ensures, c .same .ensures, c .before .field .ensures)
+returns c = rw (c .before .before .is-live .ensures, c .same .ensures, c .before .field .ensures)
 
 pub is-reported-spec : {M : Type 1} → statement M
 is-reported-spec = tie.close (tie.spec is-live-requires field-requires same-requires returns)

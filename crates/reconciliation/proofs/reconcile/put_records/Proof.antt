@@ -1,6 +1,9 @@
 -- `reconcile::put_records`: what is written, and the records of the rows from i on behind it, are all the records. Assumes nothing.
-use Prim.Native.Nat.{_-_, _≤_}
+use Prim.Native.Nat.{_-_, _*_, _≤_}
+use native.Mathlib.Omega.{arith}
+use lib.ListN.{length-take, length-drop}
 use borrow.Author.Needs.{needs}
+use Rattle.text.proofs.BlocksLaws.{part-width}
 use Rattle.reconciliation.proofs.ReconcileLaws.{Writing, writing-start, writing-room, writing-next, writing-end}
 use Rattle.reconciliation.proofs.reconcile.put_records.Statement.{statement}
 use Rattle.reconciliation.proofs.reconcile.put_records.Tie as tie
@@ -16,14 +19,28 @@ loop-holds c =
     let a = c .before .before .before .args in
     (search needs, writing-start (a .state .now) (a .n) (a .m .now) (a .out .now))
 
-row-at-requires : tie.Need-row-at-requires Inv-loop μ-loop
-row-at-requires c κs = search needs
+mul-at : tie.Need-mul-at Inv-loop μ-loop
+mul-at c = search needs
+
+add-end : tie.Need-add-end Inv-loop μ-loop
+add-end c = search needs
+
+sub-put-record : tie.Need-sub-put-record Inv-loop μ-loop
+sub-put-record c = search needs
+
+part-put-record-start : tie.Need-part-put-record-start Inv-loop μ-loop
+part-put-record-start c = search needs
+
+part-put-record-end : tie.Need-part-put-record-end Inv-loop μ-loop
+part-put-record-end c = search needs
 
 put-record-requires : tie.Need-put-record-requires Inv-loop μ-loop
 put-record-requires c κs =
     let a = c .before .before .before .before .before .before .before .args in
-    let l = c .before .before .before .loop in
-    rw (c .before .row-at .ensures) (writing-room (a .state .now) (a .n) (a .m .now) (l .inv .1) (c .before .before .loop-test .taken) (c .before .before .before .before .before .before .before .pre .1))
+    let l = c .before .before .before .loop in (
+      simp (length-take, length-drop) (omega arith),
+      rw (part-width 200 (a .m .now) (l .i * 200)) (writing-room (a .state .now) (a .n) (a .m .now) (l .inv .1) (c .before .before .loop-test .taken) (c .before .before .before .before .before .before .before .pre .1)),
+    )
 
 add-i : tie.Need-add-i Inv-loop μ-loop
 add-i c = search needs
@@ -36,7 +53,7 @@ loop-again c =
     let a = c .before .before .before .before .before .before .before .before .before .before .args in
     let l = c .before .before .before .before .before .before .loop in
     let p = c .before .before .put-record in
-    (search needs, writing-next (a .state .now) (a .n) (a .m .now) (l .inv .1) (p .last .0) (p .result) (c .before .before .before .before .before .loop-test .taken) (p .kept .0) (rw (c .before .before .before .before .row-at .ensures) at (p .ensures)))
+    (search needs, writing-next (a .state .now) (a .n) (a .m .now) (l .inv .1) (p .last .0) (p .result) (c .before .before .before .before .before .loop-test .taken) (p .kept .0) (rw (part-width 200 (a .m .now) (l .i * 200)) at (p .ensures)))
 
 same-length : tie.Need-same-length Inv-loop μ-loop
 same-length c = c .before .loop .inv .1 .wide
@@ -53,7 +70,11 @@ put-records-spec =
     Inv-loop
     μ-loop
     loop-holds
-    row-at-requires
+    mul-at
+    add-end
+    sub-put-record
+    part-put-record-start
+    part-put-record-end
     put-record-requires
     add-i
     loop-less

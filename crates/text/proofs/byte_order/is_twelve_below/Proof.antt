@@ -1,15 +1,15 @@
--- `byte_order::is_twelve_below` meets its contract: keys of twelve bytes stand as their numbers do. Assumes nothing.
-use mathlib.Core.Path.{sym}
+-- `byte_order::is_twelve_below` meets its contract: both by their numbers. Assumes nothing.
 use native.Mathlib.Omega.{arith}
-use Rattle.text.proofs.ByteNumberLaws.{bytes-of, key-order}
+use borrow.Author.Needs.{needs}
+use Rattle.text.proofs.ByteNumberLaws.{bytes-of}
 use Rattle.text.proofs.byte_order.is_twelve_below.Statement.{statement}
 use Rattle.text.proofs.byte_order.is_twelve_below.Tie as tie
 
-front-number-requires : tie.Need-front-number-requires
-front-number-requires c κs = c .before .before .pre .0
+eight-number-requires : tie.Need-eight-number-requires
+eight-number-requires c κs = omega arith
 
-front-number-requires-2 : tie.Need-front-number-requires-2
-front-number-requires-2 c κs = c .before .before .before .pre .1
+eight-number-requires-2 : tie.Need-eight-number-requires-2
+eight-number-requires-2 c κs = omega arith
 
 four-number-requires : tie.Need-four-number-requires
 four-number-requires c κs = omega arith
@@ -17,22 +17,26 @@ four-number-requires c κs = omega arith
 four-number-requires-2 : tie.Need-four-number-requires-2
 four-number-requires-2 c κs = omega arith
 
+is-twelve-below-in-requires : tie.Need-is-twelve-below-in-requires
+is-twelve-below-in-requires c κs = search needs
+
 returns : tie.Need-returns
 returns c =
-    let s = c .before .before .before .before .before .before in
+    let s = c .before .before .before .before .before .before .before in
     let a = s .args .a .now in
     let b = s .args .b .now in
-    let p = bytes-of a (λ i h. omega (arith, c .before .before .before .before .before .shared-slice-known .given i)) in
-    let q = bytes-of b (λ i h. omega (arith, c .before .before .before .before .shared-slice-known2 .given i)) in
-    rw (c .before .before .before .front-number .ensures, c .before .before .front-number2 .ensures, c .before .four-number .ensures, c .four-number2 .ensures)
-    (sym (key-order a b (s .pre .0) (s .pre .1) p q))
+    let p = bytes-of a (λ i h. omega (arith, c .before .before .before .before .before .before .shared-slice-known .given i)) in
+    let q = bytes-of b (λ i h. omega (arith, c .before .before .before .before .before .shared-slice-known2 .given i)) in
+    c .is-twelve-below-in .ensures a b (s .pre .0) (s .pre .1) p q (c .before .before .before .before .eight-number .ensures)
+    (c .before .before .four-number .ensures .0) (c .before .before .before .eight-number2 .ensures) (c .before .four-number2 .ensures .0)
 
 pub is-twelve-below-spec : {M : Type 1} → statement M
 is-twelve-below-spec =
     tie.close
     (tie.spec
-    front-number-requires
-    front-number-requires-2
+    eight-number-requires
+    eight-number-requires-2
     four-number-requires
     four-number-requires-2
+    is-twelve-below-in-requires
     returns)
