@@ -1,4 +1,4 @@
-/* fantanolive.h: the C interface of the Fantanolive library, libfantanolive.a.
+/* fantanolive.h: the C interface of the Fantanolive library, libfantanolive.a and libfantanolive.so.
  *
  * The library keeps a state's copy of the federal offset case master. It has nine calls:
  *
@@ -13,7 +13,7 @@
  *     fantanolive_contacts_codes   writes the local codes of a state in such a table
  *
  * What the words here mean (row, record, detail, key, sound, code, faulty) and which columns the fields have is said in
- * documents 01 and 02 and their charts. Columns count from 1: column 1 is byte 0.
+ * the manual, MANUAL.md, and in documents 01 and 02 and their charts. Columns count from 1: column 1 is byte 0.
  *
  * Bytes. All text is EBCDIC: letters C1-C9, D1-D9, E2-E9, digits F0-F9, space 40, hyphen 60, comma 6B (hexadecimal).
  * A batch typed in ASCII is turned into EBCDIC by fantanolive_to_ebcdic first; the other calls convert nothing.
@@ -21,6 +21,7 @@
  * Answers. Each call answers 0 (FANTANOLIVE_DONE) when it was carried out, else the number of a refusal, 1 to 24. A
  * call answers the first refusal that holds, in the order that is given with it. On a refusal nothing at all is
  * written: no byte of any buffer, and no number of the result but the place that goes with refusal 16.
+ * fantanolive_text.h has the refusals and the codes of a verdict in words.
  *
  * Memory. The caller owns every buffer, before, during and after a call. The library allocates nothing, frees nothing
  * and keeps no pointer when a call returns. It reads no file and writes none.
@@ -58,6 +59,13 @@
 #ifdef __cplusplus
 extern "C" {
 #endif
+
+/* The version of the library that this header goes with, as text and as numbers. CHANGELOG.md says how versions are
+ * counted. */
+#define FANTANOLIVE_VERSION "1.8.0"
+#define FANTANOLIVE_VERSION_MAJOR 1
+#define FANTANOLIVE_VERSION_MINOR 8
+#define FANTANOLIVE_VERSION_PATCH 0
 
 /* Sizes in bytes of a row of the master, and of a record of a batch, a reject file and a reconciliation file. */
 #define FANTANOLIVE_ROW 200

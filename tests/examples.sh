@@ -32,7 +32,7 @@ if command -v cobc >/dev/null; then
 else
     echo "skipped: GnuCOBOL is not installed"
 fi
-compare examples/rust/expected.txt apply-rust
+compare bindings/rust/expected.txt apply-rust
 if bin/paper-example >target/examples/paper.out && diff examples/paper/expected.txt target/examples/paper.out; then
     echo "examples/paper: passed"
 else

@@ -24,60 +24,10 @@ cp "$root/target/bin/apply_batch" "$work/apply_batch" && chmod 755 "$work/apply_
 mkdir "$work/inputs" "$small"
 out=$work/out
 err=$work/err
-passed=0
-failed=0
-
-# --- Cases. The first thing that is wrong is what a case prints.
-
-begin() {
-    name=$1
-    wrong=
-}
-
-end() {
-    if [ -z "$wrong" ]; then
-        passed=$((passed + 1))
-    else
-        failed=$((failed + 1))
-        printf '%s: %s\n' "$name" "${wrong//$'\n'/ }"
-    fi
-}
-
-# want WHAT FOUND WANTED..
-want() {
-    local what=$1 found=$2 one
-    shift 2
-    for one in "$@"; do
-        [ "$found" = "$one" ] && return
-    done
-    wrong=${wrong:-"$what: '$found', not '$*'"}
-}
+. "$root/tests/cases.sh"
+. "$root/tests/samples.sh"
 
 # --- The files: 150 rows, and 100 details of which 30 add a row, 40 change one and 30 are rejected.
-
-ebcdic() {
-    dd conv=ebcdic status=none
-}
-
-# detail SSN NAME FIRST-NAME DOLLARS TYPE
-detail() {
-    printf 'OH   %09d%15s%-20s%-15s%08d%sN%171s' "$1" '' "$2" "$3" "$4" "$5" ''
-}
-
-make_master() {
-    local i
-    for ((i = 0; i < 150; i++)); do
-        printf 'OH%09dN000%15s%-20s%-15s%08d%5s%012d%104s\0 00  ' $((900000000 + i)) '' SMITH JOHN 25 '' 0 ''
-    done
-}
-
-make_batch() {
-    local i
-    for ((i = 0; i < 40; i++)); do detail $((900000000 + i)) SMITH '' 100 M; done
-    for ((i = 40; i < 70; i++)); do detail $((900000000 + i)) SMYTH '' 100 M; done
-    for ((i = 150; i < 180; i++)); do detail $((900000000 + i)) SMITH JOHN 25 A; done
-    printf 'OHCTL%09d%09d%011d%011d%200s' 0 100 0 7750 ''
-}
 
 line='OH accepted 70 rejected 30 warned 0 neither 0 rows 180'
 make_master | ebcdic >"$work/inputs/master.bin"
@@ -648,8 +598,4 @@ else
     trace_all
 fi
 
-if [ "$failed" != 0 ]; then
-    echo "faults: $failed failed, $passed passed"
-    exit 1
-fi
-echo "faults: $passed cases passed"
+report_cases faults

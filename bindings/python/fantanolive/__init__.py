@@ -1,0 +1,30 @@
+"""Fantanolive: a state's copy of the federal offset case master, through the proved library libfantanolive.so.
+
+The functions here take bytes-like files and return new bytes; those of fantanolive.calls have the same names and work in the
+caller's buffers, without copies. Text in files is EBCDIC (to_ebcdic, to_ascii). A refusal is raised as Refused, with number and
+words. FANTANOLIVE_LIBRARY may name the library's path."""
+from . import calls
+from ._header import CONTACT, KEY, LINE, LOCAL_CODE, MAX_CONTACTS, MAX_RECORDS, MAX_ROWS, RECORD, ROW
+from ._header import VERSION as __version__
+from .calls import ContactCounts, Counts
+from .forms import (
+    Applied,
+    Posted,
+    Updated,
+    add_cents,
+    apply,
+    contacts_codes,
+    contacts_update,
+    find,
+    post,
+    reconcile,
+    to_ascii,
+    to_ebcdic,
+)
+from .words import Refused, Text, code_text, codes_of, refusal_text
+
+__all__ = [
+    "Applied", "CONTACT", "ContactCounts", "Counts", "KEY", "LINE", "LOCAL_CODE", "MAX_CONTACTS", "MAX_RECORDS", "MAX_ROWS",
+    "Posted", "RECORD", "ROW", "Refused", "Text", "Updated", "__version__", "add_cents", "apply", "calls", "code_text",
+    "codes_of", "contacts_codes", "contacts_update", "find", "post", "reconcile", "refusal_text", "to_ascii", "to_ebcdic",
+]

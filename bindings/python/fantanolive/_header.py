@@ -1,0 +1,280 @@
+"""What the C headers say: the version, the numbers and the words. Written by ../generate; not to be edited."""
+
+VERSION = '1.8.0'
+
+# The constants of fantanolive.h, without FANTANOLIVE_ in front.
+VERSION_MAJOR = 1
+VERSION_MINOR = 8
+VERSION_PATCH = 0
+ROW = 200
+RECORD = 245
+CONTACT = 220
+LINE = 240
+KEY = 12
+STATE = 2
+DATE = 8
+LOCAL_CODE = 3
+MAX_ROWS = 65535
+MAX_RECORDS = 65536
+MAX_CONTACTS = 65535
+ACCEPTED = 0
+REJECTED = 1
+WARNED = 2
+NEITHER = 3
+ROWS = 4
+RESULTS = 5
+CONTACTS = 0
+FAULTY = 1
+CONTACT_RESULTS = 2
+DONE = 0
+WRONG_YEAR = 1
+WRONG_LOCALS = 2
+WRONG_MASTER = 3
+UNSOUND_ROW = 4
+WRONG_BATCH = 5
+NO_CTL = 6
+WRONG_COUNT = 7
+WRONG_AMOUNT = 8
+NO_ROOM = 9
+SHORT_VERDICTS = 10
+SHORT_OUTPUT = 11
+WRONG_STATE = 12
+WRONG_DATE = 13
+UNSOUND_KEY = 14
+NO_SUCH_ROW = 15
+NO_COUNTERPART = 16
+SHORT_FILE = 17
+WRONG_CONTACTS = 18
+SHORT_CONTACTS = 19
+CONTROL_STATE = 20
+CONTROL_FORM = 21
+WRONG_FILE = 22
+WRONG_TOTAL = 23
+SHORT_LINES = 24
+
+# A number's words: what is wrong, where, how to mend it.
+REFUSAL_TEXTS = {
+    1: (
+        'year outside 1900 to 9999',
+        'apply: the year',
+        'give the current calendar year in four digits',
+    ),
+    2: (
+        'list of local codes not made of three-digit codes, three bytes each, strictly rising',
+        'apply: the list of local codes',
+        'write each code as three EBCDIC digits with nothing between them or behind them, lowest first, none twice; an empty list is allowed',
+    ),
+    3: (
+        'master length no multiple of 200, or row count above length / 200 or above 65,535',
+        'apply, find, reconcile, add_cents, post: the master as a whole, and its row count',
+        'check that the file is a master and was copied whole, byte by byte; a row has 200 bytes and no line end, a master at most 65,535 rows',
+    ),
+    4: (
+        'a row that is not sound, or rows not in strictly rising order of key',
+        "apply, find, reconcile, add_cents, post: a row's columns 1-12 (key), 13-15, 31-34, 66-73, 79-90 or 196-200, or the order of the rows",
+        'take the last good copy of the master; if columns 197-200 are spaces in every row, run add_cents once (add_cents takes only such a master and refuses one that has its cents)',
+    ),
+    5: (
+        'batch empty, its length no multiple of 245, or over 65,536 records',
+        'apply: the batch as a whole',
+        'write every record with 245 bytes and no line end, details first, the control record last; send more than 65,535 details in several batches',
+    ),
+    6: (
+        'CTL is missing in the last record',
+        "apply: the batch's last record, columns 3-5",
+        'put the control record, with CTL in columns 3-5, behind the last detail; if the batch is in ASCII, convert it to EBCDIC first',
+    ),
+    7: (
+        'a record count of the control record differs from the details',
+        "apply: the control record's columns 6-14 (TANF records) and 15-23 (Non-TANF records)",
+        'count the details with A in column 74 and those with N, whatever errors they have; details with another case type count in neither',
+    ),
+    8: (
+        'an amount of the control record differs from the details',
+        "apply: the control record's columns 24-34 (TANF amount) and 35-45 (Non-TANF amount)",
+        'sum columns 65-72 over the details of types A and M alone, where they are eight digits, by case type A and N, whatever errors they have',
+    ),
+    9: (
+        'no room for new rows: rows plus details of type A whose key has no row exceed master length / 200 or 65,535',
+        "apply: the master's length, and the details with A in column 73",
+        "lend a master with 200 bytes behind its rows for each such detail, repeated and faulty ones counted; a master can't have more than 65,535 rows",
+    ),
+    10: (
+        'verdict list shorter than the details',
+        'apply: the length of the verdict list, counted in numbers',
+        'lend one 64-bit number for each detail of the batch',
+    ),
+    11: (
+        'output too short',
+        'apply: the reject buffer, below 245 x (details + 1) bytes; reconcile: the output, below 245 x (live rows of the state + 1) bytes',
+        'lend 245 bytes for each detail (apply) or row (reconcile) and 245 more',
+    ),
+    12: (
+        'state not in the table of 54',
+        'reconcile, contacts_codes: the state',
+        'give the two-letter code of a state or territory, two EBCDIC bytes in upper case',
+    ),
+    13: (
+        'not a calendar date CCYYMMDD of 1900 to 9999',
+        'reconcile: the date of the file',
+        'give a day that exists as eight digits, year, month, day; blank is no date',
+    ),
+    14: (
+        'key not of twelve bytes, or its state, SSN or case type wrong',
+        'find: the key, which is state (1-2), SSN (3-11) and case type (12)',
+        'give a state of the table, an SSN that is right (see code 02) and A or N, with nothing between them',
+    ),
+    15: (
+        'no row has this key',
+        'find: the key',
+        'check state, SSN and case type (A and N are two cases); a case has a row once an A for it was accepted, and keeps it when it is deleted',
+    ),
+    16: (
+        'a byte without a counterpart in the other character set',
+        'to_ebcdic, to_ascii: the input, at the place told with the refusal, the first byte being 0',
+        "leave only upper case letters, digits, space and - , . ( ) / & ' # in the file: no line ends, no lower case; never convert a master",
+    ),
+    17: (
+        'output shorter than the input',
+        "to_ebcdic, to_ascii: the output's length",
+        'lend as many bytes as the input has',
+    ),
+    18: (
+        'contact file or table of a wrong length or count, or a table with a faulty record or not in strictly rising order',
+        'contacts_update: the file (220 bytes a record, at most 65,535) and the table; contacts_codes: the table (220 bytes a record, by columns 1-5)',
+        'write contact records with 220 bytes and no line end; for a table take only what contacts_update has written, with its count, or start an empty one',
+    ),
+    19: (
+        'no space for contact records, or a list or output too short',
+        "contacts_update: the table's length or that of the list of faulty records; contacts_codes: the output, below 3 bytes a code",
+        'lend 220 bytes in the table for its records and for each record of the file, and one number a record of the file in the list; for codes 3 bytes a record of the table',
+    ),
+    20: (
+        'state of the control record not in the table of 54',
+        "apply: the control record's columns 1-2",
+        'put the two-letter code of the submitting state there, in upper case',
+    ),
+    21: (
+        'a total of the control record is not digits, or its filler is not spaces',
+        "apply: the control record's columns 6-45 (four totals) and 46-245 (filler)",
+        'write the totals right-justified with leading zeros, in 9, 9, 11 and 11 digits, and spaces behind them up to column 245',
+    ),
+    22: (
+        'collection file empty, its length no multiple of 240, or over 65,536 records',
+        'post: the collection file as a whole',
+        'check that the file was copied whole, byte by byte; a record has 240 bytes and no line end, and the last one is the TOTAL record',
+    ),
+    23: (
+        'last record of the collection file is not TOTAL, or its counts differ from the lines',
+        "post: the last record's columns 6-14 (TOTAL and four spaces), 35-49 (adjustments) and 50-64 (collections)",
+        'check that the file is whole and in EBCDIC; the counts, fifteen digits each, are of all lines with an adjustment (87-97) and with a collection (76-86) above zero; if they differ, get the file again',
+    ),
+    24: (
+        'line list shorter than the lines',
+        'post: the length of the line list, counted in numbers',
+        'lend one 16-bit number for each line of the file',
+    ),
+}
+
+CODE_TEXTS = {
+    1: (
+        "state not in the table of 54, or not the control record's",
+        'columns 1-2 (state), all types',
+        "put the control record's state into every detail; send another state's cases in a batch of their own",
+    ),
+    2: (
+        'SSN not nine digits, all zero, or with an area, group or serial that is never issued',
+        'columns 6-14 (SSN), all types',
+        'correct the SSN: nine digits; below 900 the first three are not 000 or 666, the next two not 00, the last four not 0000',
+    ),
+    3: (
+        'transaction type unknown',
+        'column 73 (transaction type)',
+        'use A, B, C, D, L, M, R, S, T or Z; columns that belong to a type are judged once the type is right',
+    ),
+    4: (
+        'case type neither A nor N',
+        'column 74 (case type), all types',
+        'use A for a TANF case and N for a Non-TANF case',
+    ),
+    5: (
+        'last name does not begin with letters or hyphens with only spaces behind, or, for A and B, has no letter there',
+        'columns 30-33 (last name, first four), all types',
+        'write the name in upper case from column 30 on; leave out spaces, apostrophes and other characters within the first four',
+    ),
+    6: (
+        'first name does not begin with a letter',
+        'column 50 (first name, first character), types A and B',
+        'write the first name in upper case from column 50 on',
+    ),
+    7: (
+        'amount not eight digits',
+        'columns 65-72 (arrearage; for S the accumulated payment), types A, M and S',
+        'write whole dollars right-justified with leading zeros, without sign, comma or point: 1,500 dollars are 00001500',
+    ),
+    8: (
+        'arrearage below 25 dollars',
+        'columns 65-72 (arrearage), type A',
+        'send the case once it owes 25 dollars or more; to lower the amount of a live case use M, to delete it D',
+    ),
+    9: (
+        'no live case with this key on the master',
+        'columns 1-2 (state), 6-14 (SSN) and 74 (case type), all types but A',
+        'check the three fields; if the case was never added, or is deleted, send an A first',
+    ),
+    10: (
+        'local code not in the list',
+        'columns 3-5 (local code), type L',
+        'use a code of the list, 000 or spaces; or have the code in the list first',
+    ),
+    11: (
+        'case ID blank',
+        'columns 15-29 (case ID), type C',
+        'write the new case ID',
+    ),
+    12: (
+        'transfer state not in the table of 54',
+        'columns 75-76 (transfer state), type T',
+        'put the two-letter code of the state that the case goes to there',
+    ),
+    13: (
+        'process year not four digits, in the future or more than seven years back',
+        'columns 80-83 (process year), type S',
+        'give the year of the offset in four digits, from seven years before the current year to the current year',
+    ),
+    14: (
+        'address incomplete or wrong',
+        'columns 84-113 and 114-143 (lines), 144-168 (city), 169-170 (state), 171-179 (ZIP), types Z and A',
+        'Z needs a line, the city, a state of the table and a ZIP of nine digits, or five and four spaces; A may leave state and ZIP blank, but one that is sent must be right',
+    ),
+    15: (
+        'date issued not a calendar date',
+        'columns 180-187 (date issued), type A',
+        'give a day of 1900 to 9999 that exists as CCYYMMDD, or leave the field blank',
+    ),
+    16: (
+        'exclusion word unknown',
+        'columns 188-227 (exclusion indicators), types A and R',
+        'use ADM, RET, VEN, SAL, TAX, PAS, FIN and DCK, with commas or spaces between them, or leave the field blank for none',
+    ),
+    17: (
+        'last name differs from the stored one',
+        'columns 30-33 (last name, first four), all types but A and B',
+        'use the stored name (its first four are in columns 240-243 of the reject record), or send the new name in a B of the same key in the same batch',
+    ),
+    18: (
+        'filler not spaces',
+        'columns 228-244 (filler), all types',
+        'write spaces there',
+    ),
+    51: (
+        'warning: local code not in the list, 000 is stored',
+        'columns 3-5 (local code), type A',
+        'the record is accepted; to set a code, have it in the list and send an L',
+    ),
+    52: (
+        "warning: name differs from the live case's and replaces it",
+        'columns 30-49 (last name) and 50-64 (first name), type A',
+        'the record is accepted; check that the SSN is the right one: if it is not, this case took the names, amount and exclusions of another, and an A with its own is to be sent',
+    ),
+}

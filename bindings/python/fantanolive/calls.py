@@ -1,0 +1,102 @@
+"""The calls of fantanolive.h, one function each, over buffers that the caller owns.
+
+Arguments stand in the order of the header, without the lengths: a buffer has its own. What a call writes it writes in place, so
+that argument must be a writable buffer (bytearray, array, a writable mmap or memoryview); the others may be any bytes-like
+object. Buffers must be contiguous, and one that is written must not overlap another. Numbers of the result are returned; a
+refusal is raised as Refused. While a call runs its buffers can't be resized, and other threads go on."""
+import collections
+import ctypes
+
+from . import _header
+from ._lending import NUMBERS_16, NUMBERS_64, Call, number
+
+# The result of apply. Accepted includes warned; rows are those of the master afterwards.
+Counts = collections.namedtuple("Counts", "accepted rejected warned neither rows")
+
+# The result of contacts_update: the records of the table afterwards, and how many faulty ones are listed.
+ContactCounts = collections.namedtuple("ContactCounts", "contacts faulty")
+
+
+def apply(master, rows, batch, locals, year, verdicts, rejects):
+    """Applies a batch to a master. verdicts has 64-bit numbers: array('Q', ..). Returns Counts."""
+    result = (ctypes.c_uint64 * _header.RESULTS)()
+    with Call("apply") as call:
+        call.run(
+            *call.write("master", master), number("rows", rows), *call.read("batch", batch), *call.read("locals", locals),
+            number("year", year), *call.write("verdicts", verdicts, NUMBERS_64), *call.write("rejects", rejects), result,
+        )
+    return Counts(*result)
+
+
+def find(master, rows, key):
+    """Finds the row of a key. Returns its place, the first being 0."""
+    place = ctypes.c_uint64()
+    with Call("find") as call:
+        call.run(*call.read("master", master), number("rows", rows), *call.read("key", key), ctypes.byref(place))
+    return place.value
+
+
+def reconcile(master, rows, state, date, out):
+    """Writes the reconciliation file of a state. Returns the number of REC records."""
+    records = ctypes.c_uint64()
+    with Call("reconcile") as call:
+        call.run(
+            *call.read("master", master), number("rows", rows), *call.read("state", state), *call.read("date", date),
+            *call.write("out", out), ctypes.byref(records),
+        )
+    return records.value
+
+
+def add_cents(master, rows):
+    """Gives the rows of a master that have no cents yet 00 cents."""
+    with Call("add_cents") as call:
+        call.run(*call.write("master", master), number("rows", rows))
+
+
+def post(master, rows, file, lines):
+    """Posts a weekly collection file. lines has 16-bit numbers: array('H', ..). Returns how many lines are listed there."""
+    listed = ctypes.c_uint64()
+    with Call("post") as call:
+        call.run(
+            *call.write("master", master), number("rows", rows), *call.read("file", file),
+            *call.write("lines", lines, NUMBERS_16), ctypes.byref(listed),
+        )
+    return listed.value
+
+
+def to_ebcdic(file, out):
+    """Turns a file from ASCII into EBCDIC. Refused has the place of the first byte without a counterpart."""
+    _convert("to_ebcdic", file, out)
+
+
+def to_ascii(file, out):
+    """Turns a file from EBCDIC into ASCII. Refused has the place of the first byte without a counterpart."""
+    _convert("to_ascii", file, out)
+
+
+def contacts_update(table, count, file, faulty):
+    """Reads a contact file into a table. faulty has 16-bit numbers: array('H', ..). Returns ContactCounts."""
+    result = (ctypes.c_uint64 * _header.CONTACT_RESULTS)()
+    with Call("contacts_update") as call:
+        call.run(
+            *call.write("table", table), number("count", count), *call.read("file", file),
+            *call.write("faulty", faulty, NUMBERS_16), result,
+        )
+    return ContactCounts(*result)
+
+
+def contacts_codes(table, count, state, out):
+    """Writes the local codes of a state, all but 000. Returns how many they are."""
+    codes = ctypes.c_uint64()
+    with Call("contacts_codes") as call:
+        call.run(
+            *call.read("table", table), number("count", count), *call.read("state", state), *call.write("out", out),
+            ctypes.byref(codes),
+        )
+    return codes.value
+
+
+def _convert(name, file, out):
+    place = ctypes.c_uint64()
+    with Call(name) as call:
+        call.run(*call.read("file", file), *call.write("out", out), ctypes.byref(place), place=place)

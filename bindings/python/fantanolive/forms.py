@@ -1,0 +1,115 @@
+"""The calls over whole files: arguments are bytes-like and stay as they are, what a call writes is returned as new bytes. A
+master and a table are just their rows and records here, with no space behind them. A refusal is raised as Refused."""
+import array
+import collections
+
+from . import _header, calls
+from ._lending import view_of
+
+TYPE_COLUMN = 73
+TYPE_A = 0xC1
+
+# What apply leaves: the new master and the reject file (bytes), a 64-bit verdict per detail (array), and the Counts.
+Applied = collections.namedtuple("Applied", "master rejects verdicts counts")
+
+# What post leaves: the new master (bytes) and the numbers of the listed lines, the first line being 1 (array).
+Posted = collections.namedtuple("Posted", "master lines")
+
+# What contacts_update leaves: the new table (bytes) and the numbers of the faulty records, the first being 1 (array).
+Updated = collections.namedtuple("Updated", "table faulty")
+
+
+def apply(master, batch, locals, year):
+    """Applies a batch to a master. Returns Applied."""
+    sent = _bytes("batch", batch)
+    details = max(len(sent) // _header.RECORD - 1, 0)
+    adds = sent[TYPE_COLUMN - 1 :: _header.RECORD].count(TYPE_A)
+    rows, space = _rows_and_space("master", master, _header.ROW, adds)
+    verdicts = array.array("Q", bytes(8 * details))
+    rejects = bytearray(_header.RECORD * (details + 1))
+    counts = calls.apply(space, rows, sent, locals, year, verdicts, rejects)
+    rejected = details - verdicts.count(0)
+    return Applied(_front(space, _header.ROW * counts.rows), _front(rejects, _header.RECORD * (rejected + 1)), verdicts, counts)
+
+
+def find(master, key):
+    """Finds the row of a key. Returns its place, the first being 0."""
+    return calls.find(master, _count("master", master, _header.ROW), key)
+
+
+def reconcile(master, state, date):
+    """The reconciliation file of a state."""
+    rows = _count("master", master, _header.ROW)
+    out = bytearray(_header.RECORD * (rows + 1))
+    records = calls.reconcile(master, rows, state, date, out)
+    return _front(out, _header.RECORD * (records + 1))
+
+
+def add_cents(master):
+    """A master that has no cents yet with 00 cents in every row."""
+    rows, space = _rows_and_space("master", master, _header.ROW, 0)
+    calls.add_cents(space, rows)
+    return bytes(space)
+
+
+def post(master, file):
+    """Posts a weekly collection file. Returns Posted."""
+    rows, space = _rows_and_space("master", master, _header.ROW, 0)
+    lines = array.array("H", bytes(2 * max(_count("file", file, _header.LINE) - 1, 0)))
+    listed = calls.post(space, rows, file, lines)
+    return Posted(bytes(space), lines[:listed])
+
+
+def to_ebcdic(file):
+    """A file turned from ASCII into EBCDIC."""
+    out = bytearray(_count("file", file, 1))
+    calls.to_ebcdic(file, out)
+    return bytes(out)
+
+
+def to_ascii(file):
+    """A file turned from EBCDIC into ASCII."""
+    out = bytearray(_count("file", file, 1))
+    calls.to_ascii(file, out)
+    return bytes(out)
+
+
+def contacts_update(table, file):
+    """Reads a contact file into a table. Returns Updated."""
+    records = _count("file", file, _header.CONTACT)
+    count, space = _rows_and_space("table", table, _header.CONTACT, records)
+    faulty = array.array("H", bytes(2 * records))
+    counts = calls.contacts_update(space, count, file, faulty)
+    return Updated(_front(space, _header.CONTACT * counts.contacts), faulty[: counts.faulty])
+
+
+def contacts_codes(table, state):
+    """The local codes of a state, all but 000: a list as apply takes it."""
+    count = _count("table", table, _header.CONTACT)
+    out = bytearray(_header.LOCAL_CODE * count)
+    codes = calls.contacts_codes(table, count, state, out)
+    return _front(out, _header.LOCAL_CODE * codes)
+
+
+def _count(name, buffer, width):
+    """How many whole blocks of a width a buffer has; a rest is left to the call to refuse."""
+    with view_of(name, buffer) as view:
+        return view.nbytes // width
+
+
+def _bytes(name, buffer):
+    with view_of(name, buffer) as view:
+        return view.tobytes()
+
+
+def _rows_and_space(name, buffer, width, more):
+    """The number of blocks of a buffer, and a copy of it with space for more."""
+    copy = bytearray(_bytes(name, buffer))
+    count = len(copy) // width
+    copy.extend(bytes(width * more))
+    return count, copy
+
+
+def _front(buffer, length):
+    with memoryview(buffer) as view:
+        return bytes(view[:length])

@@ -1,0 +1,75 @@
+"""The forms that return new bytes: the same as the calls in place, and arguments that stay as they are."""
+import unittest
+
+import fantanolive
+from fantanolive import Refused
+from sample import PAPER_BATCH, contact, control, detail, ebcdic, line, row, total
+
+
+class Forms(unittest.TestCase):
+    def refusal(self, function, *arguments):
+        with self.assertRaises(Refused) as caught:
+            function(*arguments)
+        return caught.exception.number
+
+    def test_paper_example(self):
+        applied = fantanolive.apply(b"", PAPER_BATCH, b"", 2007)
+        self.assertEqual(applied.counts, (1, 1, 0, 0, 1))
+        self.assertEqual(applied.master, row())
+        self.assertEqual([fantanolive.codes_of(verdict) for verdict in applied.verdicts], [[], [17]])
+        self.assertEqual(len(applied.rejects), 490)
+        self.assertEqual(applied.rejects[227:243], ebcdic(f"17{'':10}SMIT"))
+
+    def test_apply_to_a_full_master(self):
+        master = row("123456780") + row("123456781")
+        batch = detail("SMITH", 30, "A", "JOHN", "123456779") + detail("SMITH", 0, "D", ssn="123456780") + control(2, 30)
+        applied = fantanolive.apply(memoryview(master), bytearray(batch), b"", 2007)
+        self.assertEqual(applied.master[:200], row("123456779", 30))
+        self.assertEqual(applied.master[200:], row("123456780", 0, "D00  ") + row("123456781"))
+        self.assertEqual(master, row("123456780") + row("123456781"))
+
+    def test_apply_refused(self):
+        self.assertEqual(self.refusal(fantanolive.apply, b"", b"", b"", 2007), 5)
+        self.assertEqual(self.refusal(fantanolive.apply, row()[:-1], PAPER_BATCH, b"", 2007), 3)
+        self.assertEqual(self.refusal(fantanolive.apply, bytes(200), PAPER_BATCH, b"", 2007), 4)
+
+    def test_find(self):
+        self.assertEqual(fantanolive.find(row("123456780") + row(), ebcdic("OH123456789N")), 1)
+        self.assertEqual(self.refusal(fantanolive.find, b"", ebcdic("OH123456789N")), 15)
+        self.assertEqual(self.refusal(fantanolive.find, bytes(100), ebcdic("OH123456789N")), 3)
+
+    def test_reconcile(self):
+        file = fantanolive.reconcile(row() + row("123456790", 0, "D00  "), ebcdic("OH"), ebcdic("20070102"))
+        self.assertEqual(len(file), 490)
+        self.assertEqual(file[245:285], ebcdic("RCTOH00000000000000000100000000120070102"))
+
+    def test_add_cents_and_post(self):
+        master = fantanolive.add_cents(row(end="     "))
+        self.assertEqual(master, row())
+        posted = fantanolive.post(master, line(collection=2500) + line(adjustment=1) + total(1, 1))
+        self.assertEqual(posted.master, row(dollars=0, end="D00  "))
+        self.assertEqual(list(posted.lines), [2])
+        self.assertEqual(self.refusal(fantanolive.post, master, b""), 22)
+        self.assertEqual(self.refusal(fantanolive.add_cents, master), 4)
+
+    def test_conversion(self):
+        self.assertEqual(fantanolive.to_ascii(fantanolive.to_ebcdic(b"O-NE")), b"O-NE")
+        self.assertEqual(fantanolive.to_ebcdic(b""), b"")
+        self.assertEqual(self.refusal(fantanolive.to_ebcdic, b"a"), 16)
+
+    def test_contacts(self):
+        updated = fantanolive.contacts_update(b"", contact("001") + contact("0x1") + contact("000"))
+        self.assertEqual(updated.table, contact("000") + contact("001"))
+        self.assertEqual(list(updated.faulty), [2])
+        self.assertEqual(fantanolive.contacts_codes(updated.table, ebcdic("OH")), ebcdic("001"))
+        self.assertEqual(self.refusal(fantanolive.contacts_update, b"", bytes(219)), 18)
+        self.assertEqual(self.refusal(fantanolive.contacts_codes, updated.table, b""), 12)
+
+    def test_other_than_bytes_like(self):
+        for wrong in ("OH123456789N", 12, None, [1, 2]):
+            self.assertRaises(TypeError, fantanolive.find, row(), wrong)
+            self.assertRaises(TypeError, fantanolive.apply, wrong, PAPER_BATCH, b"", 2007)
+
+
+if __name__ == "__main__":
+    unittest.main()

@@ -1,0 +1,92 @@
+//! The C functions, as `fantanolive.h` declares them.
+
+extern "C" {
+    pub fn fantanolive_apply(
+        master: *mut u8,
+        master_length: usize,
+        rows: usize,
+        batch: *const u8,
+        batch_length: usize,
+        locals: *const u8,
+        locals_length: usize,
+        year: u64,
+        verdicts: *mut u64,
+        verdicts_length: usize,
+        rejects: *mut u8,
+        rejects_length: usize,
+        result: *mut u64,
+    ) -> u64;
+
+    pub fn fantanolive_find(
+        master: *const u8,
+        master_length: usize,
+        rows: usize,
+        key: *const u8,
+        key_length: usize,
+        place: *mut u64,
+    ) -> u64;
+
+    pub fn fantanolive_reconcile(
+        master: *const u8,
+        master_length: usize,
+        rows: usize,
+        state: *const u8,
+        state_length: usize,
+        date: *const u8,
+        date_length: usize,
+        out: *mut u8,
+        out_length: usize,
+        records: *mut u64,
+    ) -> u64;
+
+    pub fn fantanolive_add_cents(master: *mut u8, master_length: usize, rows: usize) -> u64;
+
+    pub fn fantanolive_post(
+        master: *mut u8,
+        master_length: usize,
+        rows: usize,
+        file: *const u8,
+        file_length: usize,
+        lines: *mut u16,
+        lines_length: usize,
+        listed: *mut u64,
+    ) -> u64;
+
+    pub fn fantanolive_to_ebcdic(
+        input: *const u8,
+        input_length: usize,
+        out: *mut u8,
+        out_length: usize,
+        place: *mut u64,
+    ) -> u64;
+
+    pub fn fantanolive_to_ascii(
+        input: *const u8,
+        input_length: usize,
+        out: *mut u8,
+        out_length: usize,
+        place: *mut u64,
+    ) -> u64;
+
+    pub fn fantanolive_contacts_update(
+        table: *mut u8,
+        table_length: usize,
+        count: usize,
+        file: *const u8,
+        file_length: usize,
+        faulty: *mut u16,
+        faulty_length: usize,
+        result: *mut u64,
+    ) -> u64;
+
+    pub fn fantanolive_contacts_codes(
+        table: *const u8,
+        table_length: usize,
+        count: usize,
+        state: *const u8,
+        state_length: usize,
+        out: *mut u8,
+        out_length: usize,
+        codes: *mut u64,
+    ) -> u64;
+}

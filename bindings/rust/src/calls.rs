@@ -1,0 +1,296 @@
+//! The nine calls over slices.
+//!
+//! Every `unsafe` block here is sound for the same reason, given at `apply`.
+
+use crate::c;
+use crate::refusal::{done, NotConverted, Refusal};
+
+/// The five numbers of a batch that was applied.
+#[derive(Clone, Copy, Debug, PartialEq, Eq)]
+pub struct Counts {
+    /// Details of case type A or N without an error, warned ones included.
+    pub accepted: u64,
+    /// Details of case type A or N with an error.
+    pub rejected: u64,
+    /// Details with a warning; they are among the accepted.
+    pub warned: u64,
+    /// Details of neither case type; they are in none of the three above.
+    pub neither: u64,
+    /// Rows of the master afterwards, deleted ones included.
+    pub rows: u64,
+}
+
+/// The two numbers of a contact file that was read.
+#[derive(Clone, Copy, Debug, PartialEq, Eq)]
+pub struct ContactCounts {
+    /// Records of the table afterwards.
+    pub contacts: u64,
+    /// Faulty records of the file, whose numbers are in the list.
+    pub faulty: u64,
+}
+
+/// Applies a batch to a master.
+///
+/// `master` has `rows` rows of 200 bytes at entry, and behind them the space for new ones. `batch` has the details and then
+/// the control record, 245 bytes each. `locals` is the list of local codes, `year` the process year. `verdicts` takes a
+/// number per detail (see [`crate::codes`]), `rejects` the reject file, at least 245 × (details + 1) bytes.
+///
+/// Bytes behind the last row, verdict and reject record are kept.
+///
+/// # Errors
+///
+/// Refusals 1 to 6, 20, 21 and 7 to 11, the first that holds in this order; every buffer is then as before.
+pub fn apply(
+    master: &mut [u8],
+    rows: usize,
+    batch: &[u8],
+    locals: &[u8],
+    year: u64,
+    verdicts: &mut [u64],
+    rejects: &mut [u8],
+) -> Result<Counts, Refusal> {
+    let mut result = [0; 5];
+    // SAFETY: every pointer comes from a slice with its length, so it is not null, is aligned and is valid for that length;
+    // those that are written come from exclusive borrows, so they overlap nothing. The library keeps no pointer.
+    let answer = unsafe {
+        c::fantanolive_apply(
+            master.as_mut_ptr(),
+            master.len(),
+            rows,
+            batch.as_ptr(),
+            batch.len(),
+            locals.as_ptr(),
+            locals.len(),
+            year,
+            verdicts.as_mut_ptr(),
+            verdicts.len(),
+            rejects.as_mut_ptr(),
+            rejects.len(),
+            result.as_mut_ptr(),
+        )
+    };
+    done(answer)?;
+    let [accepted, rejected, warned, neither, rows] = result;
+    Ok(Counts {
+        accepted,
+        rejected,
+        warned,
+        neither,
+        rows,
+    })
+}
+
+/// Finds the row of a key, deleted or not, and answers its place, the first being 0.
+///
+/// `master` has `rows` rows of 200 bytes; `key` is state, SSN and case type, twelve bytes.
+///
+/// # Errors
+///
+/// Refusals 3, 4, 14 and 15, the first that holds.
+pub fn find(master: &[u8], rows: usize, key: &[u8]) -> Result<u64, Refusal> {
+    let mut place = 0;
+    // SAFETY: as in `apply`; only `place` is written.
+    let answer = unsafe {
+        c::fantanolive_find(
+            master.as_ptr(),
+            master.len(),
+            rows,
+            key.as_ptr(),
+            key.len(),
+            &mut place,
+        )
+    };
+    done(answer)?;
+    Ok(place)
+}
+
+/// Writes the reconciliation file of a state and answers the number of its REC records.
+///
+/// `master` has `rows` rows of 200 bytes; `state` has two bytes, `date` eight (CCYYMMDD). `out` takes a REC record per live
+/// row of the state and then the RCT record, 245 bytes each; bytes behind them are kept. 245 × (rows + 1) bytes are always
+/// enough.
+///
+/// # Errors
+///
+/// Refusals 3, 4, 12, 13 and 11, the first that holds in this order; `out` is then as before.
+pub fn reconcile(
+    master: &[u8],
+    rows: usize,
+    state: &[u8],
+    date: &[u8],
+    out: &mut [u8],
+) -> Result<u64, Refusal> {
+    let mut records = 0;
+    // SAFETY: as in `apply`; only `out` and `records` are written.
+    let answer = unsafe {
+        c::fantanolive_reconcile(
+            master.as_ptr(),
+            master.len(),
+            rows,
+            state.as_ptr(),
+            state.len(),
+            date.as_ptr(),
+            date.len(),
+            out.as_mut_ptr(),
+            out.len(),
+            &mut records,
+        )
+    };
+    done(answer)?;
+    Ok(records)
+}
+
+/// Gives the rows of a master from before the cents 00 cents. It is to be called once; a master with rows that have cents is
+/// refused (4).
+///
+/// # Errors
+///
+/// Refusals 3 and 4 over rows without cents, the first that holds; `master` is then as before.
+pub fn add_cents(master: &mut [u8], rows: usize) -> Result<(), Refusal> {
+    // SAFETY: as in `apply`; only `master` is written.
+    done(unsafe { c::fantanolive_add_cents(master.as_mut_ptr(), master.len(), rows) })
+}
+
+/// Posts a weekly collection file to a master, line by line in file order, and answers how many lines were not posted: their
+/// numbers, the first line being 1, are at the front of `lines`.
+///
+/// `file` has the lines and then the last record, 240 bytes each. `lines` takes at least one number per line.
+///
+/// # Errors
+///
+/// Refusals 3, 4, 22, 23 and 24, the first that holds; every buffer is then as before.
+pub fn post(
+    master: &mut [u8],
+    rows: usize,
+    file: &[u8],
+    lines: &mut [u16],
+) -> Result<u64, Refusal> {
+    let mut listed = 0;
+    // SAFETY: as in `apply`.
+    let answer = unsafe {
+        c::fantanolive_post(
+            master.as_mut_ptr(),
+            master.len(),
+            rows,
+            file.as_ptr(),
+            file.len(),
+            lines.as_mut_ptr(),
+            lines.len(),
+            &mut listed,
+        )
+    };
+    done(answer)?;
+    Ok(listed)
+}
+
+fn converted(answer: u64, place: u64) -> Result<(), NotConverted> {
+    match done(answer) {
+        Ok(()) => Ok(()),
+        Err(Refusal::NoCounterpart) => Err(NotConverted::NoCounterpart { place }),
+        Err(_) => Err(NotConverted::ShortFile),
+    }
+}
+
+/// Turns a file from ASCII into EBCDIC. `out` is at least as long as `input`; bytes behind that length are kept.
+///
+/// # Errors
+///
+/// Refusals 16, with its place, and 17, the first that holds; `out` is then as before.
+pub fn to_ebcdic(input: &[u8], out: &mut [u8]) -> Result<(), NotConverted> {
+    let mut place = 0;
+    // SAFETY: as in `apply`; only `out` and `place` are written.
+    let answer = unsafe {
+        c::fantanolive_to_ebcdic(
+            input.as_ptr(),
+            input.len(),
+            out.as_mut_ptr(),
+            out.len(),
+            &mut place,
+        )
+    };
+    converted(answer, place)
+}
+
+/// Turns a file from EBCDIC into ASCII; else as [`to_ebcdic`]. Masters are not to be converted.
+///
+/// # Errors
+///
+/// Refusals 16, with its place, and 17, the first that holds; `out` is then as before.
+pub fn to_ascii(input: &[u8], out: &mut [u8]) -> Result<(), NotConverted> {
+    let mut place = 0;
+    // SAFETY: as in `apply`; only `out` and `place` are written.
+    let answer = unsafe {
+        c::fantanolive_to_ascii(
+            input.as_ptr(),
+            input.len(),
+            out.as_mut_ptr(),
+            out.len(),
+            &mut place,
+        )
+    };
+    converted(answer, place)
+}
+
+/// Reads a contact file into a table of contact records, 220 bytes each in rising order of columns 1–5.
+///
+/// `table` has `count` records at entry, and behind them the space for new ones. `faulty` takes at least one number per
+/// record of `file`; the numbers of the faulty records, the first being 1, come to stand at its front. The call takes some
+/// 270 kilobytes of stack.
+///
+/// # Errors
+///
+/// Refusals 18 and 19, the first that holds; every buffer is then as before.
+pub fn contacts_update(
+    table: &mut [u8],
+    count: usize,
+    file: &[u8],
+    faulty: &mut [u16],
+) -> Result<ContactCounts, Refusal> {
+    let mut result = [0; 2];
+    // SAFETY: as in `apply`.
+    let answer = unsafe {
+        c::fantanolive_contacts_update(
+            table.as_mut_ptr(),
+            table.len(),
+            count,
+            file.as_ptr(),
+            file.len(),
+            faulty.as_mut_ptr(),
+            faulty.len(),
+            result.as_mut_ptr(),
+        )
+    };
+    done(answer)?;
+    let [contacts, faulty] = result;
+    Ok(ContactCounts { contacts, faulty })
+}
+
+/// Writes the local codes of a state, all but 000, three bytes each and rising, and answers how many they are. What it writes
+/// is a list of local codes for [`apply`]. 3 × `count` bytes are always enough.
+///
+/// # Errors
+///
+/// Refusals 18, 12 and 19, the first that holds in this order; `out` is then as before.
+pub fn contacts_codes(
+    table: &[u8],
+    count: usize,
+    state: &[u8],
+    out: &mut [u8],
+) -> Result<u64, Refusal> {
+    let mut codes = 0;
+    // SAFETY: as in `apply`; only `out` and `codes` are written.
+    let answer = unsafe {
+        c::fantanolive_contacts_codes(
+            table.as_ptr(),
+            table.len(),
+            count,
+            state.as_ptr(),
+            state.len(),
+            out.as_mut_ptr(),
+            out.len(),
+            &mut codes,
+        )
+    };
+    done(answer)?;
+    Ok(codes)
+}

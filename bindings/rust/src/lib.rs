@@ -1,0 +1,22 @@
+//! A safe wrapper of libfantanolive.a. Each function takes slices and answers a `Result`; a refusal writes nothing.
+//!
+//! Bytes are EBCDIC, as in document 01; only [`to_ebcdic`] and [`to_ascii`] convert. What the calls do, and every refusal, is
+//! said at length in `include/fantanolive.h`; the words of [`Text`] are those of `include/fantanolive_text.h`.
+
+mod c;
+mod calls;
+mod refusal;
+mod sizes;
+mod texts;
+mod verdict;
+
+pub use calls::{
+    add_cents, apply, contacts_codes, contacts_update, find, post, reconcile, to_ascii, to_ebcdic,
+    ContactCounts, Counts,
+};
+pub use refusal::{NotConverted, Refusal};
+pub use sizes::{
+    CONTACT, DATE, KEY, LINE, LOCAL_CODE, MAX_CONTACTS, MAX_RECORDS, MAX_ROWS, RECORD, ROW, STATE,
+};
+pub use texts::{code_text, refusal_text, Text, VERSION};
+pub use verdict::{codes, has_code, ERRORS, WARNINGS};

@@ -1,0 +1,24 @@
+//! Sizes in bytes and limits, as in `fantanolive.h`.
+
+/// Bytes of a row of the master.
+pub const ROW: usize = 200;
+/// Bytes of a record of a batch, a reject file and a reconciliation file.
+pub const RECORD: usize = 245;
+/// Bytes of a contact record, in a file and in a table.
+pub const CONTACT: usize = 220;
+/// Bytes of a record of a collection file.
+pub const LINE: usize = 240;
+/// Bytes of a key: columns 1–12 of a row.
+pub const KEY: usize = 12;
+/// Bytes of a state.
+pub const STATE: usize = 2;
+/// Bytes of a date, CCYYMMDD.
+pub const DATE: usize = 8;
+/// Bytes of a local code.
+pub const LOCAL_CODE: usize = 3;
+/// The most rows that a master may have.
+pub const MAX_ROWS: usize = 65_535;
+/// The most records that a batch or a collection file may have, the last record included.
+pub const MAX_RECORDS: usize = 65_536;
+/// The most records that a contact file may have.
+pub const MAX_CONTACTS: usize = 65_535;

@@ -1,0 +1,192 @@
+//! apply and check: a batch judged, and applied.
+
+use std::path::Path;
+
+use fantanolive::{Counts, Refusal, ERRORS, MAX_ROWS, RECORD, ROW};
+
+use crate::arguments::Arguments;
+use crate::code_page::{convert, Charset};
+use crate::commands::master::{expect, read_master};
+use crate::commands::output::{form_of, print};
+use crate::failure::{counted, Failure, Status};
+use crate::files::length;
+use crate::files::lock::Lock;
+use crate::files::read::{read, Input};
+use crate::files::replace::{put_in_place, stage_bytes};
+use crate::files::target::{apart, Target};
+use crate::progress::Progress;
+use crate::records::columns::control;
+use crate::records::field::{Form, Placeholder};
+use crate::records::kinds::{BATCH, LOCALS};
+use crate::report::notes;
+use crate::report::summary::Summary;
+use crate::report::verdicts::Verdicts;
+
+/// A batch that was carried out in memory.
+struct Judged {
+    batch: Input,
+    master: Input,
+    rows_before: usize,
+    verdicts: Vec<u64>,
+    rejects: Vec<u8>,
+    counts: Counts,
+}
+
+pub fn check(arguments: &Arguments, progress: &Progress) -> Result<Status, Failure> {
+    let master = Target::of(arguments.path(0))?;
+    expect(&master, arguments)?;
+    let judged = judge(arguments, progress)?;
+    let summary = judged
+        .summary("check")
+        .heading("would be carried out; nothing is written");
+    judged.report(arguments, progress, &summary, Charset::Ebcdic)
+}
+
+pub fn apply(arguments: &Arguments, progress: &Progress) -> Result<Status, Failure> {
+    let master = Target::of(arguments.path(0))?;
+    let rejects = Target::of(Path::new(arguments.needed("--rejects")))?;
+    let inputs = [arguments.path(1), Path::new(arguments.needed("--locals"))];
+    master.apart_from(&inputs)?;
+    rejects.apart_from(&inputs)?;
+    apart(&rejects, &master)?;
+    expect(&master, arguments)?;
+    let locks = [Lock::take(&master)?, Lock::take(&rejects)?];
+    expect(&master, arguments)?;
+    let mut judged = judge(arguments, progress)?;
+
+    let charset = Charset::of_flag(arguments.flag("--ascii"));
+    if charset == Charset::Ascii {
+        convert(&mut judged.rejects, charset).map_err(|place| {
+            let note = format!("the reject file has no ASCII form: byte {place}");
+            notes::refused(Refusal::NoCounterpart, vec![note])
+        })?;
+    }
+    let rows = &judged.master.bytes[..judged.counts.rows as usize * ROW];
+    let warning = put_in_place(vec![
+        stage_bytes(&rejects, progress, &judged.rejects)?,
+        stage_bytes(&master, progress, rows)?,
+    ])?;
+    drop(locks);
+    let summary = judged
+        .summary("apply")
+        .written(&rejects.given)
+        .written(&master.given)
+        .warning(warning);
+    judged.report(arguments, progress, &summary, charset)
+}
+
+/// Reads the files and applies the batch in memory.
+fn judge(arguments: &Arguments, progress: &Progress) -> Result<Judged, Failure> {
+    let charset = Charset::of_flag(arguments.flag("--ascii"));
+    let year = arguments.number("--year")?.unwrap_or_default();
+    let locals_path = Path::new(arguments.needed("--locals"));
+    let batch = read(arguments.path(1), &BATCH, charset, progress)?.into_ebcdic()?;
+    let locals = read(locals_path, &LOCALS, charset, progress)?.into_ebcdic()?;
+    let details = batch.records().saturating_sub(1);
+    let mut master = read_master(arguments, details, progress)?;
+    let rows_before = master.records();
+    let mut verdicts = vec![0; details];
+    let mut rejects = vec![0; RECORD * (details + 1)];
+    progress.now(format!("judging {}", counted(details as u64, "record")));
+    let counts = fantanolive::apply(
+        &mut master.bytes,
+        rows_before,
+        &batch.bytes,
+        &locals.bytes,
+        year,
+        &mut verdicts,
+        &mut rejects,
+    )
+    .map_err(|refusal| {
+        let full = arguments.flag("--full");
+        notes::refused(
+            refusal,
+            notes_of(refusal, &mut master, &batch, &locals, full),
+        )
+    })?;
+    let listed = verdicts.iter().filter(|&&verdict| verdict != 0).count();
+    rejects.truncate(RECORD * (listed + 1));
+    Ok(Judged {
+        batch,
+        master,
+        rows_before,
+        verdicts,
+        rejects,
+        counts,
+    })
+}
+
+/// What is known of the files of a batch that was refused.
+fn notes_of(
+    refusal: Refusal,
+    master: &mut Input,
+    batch: &Input,
+    locals: &Input,
+    full: bool,
+) -> Vec<String> {
+    let of_control = |fields| notes::of_last_record(batch, fields);
+    let rows = master.records();
+    match refusal {
+        Refusal::WrongLocals => notes::of_locals(locals),
+        Refusal::WrongMaster => length::of_length(master),
+        Refusal::UnsoundRow => notes::of_rows(master, rows, full),
+        Refusal::WrongBatch => length::of_file(batch),
+        Refusal::NoCtl => [length::of_file(batch), of_control(&[])].concat(),
+        Refusal::ControlState => of_control(&[control::STATE]),
+        Refusal::ControlForm => of_control(&[
+            control::TANF_RECORDS,
+            control::NON_TANF_RECORDS,
+            control::TANF_AMOUNT,
+            control::NON_TANF_AMOUNT,
+        ]),
+        Refusal::WrongCount => of_control(&[control::TANF_RECORDS, control::NON_TANF_RECORDS]),
+        Refusal::WrongAmount => of_control(&[control::TANF_AMOUNT, control::NON_TANF_AMOUNT]),
+        Refusal::NoRoom => vec![format!(
+            "{}: {}, and a master may have {}",
+            master.path.display(),
+            counted(rows as u64, "row"),
+            counted(MAX_ROWS as u64, "row")
+        )],
+        _ => Vec::new(),
+    }
+}
+
+impl Judged {
+    fn summary(&self, command: &'static str) -> Summary {
+        let rejected = self.verdicts.iter().any(|verdict| verdict & ERRORS != 0);
+        let form = Form::new(Charset::Ebcdic, Placeholder::Dot, false);
+        let last = self.batch.last().unwrap_or_default();
+        Summary::new(command, Status::of_rejects(rejected))
+            .text("state", form.field(&control::STATE, last))
+            .number("details", self.verdicts.len() as u64)
+            .number("accepted", self.counts.accepted)
+            .number("rejected", self.counts.rejected)
+            .number("warned", self.counts.warned)
+            .number("neither", self.counts.neither)
+            .number("rows before", self.rows_before as u64)
+            .number("rows", self.counts.rows)
+    }
+
+    fn report(
+        &self,
+        arguments: &Arguments,
+        progress: &Progress,
+        summary: &Summary,
+        charset: Charset,
+    ) -> Result<Status, Failure> {
+        let verdicts = Verdicts {
+            batch: &self.batch.bytes,
+            verdicts: &self.verdicts,
+            rejects: &self.rejects,
+            of_details: form_of(arguments, Charset::Ebcdic),
+            of_rejects: form_of(arguments, charset),
+        };
+        print(
+            arguments,
+            progress,
+            summary,
+            |screen| verdicts.put_text(screen),
+            |json| verdicts.put_json(json),
+        )
+    }
+}

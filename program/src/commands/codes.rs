@@ -1,0 +1,49 @@
+//! codes: the local codes of a state, as a list for apply.
+
+use std::os::unix::ffi::OsStrExt;
+use std::path::Path;
+
+use fantanolive::{Refusal, LOCAL_CODE};
+
+use crate::arguments::Arguments;
+use crate::code_page::{argument, convert, Charset};
+use crate::commands::output::print_summary;
+use crate::failure::{Failure, Status};
+use crate::files::lock::Lock;
+use crate::files::read::read;
+use crate::files::replace::replace;
+use crate::files::target::Target;
+use crate::progress::Progress;
+use crate::records::kinds::TABLE;
+use crate::report::notes;
+use crate::report::summary::Summary;
+
+pub fn run(arguments: &Arguments, progress: &Progress) -> Result<Status, Failure> {
+    let target = Target::of(Path::new(arguments.needed("--out")))?;
+    target.apart_from(&[arguments.path(0)])?;
+    let lock = Lock::take(&target)?;
+    let table = read(arguments.path(0), &TABLE, Charset::Ebcdic, progress)?;
+    let records = table.records();
+    let state = arguments.needed("--state");
+    let mut out = vec![0; LOCAL_CODE * records];
+    progress.now("writing the codes of the state");
+    let codes =
+        fantanolive::contacts_codes(&table.bytes, records, &argument(state.as_bytes()), &mut out)
+            .map_err(|refusal| match refusal {
+            Refusal::WrongContacts => notes::refused(refusal, notes::of_table(&table)),
+            _ => notes::refused(refusal, Vec::new()),
+        })?;
+    out.truncate(LOCAL_CODE * codes as usize);
+    if arguments.flag("--ascii") {
+        // the codes are digits
+        let _ = convert(&mut out, Charset::Ascii);
+    }
+    let warning = replace(&target, lock, progress, &out)?;
+    let summary = Summary::new("codes", Status::Done)
+        .text("state", state.to_string_lossy())
+        .number("records", records as u64)
+        .number("codes", codes)
+        .written(&target.given)
+        .warning(warning);
+    print_summary(arguments, progress, &summary)
+}

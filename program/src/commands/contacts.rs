@@ -1,0 +1,126 @@
+//! contacts: a contact file read into a table of contact records.
+
+use fantanolive::{Refusal, CONTACT};
+
+use crate::arguments::Arguments;
+use crate::code_page::Charset;
+use crate::commands::master::expect;
+use crate::commands::output::{form_of, print};
+use crate::failure::{counted, Failure, Status};
+use crate::files::length;
+use crate::files::lock::Lock;
+use crate::files::read::{read, read_with_room, Input};
+use crate::files::replace::replace;
+use crate::files::target::Target;
+use crate::progress::Progress;
+use crate::records::columns::{contact, Field};
+use crate::records::field::Form;
+use crate::records::kinds::{CONTACTS, TABLE};
+use crate::report::listed::Listed;
+use crate::report::notes;
+use crate::report::summary::Summary;
+
+/// When a record is faulty; the library does not say which of these it is.
+const REASONS: &str = "A record is good where its state is in the table of 54, its code three digits, telephone 1 of the form \
+(301) 555-1212, telephone 2 of this form or blank, each extension digits with only spaces behind or blank, CHILD SUPPORT or \
+FAMILY SUPPORT in the agency name, neither IRS nor FMS a word of the name or an address line, one of address lines 1 to 3 and \
+line 4 not blank, and the filler blank.";
+
+/// The members of a faulty record in JSON.
+const FIELDS: [(&str, Field); 3] = [
+    ("state", contact::STATE),
+    ("local_code", contact::LOCAL_CODE),
+    ("agency_name", contact::AGENCY),
+];
+
+pub fn run(arguments: &Arguments, progress: &Progress) -> Result<Status, Failure> {
+    let target = Target::of(arguments.path(0))?;
+    target.apart_from(&[arguments.path(1)])?;
+    expect(&target, arguments)?;
+    let lock = Lock::take(&target)?;
+    expect(&target, arguments)?;
+    let charset = Charset::of_flag(arguments.flag("--ascii"));
+    let file = read(arguments.path(1), &CONTACTS, charset, progress)?.into_ebcdic()?;
+    let sent = file.records();
+    let mut table = read_table(arguments, sent, progress)?;
+    let before = table.records();
+    let mut list = vec![0; sent];
+    progress.now(format!(
+        "reading {}",
+        counted(sent as u64, "contact record")
+    ));
+    let counts = fantanolive::contacts_update(&mut table.bytes, before, &file.bytes, &mut list)
+        .map_err(|refusal| notes::refused(refusal, notes_of(refusal, &table, &file)))?;
+    list.truncate(counts.faulty as usize);
+    let records = &table.bytes[..counts.contacts as usize * CONTACT];
+    let warning = replace(&target, lock, progress, records)?;
+    let summary = Summary::new("contacts", Status::of_rejects(counts.faulty > 0))
+        .number("records read", sent as u64)
+        .number("faulty", counts.faulty)
+        .number("table before", before as u64)
+        .number("table", counts.contacts)
+        .written(&target.given)
+        .warning(warning);
+    let listed = faulty(arguments, &list, &file);
+    print(
+        arguments,
+        progress,
+        &summary,
+        |screen| listed.put_text(screen),
+        |json| listed.put_json(json),
+    )
+}
+
+/// Reads the table with room for so many new records; with --new there is none to read.
+fn read_table(
+    arguments: &Arguments,
+    new_records: usize,
+    progress: &Progress,
+) -> Result<Input, Failure> {
+    let path = arguments.path(0);
+    // A file of a wrong length is lent as it is, so that the call refuses it.
+    let room = |length: usize| match length % CONTACT {
+        0 => length + new_records * CONTACT,
+        _ => length,
+    };
+    if arguments.flag("--new") {
+        return Ok(Input::none(path, &TABLE, room(0)));
+    }
+    read_with_room(path, &TABLE, Charset::Ebcdic, &room, progress)
+}
+
+/// What is known of the files where the update is refused.
+fn notes_of(refusal: Refusal, table: &Input, file: &Input) -> Vec<String> {
+    let of_file = match (refusal, file.length) {
+        (Refusal::WrongContacts, 1..) => length::of_file(file),
+        _ => Vec::new(),
+    };
+    if refusal == Refusal::WrongContacts && of_file.is_empty() {
+        return notes::of_table(table);
+    }
+    of_file
+}
+
+/// The faulty records.
+fn faulty<'a>(arguments: &Arguments, numbers: &'a [u16], file: &'a Input) -> Listed<'a> {
+    let mut notes = length::of_file(file);
+    notes.push(REASONS.to_string());
+    Listed {
+        heading: "Faulty records",
+        member: "faulty_records",
+        numbers,
+        file,
+        form: form_of(arguments, Charset::Ebcdic),
+        put_line,
+        fields: &FIELDS,
+        notes,
+    }
+}
+
+/// `OH003  COUNTY CHILD SUPPORT AGENCY`.
+fn put_line(form: &Form, record: &[u8], text: &mut String) {
+    form.put(&contact::STATE, record, text);
+    form.put(&contact::LOCAL_CODE, record, text);
+    text.push_str("  ");
+    form.put(&contact::AGENCY, record, text);
+}

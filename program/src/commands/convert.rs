@@ -1,0 +1,111 @@
+//! to-ebcdic and to-ascii: a file turned from one character set into the other, a part at a time.
+
+use std::fs::File;
+use std::io::{self, Read, Write};
+use std::path::Path;
+
+use fantanolive::{NotConverted, Refusal};
+
+use crate::arguments::Arguments;
+use crate::code_page::{conversion_to, looks_ascii, Charset, PART};
+use crate::commands::output::print_summary;
+use crate::failure::{words, Failure, Status};
+use crate::files::length::{byte_words, place_note};
+use crate::files::lock::Lock;
+use crate::files::replace::{put_in_place, stage, WriteFailure};
+use crate::files::target::Target;
+use crate::progress::Progress;
+use crate::report::notes::refused;
+use crate::report::summary::Summary;
+
+pub fn to_ebcdic(arguments: &Arguments, progress: &Progress) -> Result<Status, Failure> {
+    run(arguments, progress, Charset::Ebcdic)
+}
+
+pub fn to_ascii(arguments: &Arguments, progress: &Progress) -> Result<Status, Failure> {
+    run(arguments, progress, Charset::Ascii)
+}
+
+fn run(arguments: &Arguments, progress: &Progress, to: Charset) -> Result<Status, Failure> {
+    let path = arguments.path(0);
+    let target = Target::of(Path::new(arguments.needed("--out")))?;
+    target.apart_from(&[path])?;
+    let mut input = open(path)?;
+    let lock = Lock::take(&target)?;
+    let mut bytes = 0;
+    let staged = stage(&target, progress, |out| {
+        bytes = convert(path, &mut input, out, to)?;
+        Ok(())
+    })?;
+    let warning = put_in_place(vec![staged])?;
+    drop(lock);
+    let summary = Summary::new(arguments.command.name, Status::Done)
+        .heading("converted")
+        .number("bytes", bytes)
+        .written(&target.given)
+        .warning(warning);
+    print_summary(arguments, progress, &summary)
+}
+
+fn unread(path: &Path, error: &io::Error) -> Failure {
+    Failure::file(path, format!("can't be read: {}", words(error)))
+}
+
+fn open(path: &Path) -> Result<File, Failure> {
+    let file = File::open(path).map_err(|error| unread(path, &error))?;
+    match file.metadata() {
+        Ok(about) if about.is_dir() => Err(Failure::file(path, "can't be read: it is a folder")),
+        _ => Ok(file),
+    }
+}
+
+/// Converts a file to its end. The answer is its length.
+fn convert(
+    path: &Path,
+    input: &mut File,
+    out: &mut File,
+    to: Charset,
+) -> Result<u64, WriteFailure> {
+    let mut part = Vec::with_capacity(PART);
+    let mut converted = vec![0; PART];
+    let mut before = 0;
+    loop {
+        part.clear();
+        let read = input.take(PART as u64).read_to_end(&mut part);
+        let length = read.map_err(|error| WriteFailure::Other(unread(path, &error)))?;
+        if length == 0 {
+            return Ok(before);
+        }
+        if let Err(NotConverted::NoCounterpart { place }) = conversion_to(to)(&part, &mut converted)
+        {
+            let note = note_of(path, before, place, &part, to);
+            return Err(WriteFailure::Other(refused(
+                Refusal::NoCounterpart,
+                vec![note],
+            )));
+        }
+        out.write_all(&converted[..length])?;
+        before += length as u64;
+    }
+}
+
+/// What is known of a byte without a counterpart.
+fn note_of(path: &Path, before: u64, place: u64, part: &[u8], to: Charset) -> String {
+    let at = usize::try_from(place).unwrap_or_default();
+    let byte = part[at];
+    let hint = match to {
+        Charset::Ebcdic => byte_words(byte),
+        Charset::Ascii if looks_ascii(&[byte]) => {
+            ", an ASCII character: is the file in ASCII already?"
+        }
+        Charset::Ascii if byte == 0x15 || byte == 0x25 => {
+            ", an EBCDIC line end: take the line ends out"
+        }
+        Charset::Ascii => "",
+    };
+    format!(
+        "{}: {}{hint}",
+        path.display(),
+        place_note(before + place, byte, None)
+    )
+}

@@ -1,0 +1,54 @@
+//! The master of a command: whether it is to be there, and its rows read with room for new ones.
+
+use fantanolive::{Refusal, MAX_ROWS, ROW};
+
+use crate::arguments::Arguments;
+use crate::code_page::Charset;
+use crate::failure::Failure;
+use crate::files::length;
+use crate::files::read::{read_with_room, Input};
+use crate::files::target::Target;
+use crate::progress::Progress;
+use crate::records::kinds::MASTER;
+use crate::report::notes;
+
+/// Sees that a master or table is there, or with --new that it isn't.
+pub fn expect(target: &Target, arguments: &Arguments) -> Result<(), Failure> {
+    let what = match (target.exists(), arguments.flag("--new")) {
+        (true, true) => "is there already; --new is for a first run from no file",
+        (false, false) if arguments.command.option("--new").is_some() => {
+            "no such file; a first run from no file takes --new"
+        }
+        (false, false) => "no such file",
+        _ => return Ok(()),
+    };
+    Err(Failure::file(&target.given, what))
+}
+
+/// Reads the first operand, a master, with room for so many new rows; with --new there is none to read.
+pub fn read_master(
+    arguments: &Arguments,
+    new_rows: usize,
+    progress: &Progress,
+) -> Result<Input, Failure> {
+    let path = arguments.path(0);
+    // A file of a wrong length is lent as it is, so that the call refuses it.
+    let room = |length: usize| match (length / ROW, length % ROW) {
+        (rows, 0) => (rows + new_rows).min(MAX_ROWS) * ROW,
+        _ => length,
+    };
+    if arguments.flag("--new") {
+        return Ok(Input::none(path, &MASTER, room(0)));
+    }
+    read_with_room(path, &MASTER, Charset::Ebcdic, &room, progress)
+}
+
+/// What is known of a master that was refused; none for other refusals.
+pub fn notes_of(refusal: Refusal, master: &mut Input, full: bool) -> Vec<String> {
+    let rows = master.records();
+    match refusal {
+        Refusal::WrongMaster => length::of_length(master),
+        Refusal::UnsoundRow => notes::of_rows(master, rows, full),
+        _ => Vec::new(),
+    }
+}

@@ -1,0 +1,184 @@
+//! show: the records of a file as text.
+
+use std::io::{self, Write};
+use std::ops::Range;
+
+use crate::arguments::Arguments;
+use crate::code_page::Charset;
+use crate::commands::output::{form_of, printed, warn};
+use crate::failure::{Failure, Status};
+use crate::files::length::{of_length, too_long};
+use crate::files::read::{read, Input};
+use crate::nearest::nearest;
+use crate::progress::Progress;
+use crate::records::columns::Layout;
+use crate::records::field::Form;
+use crate::records::kinds::{FileKind, KINDS, MASTER};
+use crate::report::fields::{put_json_fields, put_list, Table};
+use crate::report::json::Json;
+use crate::report::screen::{Screen, Style};
+use crate::report::summary::Summary;
+
+fn kind_of(arguments: &Arguments) -> Result<&'static FileKind, Failure> {
+    let given = arguments.operand(0).to_string_lossy();
+    let found = KINDS.into_iter().find(|kind| kind.name == given);
+    found.ok_or_else(|| {
+        let names: Vec<&str> = KINDS.iter().map(|kind| kind.name).collect();
+        let near = nearest(&given, &mut KINDS.iter().map(|kind| kind.name));
+        let near = near.map_or(String::new(), |name| format!("; did you mean '{name}'?"));
+        let list = names.join(", ");
+        arguments.wrong(format!("'{given}' is no kind of file: {list}{near}"))
+    })
+}
+
+/// The records that are asked for, the first being 0.
+fn range_of(arguments: &Arguments, records: usize) -> Result<Range<usize>, Failure> {
+    let number = |name| -> Result<Option<usize>, Failure> {
+        let given = arguments.number(name)?;
+        Ok(given.map(|number| usize::try_from(number).unwrap_or(usize::MAX)))
+    };
+    let from = number("--from")?.unwrap_or(1);
+    if from == 0 {
+        return Err(arguments.wrong("--from counts from 1"));
+    }
+    let start = (from - 1).min(records);
+    let count = number("--count")?.unwrap_or(records);
+    Ok(start..start.saturating_add(count).min(records))
+}
+
+/// What is shown of a file.
+struct Shown<'a> {
+    input: &'a Input,
+    range: Range<usize>,
+    form: Form,
+}
+
+/// That the last record is the one of another kind with records as wide.
+fn of_kind(input: &Input, form: &Form) -> Option<String> {
+    let record = input.last()?;
+    let has_its_word = |kind: &&&FileKind| kind.marked(record, form).is_some();
+    let alike = KINDS.iter().filter(|kind| kind.width == input.kind.width);
+    let marked: Vec<_> = alike.filter(has_its_word).collect();
+    let is_other = marked.iter().all(|kind| kind.name != input.kind.name);
+    let last = marked.first()?.last.as_ref()?;
+    is_other.then(|| {
+        format!(
+            "{}: the last record has {} in columns {}: the file is of another kind",
+            input.path.display(),
+            last.word,
+            last.mark.columns()
+        )
+    })
+}
+
+/// What is wrong with the length, or the kind; an empty file has nothing to show. Without --full digits are masked then.
+fn warning_of(input: &Input, form: &Form) -> Option<String> {
+    let mut notes = of_length(input);
+    notes.extend(of_kind(input, form));
+    let is_wrong = input.length > 0 && !notes.is_empty();
+    if !form.full {
+        let masked = "digits are masked, since an SSN may stand in any column; --full shows them";
+        notes.push(masked.to_string());
+    }
+    is_wrong.then(|| notes.join("; "))
+}
+
+pub fn run(arguments: &Arguments, progress: &Progress) -> Result<Status, Failure> {
+    let kind = kind_of(arguments)?;
+    let charset = Charset::of_flag(arguments.flag("--ascii"));
+    if charset == Charset::Ascii && kind.name == MASTER.name {
+        return Err(arguments.wrong("a master is always in EBCDIC; --ascii is for other files"));
+    }
+    let input = read(arguments.path(1), kind, charset, progress)?;
+    if input.records() > kind.most {
+        return Err(Failure::file(&input.path, too_long(input.length, kind)));
+    }
+    let mut form = form_of(arguments, charset);
+    let warning = warning_of(&input, &form);
+    form.digits_masked = warning.is_some() && !form.full;
+    let summary = Summary::new("show", Status::Done)
+        .text("kind", kind.name)
+        .number("records", input.records() as u64)
+        .warning(warning);
+    let shown = Shown {
+        range: range_of(arguments, input.records())?,
+        form,
+        input: &input,
+    };
+    let as_list = arguments.flag("--list");
+    printed(
+        arguments,
+        progress,
+        |screen| shown.put_text(screen, as_list),
+        |json| {
+            summary.put_json(json)?;
+            shown.put_json(json)
+        },
+    )?;
+    warn(arguments, &summary);
+    Ok(summary.status())
+}
+
+impl Shown<'_> {
+    /// The fields of the last record, where it is one of its own and is among those shown.
+    fn last_fields(&self) -> Option<Layout> {
+        let last = self.input.records().checked_sub(1)?;
+        let record = self.input.record(last);
+        let kind = self.input.kind;
+        let marked = kind.marked(record, &self.form)?;
+        self.range.contains(&last).then_some(marked.fields)
+    }
+
+    fn put_text<W: Write>(&self, screen: &mut Screen<W>, as_list: bool) -> io::Result<()> {
+        let last = self.last_fields();
+        let end = self.range.end - usize::from(last.is_some());
+        let mut table = Table::new(self.input.kind.fields);
+        if !as_list && self.range.start < end {
+            table.put_names(screen, self.input.kind.record)?;
+        }
+        for number in self.range.start..end {
+            let record = self.input.record(number);
+            if as_list {
+                self.put_listed(screen, number, self.input.kind.fields)?;
+            } else {
+                table.put(screen, number + 1, record, &self.form)?;
+            }
+        }
+        if let Some(fields) = last {
+            if !as_list && self.range.start < end {
+                screen.plain("")?;
+            }
+            self.put_listed(screen, end, fields)?;
+        }
+        Ok(())
+    }
+
+    /// A record field by field below its number.
+    fn put_listed<W: Write>(
+        &self,
+        screen: &mut Screen<W>,
+        number: usize,
+        fields: Layout,
+    ) -> io::Result<()> {
+        let heading = format!("{} {}", self.input.kind.record, number + 1);
+        screen.line(Style::Heading, &heading)?;
+        put_list(screen, fields, self.input.record(number), &self.form)
+    }
+
+    fn put_json<W: Write>(&self, json: &mut Json<W>) -> io::Result<()> {
+        let last = self.last_fields();
+        json.name("shown")?;
+        json.begin_array()?;
+        for number in self.range.clone() {
+            let is_last = number + 1 == self.input.records();
+            let fields = last.filter(|_| is_last);
+            json.begin_object()?;
+            json.number_of("record", number as u64 + 1)?;
+            json.name("fields")?;
+            let fields = fields.unwrap_or(self.input.kind.fields);
+            put_json_fields(json, fields, self.input.record(number), &self.form)?;
+            json.end_object()?;
+        }
+        json.end_array()
+    }
+}

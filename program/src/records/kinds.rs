@@ -1,0 +1,133 @@
+//! The kinds of files: what their records are, and how many there may be.
+
+use fantanolive::{CONTACT, LINE, LOCAL_CODE, MAX_CONTACTS, MAX_RECORDS, MAX_ROWS, RECORD, ROW};
+
+use super::columns::{
+    contact, control, detail, line, local_code, rct, rec, reject, reject_control, row, total,
+    Field, Layout,
+};
+use super::field::Form;
+
+/// The last record of a file, where that is one of its own: its fields, and the word that it has in one of them. One without
+/// the word is shown as the other records are, so that no SSN is taken for a count.
+pub struct Last {
+    pub fields: Layout,
+    pub mark: Field,
+    pub word: &'static str,
+}
+
+pub struct FileKind {
+    /// Its name, which `show` takes.
+    pub name: &'static str,
+    /// What one of its records is called.
+    pub record: &'static str,
+    pub width: usize,
+    /// The most records that the library takes.
+    pub most: usize,
+    pub fields: Layout,
+    pub last: Option<Last>,
+}
+
+impl FileKind {
+    /// The last record of this kind, where a record has its word.
+    pub fn marked(&self, record: &[u8], form: &Form) -> Option<&Last> {
+        let last = self.last.as_ref()?;
+        (form.field(&last.mark, record) == last.word).then_some(last)
+    }
+}
+
+pub const MASTER: FileKind = FileKind {
+    name: "master",
+    record: "row",
+    width: ROW,
+    most: MAX_ROWS,
+    fields: row::FIELDS,
+    last: None,
+};
+
+pub const BATCH: FileKind = FileKind {
+    name: "batch",
+    record: "record",
+    width: RECORD,
+    most: MAX_RECORDS,
+    fields: detail::FIELDS,
+    last: Some(Last {
+        fields: control::FIELDS,
+        mark: control::MARK,
+        word: "CTL",
+    }),
+};
+
+pub const REJECTS: FileKind = FileKind {
+    name: "rejects",
+    record: "record",
+    width: RECORD,
+    most: MAX_RECORDS,
+    fields: reject::FIELDS,
+    last: Some(Last {
+        fields: reject_control::FIELDS,
+        mark: reject_control::MARK,
+        word: "CTL",
+    }),
+};
+
+pub const RECONCILIATION: FileKind = FileKind {
+    name: "reconciliation",
+    record: "record",
+    width: RECORD,
+    most: MAX_RECORDS,
+    fields: rec::FIELDS,
+    last: Some(Last {
+        fields: rct::FIELDS,
+        mark: rct::MARK,
+        word: "RCT",
+    }),
+};
+
+pub const CONTACTS: FileKind = FileKind {
+    name: "contacts",
+    record: "record",
+    width: CONTACT,
+    most: MAX_CONTACTS,
+    fields: contact::FIELDS,
+    last: None,
+};
+
+/// A table of contact records: 54 states with a thousand codes each, and each may be there once.
+pub const TABLE: FileKind = FileKind {
+    most: 54_000,
+    ..CONTACTS
+};
+
+pub const COLLECTIONS: FileKind = FileKind {
+    name: "collections",
+    record: "line",
+    width: LINE,
+    most: MAX_RECORDS,
+    fields: line::FIELDS,
+    last: Some(Last {
+        fields: total::FIELDS,
+        mark: total::MARK,
+        word: "TOTAL",
+    }),
+};
+
+/// Three digits make a thousand codes, and each may be there once.
+pub const LOCALS: FileKind = FileKind {
+    name: "locals",
+    record: "code",
+    width: LOCAL_CODE,
+    most: 1000,
+    fields: local_code::FIELDS,
+    last: None,
+};
+
+pub const KINDS: [&FileKind; 7] = [
+    &MASTER,
+    &BATCH,
+    &REJECTS,
+    &RECONCILIATION,
+    &CONTACTS,
+    &COLLECTIONS,
+    &LOCALS,
+];

@@ -1,0 +1,138 @@
+//! Records field by field: a line for each, a JSON object, or a table with a line per record.
+
+use std::io::{self, Write};
+
+use crate::records::columns::{Field, Kind, Layout};
+use crate::records::field::{exclusions, Form};
+use crate::report::json::Json;
+use crate::report::screen::{Screen, Style};
+
+/// Whether a field is left out: a filler that is blank.
+fn is_left_out(field: &Field, value: &str) -> bool {
+    field.kind == Kind::Filler && value.is_empty()
+}
+
+/// A line per field: its name, its columns and its value.
+pub fn put_list<W: Write>(
+    screen: &mut Screen<W>,
+    fields: Layout,
+    record: &[u8],
+    form: &Form,
+) -> io::Result<()> {
+    let width = fields
+        .iter()
+        .map(|field| field.name.len())
+        .max()
+        .unwrap_or(0);
+    let mut line = String::new();
+    for field in fields {
+        let value = form.field(field, record);
+        if is_left_out(field, &value) {
+            continue;
+        }
+        line.clear();
+        line += &format!("  {:<width$}  {:>7}  {value}", field.name, field.columns());
+        screen.plain(line.trim_end())?;
+    }
+    Ok(())
+}
+
+/// An object with a member per field. A set is an array; the name of a filler has its columns.
+pub fn put_json_fields<W: Write>(
+    json: &mut Json<W>,
+    fields: Layout,
+    record: &[u8],
+    form: &Form,
+) -> io::Result<()> {
+    json.begin_object()?;
+    let mut value = String::new();
+    for field in fields {
+        value.clear();
+        form.put(field, record, &mut value);
+        if is_left_out(field, &value) {
+            continue;
+        }
+        match field.kind {
+            Kind::Filler => json.name(&format!("Filler {}", field.columns()))?,
+            _ => json.name(field.name)?,
+        }
+        match field.kind {
+            Kind::Set => put_set(json, field.of(record)[0])?,
+            _ => json.text(&value)?,
+        }
+    }
+    json.end_object()
+}
+
+fn put_set<W: Write>(json: &mut Json<W>, set: u8) -> io::Result<()> {
+    json.begin_array()?;
+    for name in exclusions(set) {
+        json.text(name)?;
+    }
+    json.end_array()
+}
+
+/// The width of the column with the records' numbers.
+const NUMBER: usize = 6;
+
+/// A table: the columns are the fields but the fillers, each as wide as its name or its longest value.
+pub struct Table {
+    columns: Vec<(Field, usize)>,
+    line: String,
+}
+
+/// The longest value of a field.
+fn widest(field: &Field) -> usize {
+    let bytes = field.last + 1 - field.first;
+    match field.kind {
+        Kind::Set => exclusions(0xFF).join(",").len(),
+        Kind::Amount => bytes + 1,
+        _ => bytes,
+    }
+}
+
+impl Table {
+    pub fn new(fields: Layout) -> Table {
+        let shown = fields.iter().filter(|field| field.kind != Kind::Filler);
+        let column = |field: &Field| (*field, field.name.len().max(widest(field)));
+        Table {
+            columns: shown.map(column).collect(),
+            line: String::new(),
+        }
+    }
+
+    /// The names of the fields.
+    pub fn put_names<W: Write>(&mut self, screen: &mut Screen<W>, record: &str) -> io::Result<()> {
+        let mut line = format!("{record:>NUMBER$}");
+        for (field, width) in &self.columns {
+            line += &format!("  {:<width$}", field.name);
+        }
+        screen.line(Style::Heading, line.trim_end())
+    }
+
+    /// A record with its number, the first being 1.
+    pub fn put<W: Write>(
+        &mut self,
+        screen: &mut Screen<W>,
+        number: usize,
+        record: &[u8],
+        form: &Form,
+    ) -> io::Result<()> {
+        self.line.clear();
+        let digits = number.to_string();
+        pad(&mut self.line, NUMBER.saturating_sub(digits.len()));
+        self.line.push_str(&digits);
+        let mut end = self.line.len();
+        for (field, width) in &self.columns {
+            let missing = end.saturating_sub(self.line.len()) + 2;
+            pad(&mut self.line, missing);
+            end = self.line.len() + width;
+            form.put(field, record, &mut self.line);
+        }
+        screen.plain(self.line.trim_end())
+    }
+}
+
+fn pad(line: &mut String, spaces: usize) {
+    line.extend(std::iter::repeat_n(' ', spaces));
+}

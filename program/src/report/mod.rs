@@ -1,0 +1,11 @@
+//! What is printed: text for people, JSON for machines.
+
+pub mod fields;
+pub mod json;
+pub mod listed;
+pub mod notes;
+pub mod problem;
+pub mod screen;
+pub mod summary;
+pub mod verdicts;
+pub mod wrap;

@@ -1,0 +1,239 @@
+//! Command lines: help, version, unknown and missing arguments.
+
+mod common;
+
+use std::ffi::OsStr;
+use std::fs::File;
+use std::os::unix::ffi::OsStrExt;
+
+use common::*;
+
+const COMMANDS: [&str; 12] = [
+    "apply",
+    "check",
+    "find",
+    "reconcile",
+    "post",
+    "add-cents",
+    "contacts",
+    "codes",
+    "to-ebcdic",
+    "to-ascii",
+    "show",
+    "explain",
+];
+
+/// A run that ends with 3 and a message on standard error, with nothing on standard output.
+fn wrong(arguments: &[&str], message: &str, help: &str) {
+    let ran = Folder::with_master("arguments-wrong").run(arguments);
+    assert_eq!(ran.status, 3, "{arguments:?}: {ran:?}");
+    assert_eq!(ran.out, "");
+    assert!(ran.err.contains(message), "{arguments:?}: {}", ran.err);
+    assert!(ran.err.contains(help), "{arguments:?}: {}", ran.err);
+}
+
+#[test]
+fn commands_by_name() {
+    wrong(&[], "no command is given", "See `fantanolive --help`.");
+    wrong(
+        &["aply"],
+        "did you mean 'apply'?",
+        "See `fantanolive --help`.",
+    );
+    wrong(
+        &["xyzzy"],
+        "unknown command 'xyzzy'\n",
+        "See `fantanolive --help`.",
+    );
+    wrong(&["--jason"], "unknown command", "See `fantanolive --help`.");
+    wrong(
+        &["help", "fnd"],
+        "did you mean 'find'?",
+        "See `fantanolive --help`.",
+    );
+}
+
+#[test]
+fn arguments_of_a_command() {
+    let of_apply = "See `fantanolive apply --help`.";
+    wrong(&["apply"], "MASTER is missing", of_apply);
+    wrong(&["apply", "m"], "BATCH is missing", of_apply);
+    wrong(&["apply", "m", "b"], "--locals FILE is missing", of_apply);
+    wrong(
+        &["apply", "m", "b", "c"],
+        "'c' is one argument too many",
+        of_apply,
+    );
+    wrong(&APPLY[..7], "--rejects FILE is missing", of_apply);
+    wrong(
+        &with(&APPLY, &["--year", "2008"]),
+        "--year is given twice",
+        of_apply,
+    );
+    wrong(
+        &with(&APPLY, &["--lokals", "x"]),
+        "did you mean '--locals'?",
+        of_apply,
+    );
+    wrong(
+        &with(&APPLY, &["--json=1"]),
+        "--json takes no value",
+        of_apply,
+    );
+    wrong(
+        &["apply", "m", "b", "--year"],
+        "--year wants a value: --year YYYY",
+        of_apply,
+    );
+    wrong(
+        &["find", "m", "k", "-x"],
+        "unknown option '-x'",
+        "See `fantanolive find --help`.",
+    );
+}
+
+#[test]
+fn years() {
+    let mut year = APPLY;
+    for text in ["", "twenty", "-5", "20 07", "99999999999999999999"] {
+        year[6] = text;
+        wrong(&year, "--year wants a number", "apply --help");
+    }
+}
+
+#[test]
+fn kinds_and_numbers_to_explain() {
+    let show = |more| with(&["show", "batch", "batch.bin"], more);
+    wrong(
+        &show(&["--from", "0"]),
+        "--from counts from 1",
+        "show --help",
+    );
+    wrong(
+        &show(&["--count", "x"]),
+        "--count wants a number",
+        "show --help",
+    );
+    wrong(
+        &["show", "batches", "batch.bin"],
+        "did you mean 'batch'?",
+        "show --help",
+    );
+    wrong(
+        &["show", "xyzzy", "x"],
+        "'xyzzy' is no kind of file: master",
+        "show --help",
+    );
+    wrong(
+        &["show", "master", "master.bin", "--ascii"],
+        "always in EBCDIC",
+        "show --help",
+    );
+    for number in ["0", "25", "50", "53", "4294967296", "x", ""] {
+        wrong(&["explain", number], "", "explain --help");
+    }
+    wrong(
+        &["explain", "24", "--code"],
+        "no such number: 24",
+        "explain --help",
+    );
+    wrong(
+        &["explain", "51", "--refusal"],
+        "no such number: 51",
+        "explain --help",
+    );
+}
+
+#[test]
+fn help_of_every_command() {
+    let folder = Folder::new("arguments-help");
+    let overall = folder.run(&["--help"]);
+    assert_eq!((overall.status, overall.err.as_str()), (0, ""));
+    for command in COMMANDS {
+        assert!(
+            overall.out.contains(&format!("\n  {command} ")),
+            "{command}"
+        );
+        let help = folder.run(&[command, "--help"]);
+        assert_eq!((help.status, help.err.as_str()), (0, ""), "{command}");
+        let start = format!("usage: fantanolive {command} ");
+        assert!(help.out.starts_with(&start), "{command}");
+        assert!(help.out.contains("Exit status: "), "{command}");
+        assert!(
+            help.out.lines().all(|line| line.chars().count() <= 80),
+            "{command}"
+        );
+        assert_eq!(folder.run(&["help", command]).out, help.out);
+        assert_eq!(folder.run(&[command, "x", "-h", "--bad"]).out, help.out);
+    }
+    assert_eq!(folder.run(&["help"]).out, overall.out);
+    assert_eq!(folder.run(&["-h"]).out, overall.out);
+    assert!(overall.out.lines().all(|line| line.chars().count() <= 80));
+}
+
+#[test]
+fn version() {
+    let ran = Folder::new("arguments-version").run(&["--version"]);
+    assert_eq!(ran.out, format!("fantanolive {}\n", fantanolive::VERSION));
+    assert_eq!(ran.status, 0);
+}
+
+#[test]
+fn forms_of_options() {
+    let folder = Folder::with_master("arguments-forms");
+    let joined = ["--locals=locals.bin", "check", "--year=2007"];
+    assert_eq!(folder.run(&joined).status, 3);
+    let joined = [
+        "check",
+        "--year=2007",
+        "master.bin",
+        "--locals=locals.bin",
+        "--",
+        "batch.bin",
+    ];
+    assert_eq!(folder.run(&joined).status, 1);
+    folder.write("--json", &paper_batch());
+    let dashes = ["show", "batch", "--", "--json"];
+    assert_eq!(folder.run(&dashes).status, 0);
+}
+
+#[test]
+fn values_that_are_not_utf8() {
+    let folder = Folder::with_master("arguments-bytes");
+    let mut command = folder.command(&["check", "master.bin", "batch.bin", "--year=2007"]);
+    let locals = OsStr::from_bytes(b"--locals=\xFF.bin");
+    let ran: Ran = command.arg(locals).output().expect("it can be run").into();
+    assert_eq!(ran.status, 3);
+    let message = "check: \u{FFFD}.bin: can't be read: no such file";
+    assert!(ran.err.contains(message), "{}", ran.err);
+}
+
+#[test]
+fn a_report_into_a_file_that_is_written() {
+    let folder = Folder::with_master("arguments-report");
+    let file = File::create(folder.path("report.bin")).expect("it can be made");
+    let mut arguments = APPLY;
+    arguments[8] = "report.bin";
+    let mut command = folder.command(&arguments);
+    let ran: Ran = command.stdout(file).output().expect("it can be run").into();
+    assert_eq!(ran.status, 3, "{ran:?}");
+    let message = "report.bin: can't be written: the report is printed to it";
+    assert!(ran.err.contains(message), "{}", ran.err);
+    assert_eq!(folder.read("master.bin"), paper_row());
+}
+
+#[test]
+fn every_refusal_and_code_is_explained() {
+    let folder = Folder::new("arguments-explain");
+    for number in 1..=24 {
+        let ran = folder.run(&["explain", &number.to_string(), "--refusal"]);
+        assert!(ran.out.starts_with(&format!("refusal {number}: ")));
+        assert!(!ran.out.contains("\ncode "));
+        assert_eq!(ran.status, 0);
+    }
+    for number in (1..=18).chain([51, 52]) {
+        let ran = folder.run(&["explain", &format!("{number:02}"), "--code"]);
+        assert!(ran.out.starts_with(&format!("code {number}: ")));
+        assert_eq!(ran.status, 0);
+    }
+}

@@ -1,0 +1,236 @@
+//! Files of a wrong length: the remainder in bytes and the likely cause; files beyond the limits, which are not read whole.
+
+mod common;
+
+use std::fs::File;
+use std::time::{Duration, Instant};
+
+use common::*;
+
+/// The message of a run, its lines joined.
+fn message(folder: &Folder, arguments: &[&str], status: i32) -> String {
+    let ran = folder.run(arguments);
+    assert_eq!(ran.status, status, "{arguments:?}: {ran:?}");
+    assert_eq!(ran.out, "");
+    ran.err.replace("\n   ", "").replace("\n", " ")
+}
+
+/// The records of a file with something behind each.
+fn ended(bytes: &[u8], width: usize, end: &[u8]) -> Vec<u8> {
+    let with_end = bytes.chunks(width).map(|record| [record, end].concat());
+    with_end.collect::<Vec<_>>().concat()
+}
+
+#[test]
+fn remainders() {
+    let folder = Folder::with_master("lengths-remainders");
+    folder.write("batch.bin", &paper_batch()[..734]);
+    let text = message(&folder, &CHECK, 2);
+    assert!(text.contains("refused 5: "));
+    let whole = "batch.bin: 734 bytes: 2 records of 245 bytes and 244 bytes over";
+    assert!(text.contains(whole), "{text}");
+    assert!(
+        text.contains("likely cause: the file was cut off"),
+        "{text}"
+    );
+    folder.write("batch.bin", &paper_batch());
+    folder.write("master.bin", &paper_row()[..199]);
+    let text = message(&folder, &CHECK, 2);
+    let whole = "master.bin: 199 bytes: 0 rows of 200 bytes and 199 bytes over";
+    assert!(
+        text.contains("refused 3: ") && text.contains(whole),
+        "{text}"
+    );
+    folder.write("master.bin", &[]);
+    folder.write("locals.bin", &ebcdic("0010"));
+    let text = message(&folder, &CHECK, 2);
+    let whole = "locals.bin: 4 bytes: 1 code of 3 bytes and 1 byte over";
+    assert!(
+        text.contains("refused 2: ") && text.contains(whole),
+        "{text}"
+    );
+    folder.write("locals.bin", &[]);
+    folder.write("batch.bin", &[]);
+    let text = message(&folder, &CHECK, 2);
+    assert!(text.contains("refused 5: ") && text.contains("batch.bin: the file is empty"));
+}
+
+#[test]
+fn line_ends() {
+    let folder = Folder::with_master("lengths-line-ends");
+    let cases: [(&[u8], &str); 4] = [
+        (b"\n", "a line feed (LF) stands behind every record"),
+        (b"\r\n", "a carriage return and a line feed (CR LF)"),
+        (&[0x15], "an EBCDIC new line (hexadecimal 15)"),
+        (&[0x0D, 0x25], "hexadecimal 0D 25"),
+    ];
+    for (end, words) in cases {
+        let lines = ended(&paper_batch(), 245, end);
+        folder.write("batch.bin", &lines);
+        let text = message(&folder, &CHECK, 2);
+        assert!(text.contains("likely cause: line ends: "), "{text}");
+        assert!(text.contains(words), "{text}");
+        // the last record without its line end
+        folder.write("batch.bin", &lines[..lines.len() - end.len()]);
+        assert!(message(&folder, &CHECK, 2).contains(words));
+    }
+    folder.write("weekly.bin", &ended(&weekly(), 240, b"\n"));
+    let text = message(&folder, &["post", "master.bin", "weekly.bin"], 2);
+    assert!(
+        text.contains("refused 22: ") && text.contains("(LF)"),
+        "{text}"
+    );
+    folder.write("contacts.bin", &ended(&contact_file(), 220, b"\r\n"));
+    let contacts = ["contacts", "table.bin", "contacts.bin", "--new"];
+    let text = message(&folder, &contacts, 2);
+    assert!(
+        text.contains("refused 18: ") && text.contains("CR LF"),
+        "{text}"
+    );
+    assert!(!folder.has("table.bin"));
+}
+
+#[test]
+fn line_ends_by_chance_and_short_lines() {
+    let folder = Folder::with_master("lengths-lines");
+    // 245 records with a line feed each have the length of 246 records
+    let detail = &paper_batch()[..245];
+    let many: Vec<u8> = (0..245).flat_map(|_| [detail, b"\n"].concat()).collect();
+    assert_eq!(many.len() % 245, 0);
+    folder.write("batch.bin", &many);
+    let text = message(&folder, &CHECK, 2);
+    assert!(
+        text.contains("refused 6: ") && text.contains("(LF) stands behind"),
+        "{text}"
+    );
+    // lines without the spaces at their ends
+    folder.write(
+        "batch.bin",
+        b"OH   123456789\nOH   987654321 SMITH\nOHCTL\n",
+    );
+    let text = message(&folder, &CHECK, 2);
+    let cause = "likely cause: line ends: 3 lines of other lengths than 245 bytes";
+    assert!(
+        text.contains("refused 5: ") && text.contains(cause),
+        "{text}"
+    );
+    assert!(text.contains("the file is in ASCII"), "{text}");
+}
+
+#[test]
+fn files_in_ascii() {
+    let folder = Folder::with_master("lengths-ascii");
+    let likely = "likely cause: the file is in ASCII; use --ascii";
+    folder.write("batch.bin", &ascii(&paper_batch()));
+    let text = message(&folder, &CHECK, 2);
+    assert!(
+        text.contains("refused 6: ") && text.contains(likely),
+        "{text}"
+    );
+    folder.write("batch.bin", &ended(&ascii(&paper_batch()), 245, b"\n"));
+    let text = message(&folder, &CHECK, 2);
+    assert!(text.contains("(LF)") && text.contains(likely), "{text}");
+    let text = message(&folder, &with(&CHECK, &["--ascii"]), 2);
+    assert!(text.contains("refused 16: "));
+    let place = "batch.bin: byte 245 is hexadecimal 0A, a line feed: take the line ends out";
+    assert!(text.contains(place), "{text}");
+    // EBCDIC taken for ASCII
+    folder.write("batch.bin", &paper_batch());
+    let text = message(&folder, &with(&CHECK, &["--ascii"]), 2);
+    let place = "byte 0 (record 1, column 1) is hexadecimal D6, no ASCII byte: is the file in EBCDIC already?";
+    assert!(text.contains(place), "{text}");
+    folder.write("weekly.bin", &ascii(&weekly()));
+    let text = message(&folder, &["post", "master.bin", "weekly.bin"], 2);
+    assert!(
+        text.contains("refused 23: ") && text.contains(likely),
+        "{text}"
+    );
+    // a list in ASCII has the right length
+    folder.write("locals.bin", b"001002");
+    assert!(message(&folder, &CHECK, 2).contains(likely));
+}
+
+#[test]
+fn a_wrong_length_is_shown_and_told() {
+    let folder = Folder::with_example("lengths-show");
+    folder.write("batch.bin", &paper_batch()[..500]);
+    let ran = folder.run(&["show", "batch", "batch.bin"]);
+    assert_eq!(ran.status, 3);
+    assert_eq!(ran.out.lines().count(), 3);
+    assert!(ran.err.contains("2 records of 245 bytes and 10 bytes over"));
+    let ran = folder.run(&["show", "batch", "batch.bin", "--json"]);
+    assert_eq!((ran.status, ran.err.as_str()), (3, ""));
+    assert!(ran.out.contains("\"warning\":\"batch.bin: 500 bytes"));
+    folder.write("batch.bin", &[]);
+    let ran = folder.run(&["show", "batch", "batch.bin"]);
+    assert_eq!(
+        (ran.status, ran.out.as_str(), ran.err.as_str()),
+        (0, "", "")
+    );
+}
+
+#[test]
+fn files_beyond_the_limits() {
+    let folder = Folder::with_master("lengths-limits");
+    let huge = File::create(folder.path("huge.bin")).expect("it can be made");
+    huge.set_len(1 << 40).expect("the disk takes holes");
+    let start = Instant::now();
+    let bytes = "huge.bin: 1,099,511,627,776 bytes: beyond the ";
+    let mut check = CHECK;
+    check[1] = "huge.bin";
+    let text = message(&folder, &check, 2);
+    assert!(
+        text.contains("refused 3: ") && text.contains(bytes),
+        "{text}"
+    );
+    check = CHECK;
+    check[2] = "huge.bin";
+    let text = message(&folder, &check, 2);
+    assert!(
+        text.contains("refused 5: ") && text.contains(bytes),
+        "{text}"
+    );
+    check = CHECK;
+    check[4] = "huge.bin";
+    let text = message(&folder, &check, 2);
+    assert!(
+        text.contains("refused 2: ") && text.contains(bytes),
+        "{text}"
+    );
+    let text = message(&folder, &["post", "master.bin", "huge.bin"], 2);
+    assert!(
+        text.contains("refused 22: ") && text.contains(bytes),
+        "{text}"
+    );
+    let contacts = ["contacts", "table.bin", "huge.bin", "--new"];
+    let text = message(&folder, &contacts, 2);
+    assert!(
+        text.contains("refused 18: ") && text.contains(bytes),
+        "{text}"
+    );
+    let codes = ["codes", "huge.bin", "--state", "OH", "--out", "out.bin"];
+    let text = message(&folder, &codes, 2);
+    assert!(
+        text.contains("refused 18: ") && text.contains(bytes),
+        "{text}"
+    );
+    let text = message(&folder, &["show", "rejects", "huge.bin"], 3);
+    assert!(text.contains(bytes), "{text}");
+    // a device that never ends
+    check = CHECK;
+    check[2] = "/dev/zero";
+    assert!(message(&folder, &check, 2).contains("refused 5: "));
+    assert!(start.elapsed() < Duration::from_secs(20));
+}
+
+#[test]
+fn devices_and_pipes_as_inputs() {
+    let folder = Folder::with_master("lengths-devices");
+    let mut check = CHECK;
+    check[4] = "/dev/null";
+    assert_eq!(folder.run(&check).status, 1);
+    check = CHECK;
+    check[4] = "/dev/stdin";
+    let ran = folder.run_with_input(&check, "");
+    assert_eq!(ran.status, 1);
+}

@@ -1,0 +1,169 @@
+#!/usr/bin/env bash
+# The package: what the shared library shows, and bin/install into temporary folders. The C example is compiled, linked and run through pkg-config
+# alone, shared and from the archive, in a prefix with spaces in its path, in one that was moved, and under DESTDIR. The Python module and the program
+# are run from where they are installed. It prints a line for each case that fails, and at the end `package: N cases passed`. It writes in a temporary
+# folder, and links target/sharedlib anew. Skipped are, with a line, the parts that want pkg-config, a static C library, Python or the program.
+set -u
+export LC_ALL=C PYTHONDONTWRITEBYTECODE=1
+umask 022
+root=$(dirname -- "$(dirname -- "$(readlink -f -- "$0")")")
+cd -- "$root" || exit 2
+unset DESTDIR PREFIX FANTANOLIVE_LIBRARY LD_LIBRARY_PATH
+work=$(mktemp -d) || exit 2
+trap 'rm -rf -- "$work"' EXIT
+passed=0
+failed=0
+
+# want WHAT FOUND WANTED
+want() {
+    if [ "$2" = "$3" ]; then
+        passed=$((passed + 1))
+    else
+        failed=$((failed + 1))
+        printf 'package: %s: [%s], not [%s]\n' "$1" "$2" "$3"
+    fi
+}
+
+bin/build-shared >/dev/null || exit 1
+version=$(bin/version)
+soname=libfantanolive.so.${version%%.*}
+library=target/sharedlib/libfantanolive.so.$version
+with=()
+if [ ! -f target/program/fantanolive ]; then
+    echo 'skipped: the program is not built, so it is not installed'
+    with=(--without-program)
+fi
+
+# --- The libraries.
+
+declared=$(sed -n 's/^uint64_t \(fantanolive_[a-z_]*\)(.*/\1/p' include/fantanolive.h | sort)
+want 'names that the archive shows' "$(nm -g --defined-only target/staticlib/libfantanolive.a | awk 'NF == 3 { print $3 }' | sort)" "$declared"
+want 'names that the library shows' "$(nm -D --defined-only "$library" | awk '{ print $3 }' | sort)" "$declared"
+needed=$(nm -D --undefined-only "$library" | awk '$1 == "U" { sub("@.*", "", $2); print $2 }' | tr '\n' ' ')
+want 'names that the library takes from others' "$needed" 'memcpy memmove memset '
+want soname "$(readelf -dW "$library" | sed -n 's/.*(SONAME).*\[\(.*\)\]/\1/p')" "$soname"
+want 'text relocations' "$(readelf -dW "$library" | grep -c TEXTREL)" 0
+want 'stack' "$(readelf -lW "$library" | awk '$1 == "GNU_STACK" { print $(NF - 1) }')" RW
+want 'links' "$(readlink target/sharedlib/libfantanolive.so) $(readlink "target/sharedlib/$soname")" "$soname libfantanolive.so.$version"
+
+# --- What is installed.
+
+# A line for each file under a folder: mode, or the link's target, and path.
+listing() {
+    (cd -- "$1" && find . -type f -printf '%m %P\n' -o -type l -printf '%l %P\n') | sort -k2
+}
+
+expected() {
+    [ ${#with[@]} -ne 0 ] || echo '755 bin/fantanolive'
+    printf '644 include/%s\n' fantanolive.h fantanolive_text.h
+    printf '%s\n' '644 lib/libfantanolive.a' "$soname lib/libfantanolive.so" "libfantanolive.so.$version lib/$soname" "755 lib/libfantanolive.so.$version"
+    printf '644 lib/pkgconfig/%s.pc\n' fantanolive-static fantanolive
+    printf '644 share/doc/fantanolive/%s\n' CHANGELOG.md MANUAL.md
+    for file in bindings/python/fantanolive/*.py; do echo "644 share/fantanolive/python/fantanolive/${file##*/}"; done
+}
+
+prefix="$work/a prefix, with spaces"
+want 'what install says' "$(bin/install "${with[@]}" "$prefix")" "install: fantanolive $version in $prefix"
+want 'what is installed' "$(listing "$prefix")" "$(expected | sort -k2)"
+before=$(listing "$prefix")
+want 'a second time' "$(bin/install "${with[@]}" "$prefix" && listing "$prefix")" "install: fantanolive $version in $prefix
+$before"
+(cd -- "$work" && "$root/bin/install" "${with[@]}" 'relative prefix') >/dev/null
+want 'a relative prefix' "$(listing "$work/relative prefix")" "$before"
+DESTDIR="$work/stage" bin/install "${with[@]}" /usr >/dev/null
+want 'under DESTDIR' "$(listing "$work/stage/usr")" "$before"
+
+for arguments in '' --without-program --unknown '-x somewhere' 'one two'; do
+    # shellcheck disable=SC2086
+    bin/install $arguments >"$work/out" 2>"$work/err"
+    want "status of install $arguments" "$? $(cat "$work/err")" '2 usage: install [--without-program] PREFIX'
+done
+
+mkdir "$work/unbuilt"
+cp -r bin bindings docs include package CHANGELOG.md "$work/unbuilt"
+"$work/unbuilt/bin/install" "$work/nothing" >"$work/out" 2>"$work/err"
+want 'status of install before anything is built' "$?" 2
+want 'what it says' "$(sed 's/ is not built: .*//' "$work/err" | tr '\n' ' ')" \
+    "install: target/staticlib/libfantanolive.a install: target/sharedlib/libfantanolive.so.$version install: target/program/fantanolive "
+want 'what it installs' "$([ -e "$work/nothing" ] && echo something)" ''
+mkdir -p "$work/unbuilt/target/sharedlib" "$work/unbuilt/target/staticlib"
+cp "$library" "$work/unbuilt/target/sharedlib" && touch -d '1 hour ago' "$work/unbuilt/$library"
+cp target/staticlib/libfantanolive.a "$work/unbuilt/target/staticlib"
+"$work/unbuilt/bin/install" --without-program "$work/nothing" >"$work/out" 2>"$work/err"
+want 'install of an old shared library' "$? $(cat "$work/err")" "2 install: $library is older than the archive: run bin/build-shared"
+want 'what it installs then' "$([ -e "$work/nothing" ] && echo something)" ''
+rm "$work/unbuilt/target/staticlib/libfantanolive.a"
+"$work/unbuilt/bin/build-shared" >"$work/out" 2>"$work/err"
+want 'build-shared without the archive' "$? $(cat "$work/err")" '2 build-shared: target/staticlib/libfantanolive.a is not built: run bin/build-library'
+
+# --- The C example through pkg-config.
+
+describe() {
+    PKG_CONFIG_LIBDIR="$prefix/lib/pkgconfig" pkg-config "$@"
+}
+
+# built NAME MODULE OPTION..: compiles and links examples/c/apply.c and tests/text.c
+built() {
+    local name=$1 module=$2 options
+    shift 2
+    options=$(describe --cflags --libs "$module") || return 1
+    eval "${CC:-cc} -std=c99 -Wall -Wextra -pedantic -Werror -o \"\$work/$name\" examples/c/apply.c $options $*" &&
+        eval "${CC:-cc} -std=c99 -o \"\$work/$name-text\" tests/text.c $options $*"
+}
+
+needs() {
+    readelf -dW "$work/$1" 2>/dev/null | grep -c "(NEEDED).*\[$soname\]"
+}
+
+# try_example WHERE
+try_example() {
+    want "$1: version" "$(describe --modversion fantanolive) $(describe --modversion fantanolive-static)" "$version $version"
+    built shared fantanolive
+    want "$1: shared" "$(LD_LIBRARY_PATH="$prefix/lib" "$work/shared" | diff examples/c/expected.txt - && needs shared)" 1
+    built archive fantanolive-static
+    want "$1: from the archive" "$("$work/archive" | diff examples/c/expected.txt - && needs archive)" 0
+    want "$1: words" "$("$work/archive-text" | wc -l)" "$(grep -c '^    {[0-9]' include/fantanolive_text.h)"
+    rm -f "$work"/shared* "$work"/archive*
+}
+
+static_libc() {
+    printf 'int main(void) { return 0; }\n' >"$work/empty.c"
+    ${CC:-cc} -static -o "$work/empty" "$work/empty.c" 2>/dev/null
+}
+
+if command -v pkg-config >/dev/null; then
+    try_example 'a prefix with spaces'
+    mv -- "$prefix" "$work/moved"
+    prefix=$work/moved
+    try_example 'a prefix that was moved'
+    if static_libc; then
+        built static fantanolive -static
+        want 'wholly static' "$("$work/static" | diff examples/c/expected.txt - && needs static)" 0
+    else
+        echo 'skipped: there is no static C library'
+    fi
+    prefix=$work/stage/usr
+    try_example 'under DESTDIR'
+else
+    echo 'skipped: pkg-config is not installed'
+fi
+
+# --- The Python module and the program, where they are installed.
+
+prefix=$work/stage/usr
+module="import fantanolive; print(fantanolive.__version__, fantanolive.to_ebcdic(b'OH').hex(), fantanolive._library.path())"
+if python3 -c 'import sys; sys.exit(sys.version_info < (3, 8))' 2>/dev/null; then
+    said=$(cd / && PYTHONPATH="$prefix/share/fantanolive/python" python3 -c "$module" 2>&1)
+    want 'the Python module' "$said" "$version d6c8 $prefix/lib/$soname"
+else
+    echo 'skipped: there is no Python 3.8 or later'
+fi
+if [ ${#with[@]} -eq 0 ]; then
+    want 'the program' "$("$prefix/bin/fantanolive" --version)" "fantanolive $version"
+fi
+
+if [ "$failed" != 0 ]; then
+    echo "package: $failed failed, $passed passed"
+    exit 1
+fi
+echo "package: $passed cases passed"

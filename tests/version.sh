@@ -1,0 +1,29 @@
+#!/usr/bin/env bash
+# Holds every copy of the version against include/fantanolive.h: the numbers there, the newest entry of CHANGELOG.md, the Python module, and the Cargo files
+# of the Rust crate and of the program where they have one. Prints each that differs, and then status 1.
+set -u
+cd -- "$(dirname -- "$(readlink -f -- "$0")")/.." || exit 2
+version=$(bin/version)
+failed=
+
+# holds WHAT FOUND
+holds() {
+    if [ "$2" != "$version" ]; then
+        echo "version: $1 has '$2', include/fantanolive.h '$version'"
+        failed=yes
+    fi
+}
+
+part() {
+    sed -n "s/^#define FANTANOLIVE_VERSION_$1 \([0-9]*\)\$/\1/p" include/fantanolive.h
+}
+
+holds 'its numbers' "$(part MAJOR).$(part MINOR).$(part PATCH)"
+holds CHANGELOG.md "$(sed -n 's/^## \[\([0-9.]*\)\] - [0-9-]*$/\1/p' CHANGELOG.md | head -n 1)"
+for file in bindings/rust/Cargo.toml program/Cargo.toml; do
+    own=$(sed -n 's/^version = "\(.*\)"$/\1/p' "$file" 2>/dev/null | head -n 1)
+    [ -z "$own" ] || holds "$file" "$own"
+done
+holds bindings/python "$(sed -n "s/^VERSION = '\(.*\)'\$/\1/p" bindings/python/fantanolive/_header.py)"
+[ -z "$failed" ] || exit 1
+echo "version: $version everywhere"
