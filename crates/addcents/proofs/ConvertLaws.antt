@@ -20,7 +20,8 @@ use Rattle.casemaster.specs.Master.{rowsOf}
 use Rattle.casemaster.specs.Refusals.{oldMasterRefusal}
 use Rattle.casemaster.specs.Search.{RowPut}
 use Rattle.casemaster.proofs.RefusalsLaws.{old-master-rows}
-use Rattle.addcents.specs.Convert.{withZeroCents, addedAs, convertOutcome}
+use Rattle.casemaster.specs.Row.{withZeroCents}
+use Rattle.addcents.specs.Convert.{addedAs, convertOutcome}
 use Rattle.addcents.specs.Zeroed.{Zeroed}
 use Rattle.addcents.specs.declared.convert.CentsAdded.the-variants.{Done, Refused}
 
@@ -78,15 +79,12 @@ zeros-zero = refl
 
 module _ (row : List ℕ) (l : length row ≡ 200) where
   kept : (a z : ℕ) → 1 ≤ a → a ≤ z + 1 → isFree a z zerosPut ≡ true → columns a z (withZeroCents row) ≡ columns a z row
-  unfolding withZeroCents
   kept a z h o t = columns-free 200 a z h o zerosPut row t zeros-fit l
 
   zero-there : columns 197 198 (withZeroCents row) ≡ zeroDigit ∷ zeroDigit ∷ []
-  unfolding withZeroCents
   zero-there = columns-written 200 197 198 (lit≤ tt) (lit≤ tt) zerosPut row refl zeros-fit l
 
   pub wide : length (withZeroCents row) ≡ 200
-  unfolding withZeroCents
   wide = length-written 200 zerosPut row zeros-fit l
 
   pub key-kept : columns 1 12 (withZeroCents row) ≡ columns 1 12 row

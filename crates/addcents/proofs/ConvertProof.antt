@@ -16,7 +16,8 @@ use Rattle.casemaster.specs.Master.{rowsOf, keysOf, areSoundRows, areSoundOldRo
 use Rattle.casemaster.specs.Refusals.{oldMasterRefusal}
 use Rattle.casemaster.proofs.RefusalsLaws.{old-master-sound}
 use Rattle.casemaster.proofs.RowsLaws.{IsWide}
-use Rattle.addcents.specs.Convert.{withZeroCents, convertOutcome}
+use Rattle.casemaster.specs.Row.{withZeroCents}
+use Rattle.addcents.specs.Convert.{convertOutcome}
 use Rattle.addcents.specs.Theorem.{dollarCents, Converts, EveryConversion}
 use Rattle.addcents.proofs.ConvertLaws.{rows-inside, wide, key-kept, dollars-kept, status-kept, balance-dollars, converted-sound}
 

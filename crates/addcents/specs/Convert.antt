@@ -1,19 +1,14 @@
 -- Document 02, item 6: a conversion, refused by 3 and 4 over the old row, writes 00 into a master. Assumes nothing.
 use Prim.Native.Nat.{ℕ}
-use mathlib.Core.List.{List, [], _∷_, map}
+use mathlib.Core.List.{List, map}
 use mathlib.Core.Bool.{cond}
 use lib.Dec.{eqb}
-use Rattle.text.specs.Characters.{zeroDigit}
-use Rattle.text.specs.Fields.{placed}
 use Rattle.text.specs.Blocks.{joined, over}
+use Rattle.casemaster.specs.Row.{withZeroCents}
 use Rattle.casemaster.specs.Master.{rowsOf}
 use Rattle.casemaster.specs.Refusals.{oldMasterRefusal}
 use Rattle.addcents.specs.declared.convert.CentsAdded.{CentsAdded}
 use Rattle.addcents.specs.declared.convert.CentsAdded.the-variants.{Done, Refused}
-
--- 00 in 197–198
-unfoldable pub withZeroCents : List ℕ → List ℕ
-withZeroCents row = placed 197 198 (zeroDigit ∷ zeroDigit ∷ []) row
 
 -- the result: done, or a refusal's number
 pub data ConvertResult : Type 0 where

@@ -5,7 +5,7 @@ use mathlib.Core.Path.{_≡_}
 use mathlib.Core.List.{List, map}
 use lib.ListN.{length, drop}
 use Rattle.casemaster.specs.Master.{rowsOf}
-use Rattle.addcents.specs.Convert.{withZeroCents}
+use Rattle.casemaster.specs.Row.{withZeroCents}
 
 -- the first n rows with zero cents, and the rest kept
 pub record Zeroed (m : List ℕ) (n : ℕ) (after : List ℕ) : Type 0 where

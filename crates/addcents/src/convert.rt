@@ -7,7 +7,8 @@ ghost use mathlib.Core.Path.{_≡_};
 ghost use Prim.Native.Nat.{_+_, _*_, _≤_};
 ghost use lib.ListN.{length, take, drop};
 ghost use Rattle.casemaster.specs.Search.{RowPut};
-ghost use Rattle.addcents.specs.Convert.{withZeroCents, addedAs, convertOutcome};
+ghost use Rattle.casemaster.specs.Row.{withZeroCents};
+ghost use Rattle.addcents.specs.Convert.{addedAs, convertOutcome};
 ghost use Rattle.addcents.specs.Zeroed.{Zeroed};
 
 // The answer of the call: done, or the number of the refusal.

@@ -1,12 +1,12 @@
 -- Document 01, "A case's row", with document 02, item 6 (cents): the columns of a row, its balance, and when a row is sound, live or
 -- deleted. Assumes nothing.
 use Prim.Native.Nat.{ℕ, _+_, _*_}
-use mathlib.Core.List.{List}
+use mathlib.Core.List.{List, [], _∷_}
 use mathlib.Core.Bool.{Bool, cond, _&&_}
 use lib.ListN.{getD}
 use lib.Dec.{eqb}
-use Rattle.text.specs.Characters.{space, D}
-use Rattle.text.specs.Fields.{columns, isBlank, isZero, allDigits, number}
+use Rattle.text.specs.Characters.{space, zeroDigit, D}
+use Rattle.text.specs.Fields.{columns, placed, isBlank, isZero, allDigits, number}
 use Rattle.layout.specs.Name.{isName, hasLetter}
 use Rattle.layout.specs.Key.{isSoundKey}
 
@@ -105,6 +105,10 @@ rowCents row = columns 197 198 row
 -- spaces
 abbrev pub rowFiller : List ℕ → List ℕ
 rowFiller row = columns 199 200 row
+
+-- 00 in the cents
+abbrev pub withZeroCents : List ℕ → List ℕ
+withZeroCents row = placed 197 198 (zeroDigit ∷ zeroDigit ∷ []) row
 
 -- the balance, in cents: the dollars of the arrearage and the cents beside them
 unfoldable pub balance : List ℕ → ℕ

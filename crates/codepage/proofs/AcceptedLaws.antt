@@ -1,49 +1,17 @@
--- Laws of accepted files: two tests that agree at every byte, by one test of them all; a file tested byte by byte. Assumes nothing.
-use Prim.Native.Nat.{ℕ, zero, suc, _+_, _≤_, _<_}
+-- Laws of accepted files, tested byte by byte. Assumes nothing.
+use Prim.Native.Nat.{ℕ, _+_, _≤_, _<_}
 use mathlib.Core.Path.{_≡_, refl, sym, ap, _∙_, fun-ext}
-use mathlib.Core.Bool.{Bool, true, false, not, _&&_, and-assoc, and-true}
+use mathlib.Core.Bool.{Bool, true, _&&_, and-assoc, and-true}
 use mathlib.Core.List.{List, [], _∷_}
 use mathlib.Core.Option.{Option, none, some}
-use native.Mathlib.Omega.{arith}
 use native.Mathlib.Numerals.{add-one}
-use lib.Dec.{eqb}
 use lib.ListN.{length, getD, drop, drop-of-length-le}
 use lib.Seq.{drop-cons}
-use borrow.Author.Tests.{eqb-true, eqb-false}
 use Rattle.text.proofs.FieldsLaws.{and-left, and-right}
 use Rattle.codepage.specs.Tables.{tableOf, codeIn}
 use Rattle.codepage.specs.Accepted.{hasCounterpart, everyHasCounterpart}
 use Rattle.codepage.specs.Conversion.{placeBehind, placeWithout}
 use Rattle.codepage.proofs.TablesLaws.{Bytewise, table-says}
-
--- ---- two tests of a byte
-
-abbrev agree : Bool → Bool → Bool
-agree true b = b
-agree false b = not b
-
-agree-eq : (a b : Bool) → agree a b ≡ true → a ≡ b
-agree-eq true b t = sym t
-agree-eq false true t = cc
-agree-eq false false t = refl
-
-abbrev everyBelow : (ℕ → Bool) → ℕ → Bool
-everyBelow f zero = true
-everyBelow f (suc n) = f n && everyBelow f n
-
-below-step : (f : ℕ → Bool) (n b : ℕ) → f n ≡ true → (b < n → f b ≡ true) → b < suc n → (same : Bool) → eqb n b ≡ same → f b ≡ true
-below-step f n b t behind h true e = rw (eqb-true n b e) at t
-below-step f n b t behind h false e = let d = eqb-false n b e in behind (omega arith)
-
-below : (f : ℕ → Bool) (n : ℕ) → everyBelow f n ≡ true → (b : ℕ) → b < n → f b ≡ true
-below f zero t b h = absurd (omega arith)
-below f (suc n) t b h =
-    below-step f n b (and-left (f n) (everyBelow f n) t) (below f n (and-right (f n) (everyBelow f n) t) b) h (eqb n b) refl
-
-pub bytes-agree : (f g : ℕ → Bool) → everyBelow (λ b. agree (f b) (g b)) 256 ≡ true → (b : ℕ) → b < 256 → f b ≡ g b
-bytes-agree f g t b h = agree-eq (f b) (g b) (below (λ b. agree (f b) (g b)) 256 t b h)
-
--- ---- a file
 
 module _ (code : ℕ → Option ℕ) (s : List ℕ) (i : ℕ) where
   every-step : i < length s → everyHasCounterpart code (drop i s) ≡ (hasCounterpart (code (getD s i 0)) && everyHasCounterpart code (drop (i + 1) s))

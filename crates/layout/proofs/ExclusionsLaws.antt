@@ -214,14 +214,14 @@ name-three n h = three (getD exclusionNames n []) (every-at isThree exclusionNam
 -- ---- a word and a name as numbers
 
 -- three bytes as a number
-abbrev pub numberOf : ℕ → ℕ → ℕ → ℕ
-numberOf a b c = (a * 256 + b) * 256 + c
+abbrev pub threeNumber : ℕ → ℕ → ℕ → ℕ
+threeNumber a b c = (a * 256 + b) * 256 + c
 
 -- the number of the three bytes from i on where a word can end behind them, else 0
 abbrev pub wordNumber : List ℕ → ℕ → ℕ
 wordNumber s i =
     cond (leb (i + 3) (length s) && isSeparator (getD s (i + 3) space))
-    (numberOf (getD s i 0) (getD s (i + 1) 0) (getD s (i + 2) 0)) 0
+    (threeNumber (getD s i 0) (getD s (i + 1) 0) (getD s (i + 2) 0)) 0
 
 no-separator : (b : ℕ) → A ≤ b → isSeparator b ≡ false
 unfolding isSeparator
@@ -230,11 +230,11 @@ no-separator b h = rw (ne-eqb b comma (λ e. omega arith), ne-eqb b space (λ e.
 module _ (s : List ℕ) (i x y z : ℕ) where
   -- a name's number at i: the first word is the name
   number-word : ((k : ℕ) → getD s k 0 < 256) → Letter x → Letter y → Letter z
-      → wordNumber s i ≡ numberOf x y z → firstWord (drop i s) ≡ x ∷ y ∷ z ∷ []
+      → wordNumber s i ≡ threeNumber x y z → firstWord (drop i s) ≡ x ∷ y ∷ z ∷ []
   number-word bytes p q r e = go (leb (i + 3) (length s)) refl (isSeparator (getD s (i + 3) space)) refl e
     where
       go : (t : Bool) → leb (i + 3) (length s) ≡ t → (u : Bool) → isSeparator (getD s (i + 3) space) ≡ u
-          → cond (t && u) (numberOf (getD s i 0) (getD s (i + 1) 0) (getD s (i + 2) 0)) 0 ≡ numberOf x y z
+          → cond (t && u) (threeNumber (getD s i 0) (getD s (i + 1) 0) (getD s (i + 2) 0)) 0 ≡ threeNumber x y z
           → firstWord (drop i s) ≡ x ∷ y ∷ z ∷ []
       go false f u g e = absurd (omega (arith, e, p .0))
       go true f false g e = absurd (omega (arith, e, p .0))
@@ -248,37 +248,37 @@ module _ (s : List ℕ) (i x y z : ℕ) where
           rw (three-at s i (leb-true (i + 3) (length s) f), a, b, c, no-separator x (p .0), no-separator y (q .0), no-separator z (r .0), first-none s (i + 3) g)
 
   -- the first word is a name: its number is at i
-  word-number : firstWord (drop i s) ≡ x ∷ y ∷ z ∷ [] → wordNumber s i ≡ numberOf x y z
+  word-number : firstWord (drop i s) ≡ x ∷ y ∷ z ∷ [] → wordNumber s i ≡ threeNumber x y z
   word-number e =
       let n : length (firstWord (drop i s)) ≡ 3 = ap length e in
       let h : i + 3 ≤ length s = omega (arith, n, first-within (drop i s), length-drop i s) in
       let t : isSeparator (getD s (i + 3) space) ≡ true = rw (n, getD-drop i s 3 space) at (first-stop (drop i s)) in
       let w : getD s i 0 ∷ getD s (i + 1) 0 ∷ getD s (i + 2) 0 ∷ [] ≡ x ∷ y ∷ z ∷ [] =
       sym (ap (take 3) (three-at s i h)) ∙ (rw n at (first-taken (drop i s))) ∙ e in
-      rw (le-leb (i + 3) (length s) h, t) (ap (λ (l : List ℕ). numberOf (getD l 0 0) (getD l 1 0) (getD l 2 0)) w)
+      rw (le-leb (i + 3) (length s) h, t) (ap (λ (l : List ℕ). threeNumber (getD l 0 0) (getD l 1 0) (getD l 2 0)) w)
 
 -- the number of the name at place n
-abbrev pub nameNumber : ℕ → ℕ
-nameNumber n = numberOf (getD (getD exclusionNames n []) 0 0) (getD (getD exclusionNames n []) 1 0) (getD (getD exclusionNames n []) 2 0)
+abbrev pub numberOfName : ℕ → ℕ
+numberOfName n = threeNumber (getD (getD exclusionNames n []) 0 0) (getD (getD exclusionNames n []) 1 0) (getD (getD exclusionNames n []) 2 0)
 
-name-number : (n : ℕ) (t : Three (getD exclusionNames n [])) → nameNumber n ≡ numberOf (t .x) (t .y) (t .z)
-name-number n t = ap (λ (l : List ℕ). numberOf (getD l 0 0) (getD l 1 0) (getD l 2 0)) (t .bytes)
+number-of-name : (n : ℕ) (t : Three (getD exclusionNames n [])) → numberOfName n ≡ threeNumber (t .x) (t .y) (t .z)
+number-of-name n t = ap (λ (l : List ℕ). threeNumber (getD l 0 0) (getD l 1 0) (getD l 2 0)) (t .bytes)
 
 -- read from the table
 pub table-number : {table : List (List ℕ)} → table ≡ exclusionNames → (n : ℕ)
-    → numberOf (getD (getD table n []) 0 0) (getD (getD table n []) 1 0) (getD (getD table n []) 2 0) ≡ nameNumber n
+    → threeNumber (getD (getD table n []) 0 0) (getD (getD table n []) 1 0) (getD (getD table n []) 2 0) ≡ numberOfName n
 table-number e n = rw e
 
 -- the word at i is the name at place n where they have one number
 module _ (s : List ℕ) (i n : ℕ) (h : n < 8) where
-  pub number-here : ((k : ℕ) → getD s k 0 < 256) → nameNumber n ≡ wordNumber s i
+  pub number-here : ((k : ℕ) → getD s k 0 < 256) → numberOfName n ≡ wordNumber s i
       → sameBytes (firstWord (drop i s)) (getD exclusionNames n []) ≡ true
   number-here bytes e =
       let t = name-three n h in
       eq-same (firstWord (drop i s)) (getD exclusionNames n [])
-      (number-word s i (t .x) (t .y) (t .z) bytes (t .first) (t .second) (t .third) (sym e ∙ name-number n t) ∙ sym (t .bytes))
+      (number-word s i (t .x) (t .y) (t .z) bytes (t .first) (t .second) (t .third) (sym e ∙ number-of-name n t) ∙ sym (t .bytes))
 
-  pub number-other : (nameNumber n ≡ wordNumber s i → ⊥) → sameBytes (firstWord (drop i s)) (getD exclusionNames n []) ≡ false
+  pub number-other : (numberOfName n ≡ wordNumber s i → ⊥) → sameBytes (firstWord (drop i s)) (getD exclusionNames n []) ≡ false
   number-other f = go (sameBytes (firstWord (drop i s)) (getD exclusionNames n [])) refl
     where
       go : (u : Bool) → sameBytes (firstWord (drop i s)) (getD exclusionNames n []) ≡ u
@@ -286,7 +286,7 @@ module _ (s : List ℕ) (i n : ℕ) (h : n < 8) where
       go true e =
           let t = name-three n h in
           let w = same-eq (firstWord (drop i s)) (getD exclusionNames n []) e ∙ t .bytes in
-          absurd (f (name-number n t ∙ sym (word-number s i (t .x) (t .y) (t .z) w)))
+          absurd (f (number-of-name n t ∙ sym (word-number s i (t .x) (t .y) (t .z) w)))
       go false e = e
 
   -- the words behind it start behind its separator

@@ -5,10 +5,11 @@ use mathlib.Core.List.{List}
 use Rattle.text.specs.Fields.{placed, isBlank, spaces}
 use Rattle.layout.specs.ChartA1.{caseId, lastName, firstName, arrearage, dateIssued}
 use Rattle.layout.specs.Record.{recordKey}
-use Rattle.onecase.specs.Changes.{zeros, address, exclusionByte, addedLocalCode, withoutCents, placedUnless, freshRow, recertified}
+use Rattle.casemaster.specs.Row.{withZeroCents}
+use Rattle.onecase.specs.Changes.{zeros, address, exclusionByte, addedLocalCode, placedUnless, freshRow, recertified}
 
 pub fresh-steps : (list rec set key blank a b c d e f g h i r : List ℕ)
-    → blank ≡ withoutCents (spaces 200)
+    → blank ≡ withZeroCents (spaces 200)
     → set ≡ exclusionByte rec
     → a ≡ placed 195 195 set blank
     → b ≡ placed 187 194 (dateIssued rec) a
@@ -27,7 +28,7 @@ fresh-steps list rec set key blank a b c d e f g h i r ew es ea eb ec ed ee ef e
     rw (er, ek, ei, eh, eg, ef, ee, ed, ec, eb, ea, es, ew)
 
 pub recertified-steps : (list rec row whole set a b c d e f g r : List ℕ)
-    → whole ≡ withoutCents row
+    → whole ≡ withZeroCents row
     → set ≡ exclusionByte rec
     → a ≡ placed 195 195 set whole
     → b ≡ placedUnless (isBlank (dateIssued rec)) 187 194 (dateIssued rec) a

@@ -11,6 +11,7 @@ use Rattle.layout.specs.Exclusions.{exclusionsOf}
 use Rattle.layout.specs.Locals.{isListed}
 use Rattle.layout.specs.ChartA1.{localCode, caseId, lastName, firstName, arrearage, transferState, transferLocalCode, processYear, dateIssued, exclusions}
 use Rattle.layout.specs.Record.{recordKey}
+use Rattle.casemaster.specs.Row.{withZeroCents}
 use Rattle.judging.specs.Errors.{zeroLocalCode}
 
 abbrev pub zeros : ℕ → List ℕ
@@ -32,10 +33,6 @@ exclusionByte rec = setByte (exclusionsOf (exclusions rec)) ∷ []
 unfoldable pub addedLocalCode : List ℕ → List ℕ → List ℕ
 addedLocalCode list rec = cond (isListed (localCode rec) list) (localCode rec) zeroLocalCode
 
--- A, D and M set the cents to 00
-abbrev pub withoutCents : List ℕ → List ℕ
-withoutCents row = placed 197 198 (zeros 2) row
-
 -- f in columns first to last, unless the condition holds
 abbrev pub placedUnless : Bool → ℕ → ℕ → List ℕ → List ℕ → List ℕ
 placedUnless keep first last f row = cond keep row (placed first last f row)
@@ -54,7 +51,7 @@ freshRow list rec =
     (placed 91 186 (address rec)
     (placed 187 194 (dateIssued rec)
     (placed 195 195 (exclusionByte rec)
-    (withoutCents (spaces 200)))))))))))
+    (withZeroCents (spaces 200)))))))))))
 
 -- A on a live row: names, arrearage and exclusions replaced; case ID and date replaced unless blank; all five address fields replaced
 -- unless all five are blank; the rest kept
@@ -68,7 +65,7 @@ recertified list rec row =
     (placedUnless (isBlank (address rec)) 91 186 (address rec)
     (placedUnless (isBlank (dateIssued rec)) 187 194 (dateIssued rec)
     (placed 195 195 (exclusionByte rec)
-    (withoutCents row))))))))
+    (withZeroCents row))))))))
 
 -- B: both names
 unfoldable pub renamed : List ℕ → List ℕ → List ℕ
@@ -80,7 +77,7 @@ reidentified rec row = placed 16 30 (caseId rec) row
 
 -- D: arrearage zero, deleted
 unfoldable pub deleted : List ℕ → List ℕ
-deleted row = placed 196 196 (D ∷ []) (placed 66 73 (zeros 8) (withoutCents row))
+deleted row = placed 196 196 (D ∷ []) (placed 66 73 (zeros 8) (withZeroCents row))
 
 -- L: local code, blank becoming 000
 unfoldable pub relocated : List ℕ → List ℕ → List ℕ
@@ -89,7 +86,7 @@ relocated rec row = placed 13 15 (cond (isBlank (localCode rec)) zeroLocalCode (
 -- M: arrearage; zero also deletes
 unfoldable pub amended : List ℕ → List ℕ → List ℕ
 amended rec row =
-    placedUnless (not (isZero (arrearage rec))) 196 196 (D ∷ []) (placed 66 73 (arrearage rec) (withoutCents row))
+    placedUnless (not (isZero (arrearage rec))) 196 196 (D ∷ []) (placed 66 73 (arrearage rec) (withZeroCents row))
 
 -- R: the set; blank empties it
 unfoldable pub excluded : List ℕ → List ℕ → List ℕ

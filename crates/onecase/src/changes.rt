@@ -11,9 +11,10 @@ ghost use mathlib.Core.Path.{_≡_};
 ghost use Prim.Native.Nat.{_+_};
 ghost use lib.ListN.{length};
 ghost use Rattle.text.specs.Fields.{columns, placed, isBlank};
+ghost use Rattle.casemaster.specs.Row.{withZeroCents};
 ghost use Rattle.onecase.specs.Copies.{InRow, InRecord};
 ghost use Rattle.onecase.specs.Machine.{changed};
-ghost use Rattle.onecase.specs.Changes.{placedUnless, exclusionByte, addedLocalCode, withoutCents, freshRow, recertified, renamed, reidentified, deleted, relocated, amended, excluded, paid, transferred, readdressed};
+ghost use Rattle.onecase.specs.Changes.{placedUnless, exclusionByte, addedLocalCode, freshRow, recertified, renamed, reidentified, deleted, relocated, amended, excluded, paid, transferred, readdressed};
 
 // The row with columns `from` of the record in its columns `to`, which are as many.
 fn copied(row: [u8; 200], to: Columns, rec: &[u8; 245], from: Columns) -> [u8; 200]
@@ -69,8 +70,8 @@ fn with_local_code(row: [u8; 200], rec: &[u8; 245], list: &[u8]) -> [u8; 200]
 }
 
 // The row with 00 for its cents.
-fn without_cents(row: [u8; 200]) -> [u8; 200]
-    ensures { λ r. ⌜ r ≡ withoutCents row ⌝ }
+fn with_zero_cents(row: [u8; 200]) -> [u8; 200]
+    ensures { λ r. ⌜ r ≡ withZeroCents row ⌝ }
 {
     written(row, row::CENTS, b"\xF0\xF0")
 }
@@ -79,7 +80,7 @@ fn without_cents(row: [u8; 200]) -> [u8; 200]
 pub fn fresh_row(rec: &[u8; 245], list: &[u8]) -> [u8; 200]
     ensures { λ r. ⌜ r ≡ freshRow (now (list .entry)) (now (rec .entry)) ⌝ }
 {
-    let blank = without_cents([0x40u8; 200]);
+    let blank = with_zero_cents([0x40u8; 200]);
     let set = exclusion_byte(rec);
     let a = written(blank, row::EXCLUSIONS, &set);
     let b = copied(a, row::DATE_ISSUED, rec, chart_a1::DATE_ISSUED);
@@ -102,7 +103,7 @@ pub fn fresh_row(rec: &[u8; 245], list: &[u8]) -> [u8; 200]
 pub fn recertified_row(row: [u8; 200], rec: &[u8; 245], list: &[u8]) -> [u8; 200]
     ensures { λ r. ⌜ r ≡ recertified (now (list .entry)) (now (rec .entry)) row ⌝ }
 {
-    let whole = without_cents(row);
+    let whole = with_zero_cents(row);
     let set = exclusion_byte(rec);
     let a = written(whole, row::EXCLUSIONS, &set);
     let b = copied_unless_blank(a, row::DATE_ISSUED, rec, chart_a1::DATE_ISSUED);
@@ -133,7 +134,7 @@ fn reidentified_row(row: [u8; 200], rec: &[u8; 245]) -> [u8; 200]
 fn deleted_row(row: [u8; 200]) -> [u8; 200]
     ensures { λ r. ⌜ r ≡ deleted row ⌝ }
 {
-    let whole = without_cents(row);
+    let whole = with_zero_cents(row);
     let zero = written(whole, row::ARREARAGE, b"\xF0\xF0\xF0\xF0\xF0\xF0\xF0\xF0");
     written(zero, row::STATUS, b"\xC4")
 }
@@ -153,7 +154,7 @@ fn relocated_row(row: [u8; 200], rec: &[u8; 245]) -> [u8; 200]
 fn amended_row(row: [u8; 200], rec: &[u8; 245]) -> [u8; 200]
     ensures { λ r. ⌜ r ≡ amended (now (rec .entry)) row ⌝ }
 {
-    let whole = without_cents(row);
+    let whole = with_zero_cents(row);
     let next = copied(whole, row::ARREARAGE, rec, chart_a1::ARREARAGE);
     if fields::is_zero(fields::field(rec, chart_a1::ARREARAGE)) {
         written(next, row::STATUS, b"\xC4")

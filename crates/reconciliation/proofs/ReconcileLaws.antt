@@ -24,8 +24,8 @@ use Rattle.text.proofs.HoldsLaws.{holds-kept, holds-then}
 -- ---- the records, field by field
 
 -- what is spliced in at the front stands there
-pub cut-front : (d s b : List ℕ) → b ≡ spliced d 0 s → take (length s - 0) b ≡ s
-cut-front d s b e = let z : length s - 0 ≡ length s = omega arith in rw (z, e) (take-through d 0 s (length s) (omega arith) (omega arith))
+pub front-spliced : (d s b : List ℕ) → b ≡ spliced d 0 s → take (length s - 0) b ≡ s
+front-spliced d s b e = let z : length s - 0 ≡ length s = omega arith in rw (z, e) (take-through d 0 s (length s) (omega arith) (omega arith))
 
 pub rec-filled : (row s0 : List ℕ) → length row ≡ 200 → length s0 ≡ 245
     → (names s1 s2 s3 s4 s5 s6 s7 s8 s9 s10 s11 s12 s13 : List ℕ) → length names ≡ 24

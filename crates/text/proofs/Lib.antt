@@ -4,6 +4,7 @@ pub mod ByteNumberLaws
 pub mod ByteOrderLaws
 pub mod ColumnsLaws
 pub mod ColumnsWritten
+pub mod EachByteLaws
 pub mod FieldsLaws
 pub mod HoldsLaws
 pub mod NumberLaws

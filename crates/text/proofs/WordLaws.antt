@@ -1,9 +1,9 @@
 -- Laws of bytes as one number, with the same done to each byte at once: a mask laid over it, a number added, its comparison with one byte
 -- throughout; and the test for digits that is made of these. Assumes nothing.
 use mathlib.Core.Path.{_≡_, refl, sym, ap, _∙_}
-use mathlib.Core.Bool.{Bool, true, false, not, _&&_, and-assoc, and-true}
+use mathlib.Core.Bool.{Bool, true, false, _&&_, and-assoc, and-true}
 use mathlib.Core.List.{List, [], _∷_, map}
-use Prim.Native.Nat.{ℕ, zero, suc, _+_, _*_, _<_}
+use Prim.Native.Nat.{ℕ, _+_, _*_, _<_}
 use native.Mathlib.Omega.{arith}
 use lib.Bits.{bitAnd, and-block, and-le-r}
 use lib.Dec.{eqb, lit<}
@@ -12,7 +12,7 @@ use borrow.Author.Tests.{eqb-true, eqb-false, eq-eqb, ne-eqb}
 use Rattle.text.specs.Characters.{isByte, isDigit}
 use Rattle.text.specs.Fields.{every, isBlank, isZero, allDigits}
 use Rattle.text.specs.ByteNumbers.{AreBytes, bytesOnto, bytesNumber}
-use Rattle.text.proofs.FieldsLaws.{and-left, and-right}
+use Rattle.text.proofs.EachByteLaws.{bytes-agree}
 
 -- ---- the same done to each byte
 
@@ -27,11 +27,11 @@ masked m x y (b ∷ s) h a =
     masked m (x * 256 + b) (y * 256 + m) s h (a .1)
     ∙ ap (λ (n : ℕ). bytesOnto n (map (λ (b : ℕ). bitAnd b m) s)) (and-block 8 x y b m (a .0) h)
 
-added : (m x y : ℕ) (s : List ℕ) → bytesOnto x s + bytesOnto y (throughout m s) ≡ bytesOnto (x + y) (map (λ (b : ℕ). b + m) s)
-added m x y [] = refl
-added m x y (b ∷ s) =
+summed : (m x y : ℕ) (s : List ℕ) → bytesOnto x s + bytesOnto y (throughout m s) ≡ bytesOnto (x + y) (map (λ (b : ℕ). b + m) s)
+summed m x y [] = refl
+summed m x y (b ∷ s) =
     let e : x * 256 + b + (y * 256 + m) ≡ (x + y) * 256 + (b + m) = omega arith in
-    added m (x * 256 + b) (y * 256 + m) s ∙ ap (λ (n : ℕ). bytesOnto n (map (λ (b : ℕ). b + m) s)) e
+    summed m (x * 256 + b) (y * 256 + m) s ∙ ap (λ (n : ℕ). bytesOnto n (map (λ (b : ℕ). b + m) s)) e
 
 -- one byte more on both sides
 more-level : (x y b m : ℕ) → b < 256 → m < 256 → eqb (x * 256 + b) (y * 256 + m) ≡ (eqb x y && eqb b m)
@@ -65,34 +65,10 @@ lowHalf b = bitAnd b 0x0F
 abbrev isDigitByHalves : ℕ → Bool
 isDigitByHalves b = isByte 0xF0 (highHalf b) && isByte 0 (highHalf (lowHalf b + 6))
 
-agree : Bool → Bool → Bool
-agree true q = q
-agree false q = not q
-
-agrees : (p q : Bool) → agree p q ≡ true → p ≡ q
-unfolding agree
-agrees true true t = refl
-agrees true false t = cc
-agrees false true t = cc
-agrees false false t = refl
-
-allBelow : (ℕ → Bool) → ℕ → Bool
-allBelow f zero = true
-allBelow f (suc n) = f n && allBelow f n
-
-below-all : (f : ℕ → Bool) (n b : ℕ) → allBelow f n ≡ true → b < n → f b ≡ true
-unfolding allBelow
-below-all f zero b t h = absurd (omega arith)
-below-all f (suc n) b t h = go (eqb b n) refl (λ (l : b < n). below-all f n b (and-right (f n) (allBelow f n) t) l)
-  where
-    go : (p : Bool) → eqb b n ≡ p → (b < n → f b ≡ true) → f b ≡ true
-    go true e r = rw (eqb-true b n e) (and-left (f n) (allBelow f n) t)
-    go false e r = let u : b ≡ n → ⊥ = eqb-false b n e in r (omega (arith, h, u))
-
 -- by computing it for each byte
 halves-digit : (b : ℕ) → b < 256 → isDigitByHalves b ≡ isDigit b
-unfolding allBelow agree isDigit
-halves-digit b h = agrees (isDigitByHalves b) (isDigit b) (below-all (λ (n : ℕ). agree (isDigitByHalves n) (isDigit n)) 256 b refl h)
+unfolding isDigit
+halves-digit b h = bytes-agree isDigitByHalves isDigit refl b h
 
 crossed : (p q r t : Bool) → ((p && q) && (r && t)) ≡ ((p && r) && (q && t))
 crossed true true r t = refl
@@ -125,7 +101,7 @@ module _ (s : List ℕ) (l : length s ≡ 8) where
   mask-eight m h a = ap (λ (n : ℕ). bitAnd (bytesOnto 0 s) (bytesOnto 0 (replicate n m))) (sym l) ∙ masked m 0 0 s h a
 
   add-eight : (m : ℕ) → bytesOnto 0 s + bytesOnto 0 (replicate 8 m) ≡ bytesOnto 0 (map (λ (b : ℕ). b + m) s)
-  add-eight m = ap (λ (n : ℕ). bytesOnto 0 s + bytesOnto 0 (replicate n m)) (sym l) ∙ added m 0 0 s
+  add-eight m = ap (λ (n : ℕ). bytesOnto 0 s + bytesOnto 0 (replicate n m)) (sym l) ∙ summed m 0 0 s
 
   compare-eight : (m : ℕ) → m < 256 → AreBytes s → eqb (bytesOnto 0 s) (bytesOnto 0 (replicate 8 m)) ≡ every (isByte m) s
   compare-eight m h a = ap (λ (n : ℕ). eqb (bytesOnto 0 s) (bytesOnto 0 (replicate n m))) (sym l) ∙ compared m 0 0 s h a

@@ -1,6 +1,6 @@
 -- `convert::zero_at` meets its contract: the row is put back with zero cents. Assumes nothing.
 use mathlib.Core.Path.{ap, _∙_}
-use Rattle.addcents.specs.Convert.{withZeroCents}
+use Rattle.casemaster.specs.Row.{withZeroCents}
 use borrow.Author.Needs.{needs}
 use Rattle.addcents.proofs.convert.zero_at.Statement.{statement}
 use Rattle.addcents.proofs.convert.zero_at.Tie as tie

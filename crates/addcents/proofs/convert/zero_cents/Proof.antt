@@ -1,5 +1,5 @@
 -- `convert::zero_cents` meets its contract: one write. Assumes nothing.
-use Rattle.addcents.specs.Convert.{withZeroCents}
+use Rattle.casemaster.specs.Row.{withZeroCents}
 use borrow.Author.Needs.{needs}
 use Rattle.addcents.proofs.convert.zero_cents.Statement.{statement}
 use Rattle.addcents.proofs.convert.zero_cents.Tie as tie
@@ -14,7 +14,6 @@ put-requires : tie.Need-put-requires
 put-requires c κs = search needs
 
 returns : tie.Need-returns
-unfolding withZeroCents
 returns c = c .before .put .ensures
 
 pub zero-cents-spec : {M : Type 1} → statement M

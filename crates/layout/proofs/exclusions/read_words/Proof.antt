@@ -9,7 +9,7 @@ use borrow.Author.Needs.{needs}
 use lib.Bits.{bitOr}
 use lib.ListN.{length, getD, drop}
 use Rattle.layout.specs.Exclusions.{exclusionNames, wordsFrom, placeAmong, bitsNamed, readOnto, exclusionsOf}
-use Rattle.layout.proofs.ExclusionsLaws.{firstWord, word-here, word-skip, words-none, nameNumber, wordNumber, table-number, number-here, number-other, name-behind, place-here, place-next, place-end, read-word, read-fails}
+use Rattle.layout.proofs.ExclusionsLaws.{firstWord, word-here, word-skip, words-none, numberOfName, wordNumber, table-number, number-here, number-other, name-behind, place-here, place-next, place-end, read-word, read-fails}
 use Rattle.layout.proofs.exclusions.read_words.Statement.{statement}
 use Rattle.layout.proofs.exclusions.read_words.Tie as tie
 
@@ -115,7 +115,7 @@ words-again-2 : tie.Need-words-again-2 Inv-names μ-names Inv-words μ-words
 words-again-2 c =
     let q = c .before .before .before .before in
     let h : q .names .n < 8 = omega arith in
-    let e : nameNumber (q .names .n) ≡ wordNumber (field q) (outer-at q) =
+    let e : numberOfName (q .names .n) ≡ wordNumber (field q) (outer-at q) =
     sym (c .before .name-number .ensures ∙ table-number (q .before .before .before .before .before .before .before .before .names2 .ensures) (q .names .n)) ∙ c .if4 .taken ∙ number q in
     let t = number-here (field q) (outer-at q) (q .names .n) h (bytes q) e in
     let k = place-here (word q) (q .names .n) h t in

@@ -6,8 +6,8 @@ use Rattle.onecase.specs.Changes.{amended}
 use Rattle.onecase.proofs.changes.amended_row.Statement.{statement}
 use Rattle.onecase.proofs.changes.amended_row.Tie as tie
 
-without-cents-requires : tie.Need-without-cents-requires
-without-cents-requires c κs = search needs
+with-zero-cents-requires : tie.Need-with-zero-cents-requires
+with-zero-cents-requires c κs = search needs
 
 copied-requires : tie.Need-copied-requires
 copied-requires c κs = search needs
@@ -26,17 +26,17 @@ written-requires c κs = search needs
 
 returns : tie.Need-returns
 unfolding amended
-returns c = rw (sym (c .before .before .before .is-zero .ensures ∙ ap isZero (c .before .before .before .before .field .ensures)) ∙ c .before .before .if1 .taken, c .written .ensures, c .before .before .before .before .before .before .copied .ensures, c .before .before .before .before .before .before .before .without-cents .ensures)
+returns c = rw (sym (c .before .before .before .is-zero .ensures ∙ ap isZero (c .before .before .before .before .field .ensures)) ∙ c .before .before .if1 .taken, c .written .ensures, c .before .before .before .before .before .before .copied .ensures, c .before .before .before .before .before .before .before .with-zero-cents .ensures)
 
 returns-2 : tie.Need-returns-2
 unfolding amended
-returns-2 c = rw (sym (c .before .is-zero .ensures ∙ ap isZero (c .before .before .field .ensures)) ∙ c .if1 .left, c .before .before .before .before .copied .ensures, c .before .before .before .before .before .without-cents .ensures)
+returns-2 c = rw (sym (c .before .is-zero .ensures ∙ ap isZero (c .before .before .field .ensures)) ∙ c .if1 .left, c .before .before .before .before .copied .ensures, c .before .before .before .before .before .with-zero-cents .ensures)
 
 pub amended-row-spec : {M : Type 1} → statement M
 amended-row-spec =
     tie.close
     (tie.spec
-    without-cents-requires
+    with-zero-cents-requires
     copied-requires
     field-requires
     is-zero-requires

@@ -4,8 +4,8 @@ use Rattle.onecase.specs.Changes.{deleted}
 use Rattle.onecase.proofs.changes.deleted_row.Statement.{statement}
 use Rattle.onecase.proofs.changes.deleted_row.Tie as tie
 
-without-cents-requires : tie.Need-without-cents-requires
-without-cents-requires c κs = search needs
+with-zero-cents-requires : tie.Need-with-zero-cents-requires
+with-zero-cents-requires c κs = search needs
 
 slice-aggregate-written : tie.Need-slice-aggregate-written
 slice-aggregate-written c = search needs
@@ -21,13 +21,13 @@ written-requires-2 c κs = search needs
 
 returns : tie.Need-returns
 unfolding deleted
-returns c = rw (c .written2 .ensures, c .before .before .written .ensures, c .before .before .before .before .without-cents .ensures)
+returns c = rw (c .written2 .ensures, c .before .before .written .ensures, c .before .before .before .before .with-zero-cents .ensures)
 
 pub deleted-row-spec : {M : Type 1} → statement M
 deleted-row-spec =
     tie.close
     (tie.spec
-    without-cents-requires
+    with-zero-cents-requires
     slice-aggregate-written
     written-requires
     slice-aggregate-written-2

@@ -4,8 +4,8 @@ use Rattle.onecase.proofs.StepsLaws.{fresh-steps}
 use Rattle.onecase.proofs.changes.fresh_row.Statement.{statement}
 use Rattle.onecase.proofs.changes.fresh_row.Tie as tie
 
-without-cents-requires : tie.Need-without-cents-requires
-without-cents-requires c κs = search needs
+with-zero-cents-requires : tie.Need-with-zero-cents-requires
+with-zero-cents-requires c κs = search needs
 
 exclusion-byte-requires : tie.Need-exclusion-byte-requires
 exclusion-byte-requires c κs = search needs
@@ -55,7 +55,7 @@ written-requires-3 c κs = search needs
 returns : tie.Need-returns
 returns c =
     fresh-steps (c .before .before .before .before .before .before .before .before .before .before .before .before .before .before .before .before .before .before .args .list .now) (c .before .before .before .before .before .before .before .before .before .before .before .before .before .before .before .before .before .before .args .rec .now) _ _ _ _ _ _ _ _ _ _ _ _ _
-    (c .before .before .before .before .before .before .before .before .before .before .before .before .before .before .before .before .without-cents .ensures)
+    (c .before .before .before .before .before .before .before .before .before .before .before .before .before .before .before .before .with-zero-cents .ensures)
     (c .before .before .before .before .before .before .before .before .before .before .before .before .before .before .before .exclusion-byte .ensures)
     (c .before .before .before .before .before .before .before .before .before .before .before .before .before .written .ensures)
     (c .before .before .before .before .before .before .before .before .before .before .before .before .copied .ensures)
@@ -73,7 +73,7 @@ pub fresh-row-spec : {M : Type 1} → statement M
 fresh-row-spec =
     tie.close
     (tie.spec
-    without-cents-requires
+    with-zero-cents-requires
     exclusion-byte-requires
     slice-aggregate-written
     written-requires

@@ -7,7 +7,7 @@ use lib.ListN.{length, length-take, length-drop}
 use borrow.Author.Needs.{needs}
 use Rattle.text.specs.Fields.{placed}
 use Rattle.text.proofs.FieldsLaws.{length-columns}
-use Rattle.reconciliation.proofs.ReconcileLaws.{cut-front}
+use Rattle.reconciliation.proofs.ReconcileLaws.{front-spliced}
 use Rattle.reconciliation.proofs.reconcile.copy_field.Statement.{statement}
 use Rattle.reconciliation.proofs.reconcile.copy_field.Tie as tie
 
@@ -43,7 +43,7 @@ returns : tie.Need-returns
 returns c =
     let a = c .before .before .before .before .before .before .before .before .before .before .before .before .args in
     c .before .before .put .ensures
-    ∙ ap (λ (z : List ℕ). placed (a .to .first) (a .to .last) z (a .rec .now)) (cut-front _ _ _ (c .before .before .before .before .before .before .before .copy-in .ensures) ∙ c .before .before .before .before .before .before .before .before .before .field .ensures)
+    ∙ ap (λ (z : List ℕ). placed (a .to .first) (a .to .last) z (a .rec .now)) (front-spliced _ _ _ (c .before .before .before .before .before .before .before .copy-in .ensures) ∙ c .before .before .before .before .before .before .before .before .before .field .ensures)
 
 pub copy-field-spec : {M : Type 1} → statement M
 copy-field-spec =
