@@ -65,11 +65,11 @@ module _ (key : List ℕ) (rows : List (List ℕ)) (r : rising (keysOf rows) ≡
   found-equal o = place-found key rows p r l (equal-same (rowKey (getD rows p [])) key (rw o))
 
 -- between the rows below and those above
-no-place : (key : List ℕ) (rows : List (List ℕ)) → ((i : ℕ) → i < length rows → sameBytes (rowKey (getD rows i [])) key ≡ false)
+no-row-there : (key : List ℕ) (rows : List (List ℕ)) → ((i : ℕ) → i < length rows → sameBytes (rowKey (getD rows i [])) key ≡ false)
     → placeWith key rows ≡ none
 unfolding placeWith
-no-place key [] h = refl
-no-place key (row ∷ rows) h = rw (h 0 (zero-lt-suc (length rows)), no-place key rows (λ i l. h (suc i) (suc-le-suc l)))
+no-row-there key [] h = refl
+no-row-there key (row ∷ rows) h = rw (h 0 (zero-lt-suc (length rows)), no-row-there key rows (λ i l. h (suc i) (suc-le-suc l)))
 
 goes-in : (new : List ℕ) (rows : List (List ℕ)) (p : ℕ) → p ≤ length rows → KeysBelow (rowKey new) rows p → KeysAbove (rowKey new) rows p
     → withRow new rows ≡ inserted p new rows
@@ -88,7 +88,7 @@ found-gap : (key : List ℕ) (rows : List (List ℕ)) (p : ℕ) → p ≤ length
 unfolding isEqual
 found-gap key rows p l b a =
     record {
-      missing = no-place key rows (λ i h. rw (same-order (rowKey (getD rows i [])) key) (differs i h));
+      missing = no-row-there key rows (λ i h. rw (same-order (rowKey (getD rows i [])) key) (differs i h));
       within = l;
       goes = λ row e. goes-in row rows p l (rw e b) (rw e a);
     }

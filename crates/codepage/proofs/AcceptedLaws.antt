@@ -28,15 +28,15 @@ module _ (code : ℕ → Option ℕ) (s : List ℕ) (i : ℕ) where
   unfolding everyHasCounterpart
   every-end ok h e = sym (e ∙ rw (drop-of-length-le s h) (and-true ok))
 
-no-place : (o q : Option ℕ) → hasCounterpart o ≡ true → q ≡ none → placeBehind o q ≡ none
-no-place none q t e = cc
-no-place (some c) q t e = rw e
+none-bad : (o q : Option ℕ) → hasCounterpart o ≡ true → q ≡ none → placeBehind o q ≡ none
+none-bad none q t e = cc
+none-bad (some c) q t e = rw e
 
 pub every-passes : (code : ℕ → Option ℕ) (s : List ℕ) → everyHasCounterpart code s ≡ true → placeWithout code s ≡ none
 unfolding everyHasCounterpart placeWithout
 every-passes code [] t = refl
 every-passes code (b ∷ bs) t =
-    no-place (code b) (placeWithout code bs) (and-left (hasCounterpart (code b)) (everyHasCounterpart code bs) t)
+    none-bad (code b) (placeWithout code bs) (and-left (hasCounterpart (code b)) (everyHasCounterpart code bs) t)
     (every-passes code bs (and-right (hasCounterpart (code b)) (everyHasCounterpart code bs) t))
 
 -- by the table too

@@ -77,18 +77,18 @@ inside-behind n none q h p e = let z : 0 ≡ p = cc in omega arith
 inside-behind n (some c) none h p e = let z : _≡_ {A = ℕ} 0 1 = cc in absurd (omega arith)
 inside-behind n (some c) (some r) h p e = let z : suc r ≡ p = cc in omega (arith, h r refl)
 
-pub place-inside : (code : ℕ → Option ℕ) (s : List ℕ) (p : ℕ) → placeWithout code s ≡ some p → p < length s
+pub bad-inside : (code : ℕ → Option ℕ) (s : List ℕ) (p : ℕ) → placeWithout code s ≡ some p → p < length s
 unfolding placeWithout
-place-inside code [] p e = let z : _≡_ {A = ℕ} 0 1 = cc in absurd (omega arith)
-place-inside code (b ∷ bs) p e = inside-behind (length bs) (code b) (placeWithout code bs) (place-inside code bs) p e
+bad-inside code [] p e = let z : _≡_ {A = ℕ} 0 1 = cc in absurd (omega arith)
+bad-inside code (b ∷ bs) p e = inside-behind (length bs) (code b) (placeWithout code bs) (bad-inside code bs) p e
 
 -- a file that stops at its end passes; one that stops before it has the place
 stopped : (n : ℕ) (o : Option ℕ) → ((p : ℕ) → o ≡ some p → p < n) → n ≤ Option·getD o n → o ≡ none
 stopped n none h l = refl
 stopped n (some p) h l = absurd (omega (arith, h p refl))
 
-pub passes : (code : ℕ → Option ℕ) (s : List ℕ) → length s ≤ stop code s → placeWithout code s ≡ none
-passes code s h = stopped (length s) (placeWithout code s) (place-inside code s) h
+pub code-passes : (code : ℕ → Option ℕ) (s : List ℕ) → length s ≤ stop code s → placeWithout code s ≡ none
+code-passes code s h = stopped (length s) (placeWithout code s) (bad-inside code s) h
 
 place-of : (n : ℕ) (o : Option ℕ) → Option·getD o n < n → o ≡ some (Option·getD o n)
 place-of n none l = absurd (omega arith)

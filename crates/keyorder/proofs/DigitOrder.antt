@@ -24,14 +24,14 @@ digits : (b : ℕ) (s : List ℕ) → Digits (b ∷ s) → Digits s
 digits b s t = and-right (isDigit b) (every isDigit s) t
 
 -- digits onto a lesser number write a lesser number
-onto-less : (n m : ℕ) (s t : List ℕ) → length s ≡ length t → Digits s → Digits t → n < m → numberOnto n s < numberOnto m t
-onto-less n m [] [] e f g h = h
-onto-less n m [] (y ∷ t) e f g h = absurd (omega arith)
-onto-less n m (x ∷ s) [] e f g h = absurd (omega arith)
-onto-less n m (x ∷ s) (y ∷ t) e f g h =
+digits-less : (n m : ℕ) (s t : List ℕ) → length s ≡ length t → Digits s → Digits t → n < m → numberOnto n s < numberOnto m t
+digits-less n m [] [] e f g h = h
+digits-less n m [] (y ∷ t) e f g h = absurd (omega arith)
+digits-less n m (x ∷ s) [] e f g h = absurd (omega arith)
+digits-less n m (x ∷ s) (y ∷ t) e f g h =
     let dx = digit x s f in
     let dy = digit y t g in
-    onto-less (n * 10 + (x - 0xF0)) (m * 10 + (y - 0xF0)) s t (omega arith) (digits x s f) (digits y t g) (omega arith)
+    digits-less (n * 10 + (x - 0xF0)) (m * 10 + (y - 0xF0)) s t (omega arith) (digits x s f) (digits y t g) (omega arith)
 
 -- how two fields of digits stand, by their numbers and by their bytes, whatever follows them
 pub data Stand (n : ℕ) (s t : List ℕ) : Type 0 where
@@ -56,12 +56,12 @@ onto-stand n (x ∷ s) (y ∷ t) e f g =
         → Stand (n * 10 + (x - 0xF0)) s t → Stand n (x ∷ s) (y ∷ t)
     go true b p q dx dy le r =
         let h = ltb-true x y p in
-        below (onto-less (n * 10 + (x - 0xF0)) (n * 10 + (y - 0xF0)) s t le (digits x s f) (digits y t g) (omega arith)) (λ u v. order-lt x y (s ++ u) (t ++ v) h)
+        below (digits-less (n * 10 + (x - 0xF0)) (n * 10 + (y - 0xF0)) s t le (digits x s f) (digits y t g) (omega arith)) (λ u v. order-lt x y (s ++ u) (t ++ v) h)
     go false true p q dx dy le r =
         let h = ltb-true y x q in
-        above (onto-less (n * 10 + (y - 0xF0)) (n * 10 + (x - 0xF0)) t s (sym le) (digits y t g) (digits x s f) (omega arith))
+        above (digits-less (n * 10 + (y - 0xF0)) (n * 10 + (x - 0xF0)) t s (sym le) (digits y t g) (digits x s f) (omega arith))
     go false false p q dx dy le r = same (omega (arith, ltb-false x y p, ltb-false y x q)) r
 
-pub stand : (s t : List ℕ) → length s ≡ length t → allDigits s ≡ true → allDigits t ≡ true → Stand 0 s t
+pub digits-stand : (s t : List ℕ) → length s ≡ length t → allDigits s ≡ true → allDigits t ≡ true → Stand 0 s t
 unfolding allDigits
-stand s t e f g = onto-stand 0 s t e f g
+digits-stand s t e f g = onto-stand 0 s t e f g

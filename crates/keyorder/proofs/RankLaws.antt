@@ -19,7 +19,7 @@ use Rattle.text.proofs.SameLaws.{same-eq}
 use Rattle.layout.proofs.KeyLaws.{sound-length}
 use Rattle.text.proofs.BoolLaws.{or-left}
 use Rattle.keyorder.specs.Order.{rankOf}
-use Rattle.keyorder.proofs.DigitOrder.{Stand, below, level, above, stand}
+use Rattle.keyorder.proofs.DigitOrder.{Stand, below, level, above, digits-stand}
 use Rattle.text.specs.ByteOrder.{less, orderOf}
 use Rattle.text.proofs.ByteOrderLaws.{order-lt, order-front}
 
@@ -100,8 +100,8 @@ type-high b z = go (eqb b N) refl z
     go false e z = absurd (omega arith)
 
 -- a key of twelve bytes in its parts
-parts : (key : List ℕ) → length key ≡ 12 → key ≡ columns 1 2 key ++ (ssn key ++ (getD key 11 0 ∷ []))
-parts key w =
+key-parts : (key : List ℕ) → length key ≡ 12 → key ≡ columns 1 2 key ++ (ssn key ++ (getD key 11 0 ∷ []))
+key-parts key w =
     let l : 11 < length key = omega arith in
     let m : length key ≤ 12 = omega arith in
     let e : drop 9 (drop 2 key) ≡ getD key 11 0 ∷ [] =
@@ -158,14 +158,14 @@ module _ (state k l : List ℕ) (hk : isOwnKey state k ≡ true) (hl : isOwnKey 
 
   -- the keys from their parts
   whole-k : k ≡ state ++ (ssn k ++ (tk ∷ []))
-  whole-k = parts k (ok .width) ∙ ap (λ (z : List ℕ). z ++ (ssn k ++ (tk ∷ []))) (ok .same)
+  whole-k = key-parts k (ok .width) ∙ ap (λ (z : List ℕ). z ++ (ssn k ++ (tk ∷ []))) (ok .same)
 
   whole-l : l ≡ state ++ (ssn l ++ (tl ∷ []))
-  whole-l = parts l (ol .width) ∙ ap (λ (z : List ℕ). z ++ (ssn l ++ (tl ∷ []))) (ol .same)
+  whole-l = key-parts l (ol .width) ∙ ap (λ (z : List ℕ). z ++ (ssn l ++ (tl ∷ []))) (ol .same)
 
   stands : Stand 0 (ssn k) (ssn l)
   stands =
-      stand (ssn k) (ssn l) (digits-width 9 (ssn k) (ok .digits) ∙ sym (digits-width 9 (ssn l) (ol .digits)))
+      digits-stand (ssn k) (ssn l) (digits-width 9 (ssn k) (ok .digits) ∙ sym (digits-width 9 (ssn l) (ol .digits)))
       (digits-all 9 (ssn k) (ok .digits)) (digits-all 9 (ssn l) (ol .digits))
 
   -- one rank, one key

@@ -150,24 +150,24 @@ pub number-bound : (cs : List ℕ) → RisingCodes 0 64 cs → numberOfCodes cs 
 number-bound cs h = let r = number-room 0 64 cs (lit≤ tt) h in omega arith
 
 -- the number of a set of codes, divided by 2 to the power a
-over : ℕ → List ℕ → ℕ
-over a [] = 0
-over a (c ∷ cs) = 2 ^ (c - a) + over a cs
+offsetSum : ℕ → List ℕ → ℕ
+offsetSum a [] = 0
+offsetSum a (c ∷ cs) = 2 ^ (c - a) + offsetSum a cs
 
-over-zero : (cs : List ℕ) → over 0 cs ≡ numberOfCodes cs
-unfolding over
+over-zero : (cs : List ℕ) → offsetSum 0 cs ≡ numberOfCodes cs
+unfolding offsetSum
 over-zero [] = refl
 over-zero (c ∷ cs) = rw (sub-zero c, over-zero cs)
 
-over-suc : (a e : ℕ) (cs : List ℕ) → RisingCodes (suc a) e cs → over a cs ≡ 2 * over (suc a) cs
-unfolding over
+over-suc : (a e : ℕ) (cs : List ℕ) → RisingCodes (suc a) e cs → offsetSum a cs ≡ 2 * offsetSum (suc a) cs
+unfolding offsetSum
 over-suc a e [] h = refl
 over-suc a e (c ∷ cs) h =
     let p : c - a ≡ suc (c - suc a) = omega arith in
     rw (p, over-suc a e cs (rising-from (suc a) (suc c) e cs (omega arith) (h .2))) (omega (arith, pow-suc 2 (c - suc a)))
 
-codes-over : (d a n : ℕ) (cs : List ℕ) → RisingCodes a (a + d) cs → n ≡ over a cs → codesFrom d a n ≡ cs
-unfolding over codesFrom
+codes-over : (d a n : ℕ) (cs : List ℕ) → RisingCodes a (a + d) cs → n ≡ offsetSum a cs → codesFrom d a n ≡ cs
+unfolding offsetSum codesFrom
 codes-over zero a n [] h e = refl
 codes-over zero a n (c ∷ cs) h e = absurd (omega arith)
 codes-over (suc d) a n [] h e = let z : n % 2 ≡ 0 = omega arith in rw z (codes-over d (suc a) (n / 2) [] tt (omega arith))
@@ -176,14 +176,14 @@ codes-over (suc d) a n (c ∷ cs) h e =
     ⊎-elim
     (λ (t : a ≡ c).
     let k : RisingCodes (suc a) (a + suc d) cs = rising-from (suc a) (suc c) (a + suc d) cs (omega arith) (h .2) in
-    let q : over a cs ≡ 2 * over (suc a) cs = over-suc a (a + suc d) cs k in
+    let q : offsetSum a cs ≡ 2 * offsetSum (suc a) cs = over-suc a (a + suc d) cs k in
     let z : c - a ≡ 0 = omega arith in
-    let o : n ≡ 1 + over a cs = rw z at e in
+    let o : n ≡ 1 + offsetSum a cs = rw z at e in
     let b : n % 2 ≡ 1 = omega arith in
     let r : codesFrom d (suc a) (n / 2) ≡ cs = codes-over d (suc a) (n / 2) cs (rw top at k) (omega arith) in
     rw (b, r, t))
     (λ (l : a < c).
-    let q : over a (c ∷ cs) ≡ 2 * over (suc a) (c ∷ cs) = over-suc a (a + suc d) (c ∷ cs) (l, h .1, h .2) in
+    let q : offsetSum a (c ∷ cs) ≡ 2 * offsetSum (suc a) (c ∷ cs) = over-suc a (a + suc d) (c ∷ cs) (l, h .1, h .2) in
     let b : n % 2 ≡ 0 = omega arith in
     rw b (codes-over d (suc a) (n / 2) (c ∷ cs) (l, omega arith, rw top at (h .2)) (omega arith)))
     (eq-or-lt-of-le (h .0))

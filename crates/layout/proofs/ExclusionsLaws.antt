@@ -14,6 +14,7 @@ use lib.ListN.{length, getD, take, drop, length-append, length-take, length-drop
 use lib.Seq.{drop-cons, drop-drop, take-add, take-suc, getD-drop}
 use Rattle.text.specs.Characters.{A, comma, space, isByte, within}
 use Rattle.text.specs.Fields.{every, isBlank, sameBytes, spaces}
+use Rattle.layout.specs.WordNumbers.{threeNumber, wordNumber}
 use Rattle.layout.specs.Exclusions.{exclusionNames, isSeparator, unlessEmpty, wordsFrom, placeAmong, bitsNamed, readOnto, namesShown, exclusionColumns}
 use Rattle.text.proofs.FieldsLaws.{and-left, and-right}
 use Rattle.text.proofs.SameLaws.{eq-same, same-eq}
@@ -212,16 +213,6 @@ name-three : (n : ℕ) → n < 8 → Three (getD exclusionNames n [])
 name-three n h = three (getD exclusionNames n []) (every-at isThree exclusionNames n (omega (arith, names-length)) names-three)
 
 -- ---- a word and a name as numbers
-
--- three bytes as a number
-abbrev pub threeNumber : ℕ → ℕ → ℕ → ℕ
-threeNumber a b c = (a * 256 + b) * 256 + c
-
--- the number of the three bytes from i on where a word can end behind them, else 0
-abbrev pub wordNumber : List ℕ → ℕ → ℕ
-wordNumber s i =
-    cond (leb (i + 3) (length s) && isSeparator (getD s (i + 3) space))
-    (threeNumber (getD s i 0) (getD s (i + 1) 0) (getD s (i + 2) 0)) 0
 
 no-separator : (b : ℕ) → A ≤ b → isSeparator b ≡ false
 unfolding isSeparator

@@ -26,19 +26,19 @@ abbrev daysBy : Bool → ℕ → ℕ
 daysBy leap month = cond (eqb month 2) (cond leap 29 28) (cond (isShort month) 30 31)
 
 -- a test of the numbers 1 to n
-abbrev passes : (ℕ → Bool) → ℕ → Bool
-passes f zero = true
-passes f (suc n) = f (suc n) && passes f n
+abbrev eachUpTo : (ℕ → Bool) → ℕ → Bool
+eachUpTo f zero = true
+eachUpTo f (suc n) = f (suc n) && eachUpTo f n
 
-passed : (f : ℕ → Bool) (n : ℕ) → passes f n ≡ true → (k : ℕ) → k < n → f (suc k) ≡ true
-passed f zero t k h = absurd (omega arith)
-passed f (suc n) t k h =
-    below-more _ _ (passed f n (and-right (f (suc n)) (passes f n) t)) (and-left (f (suc n)) (passes f n) t) k (omega arith)
+each-up-to : (f : ℕ → Bool) (n : ℕ) → eachUpTo f n ≡ true → (k : ℕ) → k < n → f (suc k) ≡ true
+each-up-to f zero t k h = absurd (omega arith)
+each-up-to f (suc n) t k h =
+    below-more _ _ (each-up-to f n (and-right (f (suc n)) (eachUpTo f n) t)) (and-left (f (suc n)) (eachUpTo f n) t) k (omega arith)
 
 abbrev agrees : Bool → ℕ → Bool
 agrees leap month = eqb (lengthBy leap month) (daysBy leap month)
 
-twelve-agree : (leap : Bool) → passes (agrees leap) 12 ≡ true
+twelve-agree : (leap : Bool) → eachUpTo (agrees leap) 12 ≡ true
 unfolding isShort
 twelve-agree true = refl
 twelve-agree false = refl
@@ -49,7 +49,7 @@ unfolding monthLength daysIn
 month-length year zero l h = absurd (omega arith)
 month-length year (suc k) l h =
     let leap = isLeap year in
-    eqb-true (lengthBy leap (suc k)) (daysBy leap (suc k)) (passed (agrees leap) 12 (twelve-agree leap) k (omega arith))
+    eqb-true (lengthBy leap (suc k)) (daysBy leap (suc k)) (each-up-to (agrees leap) 12 (twelve-agree leap) k (omega arith))
 
 -- the test of a month's number
 abbrev pub isMonth : ℕ → Bool

@@ -30,11 +30,11 @@ above x (y ∷ l) t (suc j) h =
     lt-trans (ltb-true x y (and-left (ltb x y) (risingNumbers (y ∷ l)) t)) (above y l (rest x (y ∷ l) t) j (le-of-suc-le-suc h))
 
 -- an earlier entry is below a later one
-pub sorted : (l : List ℕ) → risingNumbers l ≡ true → (i j : ℕ) → i < j → j < length l → getD l i 0 < getD l j 0
-sorted [] t i j h k = absurd (not-suc-le-zero k)
-sorted (x ∷ l) t i zero h k = absurd (not-suc-le-zero h)
-sorted (x ∷ l) t zero (suc j) h k = above x l t j (le-of-suc-le-suc k)
-sorted (x ∷ l) t (suc i) (suc j) h k = sorted l (rest x l t) i j (le-of-suc-le-suc h) (le-of-suc-le-suc k)
+pub earlier-below : (l : List ℕ) → risingNumbers l ≡ true → (i j : ℕ) → i < j → j < length l → getD l i 0 < getD l j 0
+earlier-below [] t i j h k = absurd (not-suc-le-zero k)
+earlier-below (x ∷ l) t i zero h k = absurd (not-suc-le-zero h)
+earlier-below (x ∷ l) t zero (suc j) h k = above x l t j (le-of-suc-le-suc k)
+earlier-below (x ∷ l) t (suc i) (suc j) h k = earlier-below l (rest x l t) i j (le-of-suc-le-suc h) (le-of-suc-le-suc k)
 
 -- membership
 
@@ -69,7 +69,7 @@ module _ {l : List ℕ} {x lo hi : ℕ} (t : risingNumbers l ≡ true) (b : Brac
         end = b .end;
         before = λ k kl.
             let kl′ : k ≤ mid = omega arith in
-            ⊎-elim (λ (r : k ≡ mid). rw r h) (λ (r : k < mid). lt-trans (sorted l t k mid r m) h) (eq-or-lt-of-le kl′);
+            ⊎-elim (λ (r : k ≡ mid). rw r h) (λ (r : k < mid). lt-trans (earlier-below l t k mid r m) h) (eq-or-lt-of-le kl′);
         behind = b .behind;
       }
 
@@ -81,7 +81,7 @@ module _ {l : List ℕ} {x lo hi : ℕ} (t : risingNumbers l ≡ true) (b : Brac
         end = omega arith;
         before = b .before;
         behind = λ k mk kl.
-            ⊎-elim (λ (r : mid ≡ k). rw (← r) h) (λ (r : mid < k). lt-trans h (sorted l t mid k r kl)) (eq-or-lt-of-le mk);
+            ⊎-elim (λ (r : mid ≡ k). rw (← r) h) (λ (r : mid < k). lt-trans h (earlier-below l t mid k r kl)) (eq-or-lt-of-le mk);
       }
 
 at-least : (n k : ℕ) → (n ≤ k) ⊎ (k < n)

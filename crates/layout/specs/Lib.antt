@@ -17,4 +17,5 @@ pub mod Record
 pub mod Ssn
 pub mod StateCodes
 pub mod States
+pub mod WordNumbers
 pub mod Zip

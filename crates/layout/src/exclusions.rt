@@ -1,14 +1,13 @@
 // Error 16: exclusion words, and the set that they name.
 use text::fields;
 ghost use mathlib.Core.Path.{_≡_};
-ghost use mathlib.Core.Bool.{cond, _&&_};
+ghost use mathlib.Core.Bool.{cond};
 ghost use mathlib.Core.List.{[]};
-ghost use Prim.Native.Nat.{ℕ, _+_, _*_, _<_, _≤_};
-ghost use lib.Dec.{leb};
+ghost use Prim.Native.Nat.{ℕ, _<_, _≤_};
 ghost use lib.ListN.{length, getD, take};
-ghost use Rattle.text.specs.Characters.{space};
 ghost use Rattle.text.specs.Fields.{spaces};
 ghost use Rattle.layout.specs.Exclusions.{exclusionNames, isSeparator, wordsFrom, bitsNamed, exclusionsOf, setRead, exclusionColumns};
+ghost use Rattle.layout.specs.WordNumbers.{threeNumber, canEnd, wordNumber};
 
 // What an exclusion field names: a set, ADM in bit 0, or failure at a word that is none of the eight.
 pub enum Exclusions {
@@ -54,21 +53,21 @@ fn is_separator(b: u8) -> bool
 
 // Three bytes as a number, the first the highest.
 fn number_of(a: u8, b: u8, c: u8) -> u32
-    ensures { λ r. ⌜ r ≡ (a * 256 + b) * 256 + c ⌝ }
+    ensures { λ r. ⌜ r ≡ threeNumber a b c ⌝ }
 {
     ((a as u32) * 256 + (b as u32)) * 256 + (c as u32)
 }
 
 // A name as a number.
 fn name_number(name: [u8; 3]) -> u32
-    ensures { λ r. ⌜ r ≡ (getD name 0 0 * 256 + getD name 1 0) * 256 + getD name 2 0 ⌝ }
+    ensures { λ r. ⌜ r ≡ threeNumber (getD name 0 0) (getD name 1 0) (getD name 2 0) ⌝ }
 {
     number_of(name[0], name[1], name[2])
 }
 
 // Whether a word can end before the byte at `end`: a separator, or the field's end.
 fn ends_word(s: &[u8], end: usize) -> bool
-    ensures { λ r. ⌜ r ≡ (leb end (length (now (s .entry))) && isSeparator (getD (now (s .entry)) end space)) ⌝ }
+    ensures { λ r. ⌜ r ≡ canEnd (now (s .entry)) end ⌝ }
 {
     if s.len() < end {
         return false;
@@ -83,7 +82,7 @@ fn ends_word(s: &[u8], end: usize) -> bool
 // The three bytes from `at` on as a number where a word can end behind them; else 0, which is no name's number.
 fn word_number(s: &[u8], at: usize) -> u32
     requires { ⌜ at < length (now s) ⌝ }
-    ensures { λ r. ⌜ r ≡ cond (leb (at + 3) (length (now (s .entry))) && isSeparator (getD (now (s .entry)) (at + 3) space)) ((getD (now (s .entry)) at 0 * 256 + getD (now (s .entry)) (at + 1) 0) * 256 + getD (now (s .entry)) (at + 2) 0) 0 ⌝ }
+    ensures { λ r. ⌜ r ≡ wordNumber (now (s .entry)) at ⌝ }
 {
     if !ends_word(s, at + 3) {
         return 0;

@@ -9,7 +9,8 @@ use borrow.Author.Needs.{needs}
 use lib.Bits.{bitOr}
 use lib.ListN.{length, getD, drop}
 use Rattle.layout.specs.Exclusions.{exclusionNames, wordsFrom, placeAmong, bitsNamed, readOnto, exclusionsOf}
-use Rattle.layout.proofs.ExclusionsLaws.{firstWord, word-here, word-skip, words-none, numberOfName, wordNumber, table-number, number-here, number-other, name-behind, place-here, place-next, place-end, read-word, read-fails}
+use Rattle.layout.specs.WordNumbers.{wordNumber}
+use Rattle.layout.proofs.ExclusionsLaws.{firstWord, word-here, word-skip, words-none, numberOfName, table-number, number-here, number-other, name-behind, place-here, place-next, place-end, read-word, read-fails}
 use Rattle.layout.proofs.exclusions.read_words.Statement.{statement}
 use Rattle.layout.proofs.exclusions.read_words.Tie as tie
 
