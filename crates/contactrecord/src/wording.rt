@@ -56,8 +56,29 @@ fn ends_run(word: &[u8], run: &[u8], letter: bool) -> bool
     fields::same(word, run)
 }
 
-// Whether the word, which isn't empty, is a whole run of letters of s.
-pub fn has_run(s: &[u8], word: &[u8]) -> bool
+// Whether a word of three bytes stands at some place of s. No way out in the middle: several places are looked at at a time.
+fn holds_three(s: &[u8], word: &[u8]) -> bool
+    requires { ⌜ length (now word) ≡ 3 ⌝ }
+    ensures { λ r. ⌜ r ≡ contains (now (word .entry)) (now (s .entry)) ⌝ }
+{
+    if s.len() < 3 {
+        return false;
+    }
+    let end = s.len() - 2;
+    let x = word[0];
+    let y = word[1];
+    let z = word[2];
+    let mut seen = false;
+    let mut i: usize = 0;
+    while i < end {
+        seen = seen | ((s[i] == x) & ((s[i + 1] == y) & (s[i + 2] == z)));
+        i += 1;
+    }
+    seen
+}
+
+// The same as `has_run`, run by run.
+fn compares_runs(s: &[u8], word: &[u8]) -> bool
     requires { ⌜ 0 < length (now word) ⌝ }
     ensures { λ r. ⌜ r ≡ hasRun (now (word .entry)) (now (s .entry)) ⌝ }
 {
@@ -72,4 +93,18 @@ pub fn has_run(s: &[u8], word: &[u8]) -> bool
         start = run_start(letter, start, i);
     }
     fields::same(word, &s[start..i])
+}
+
+// Whether the word, which isn't empty, is a whole run of letters of s. Where s doesn't hold it, it is none of the runs: most fields don't
+// hold a word of three letters, and that is told sooner than the runs.
+pub fn has_run(s: &[u8], word: &[u8]) -> bool
+    requires { ⌜ 0 < length (now word) ⌝ }
+    ensures { λ r. ⌜ r ≡ hasRun (now (word .entry)) (now (s .entry)) ⌝ }
+{
+    if word.len() == 3 {
+        if !holds_three(s, word) {
+            return false;
+        }
+    }
+    compares_runs(s, word)
 }
