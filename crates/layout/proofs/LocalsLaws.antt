@@ -1,7 +1,7 @@
 -- Laws of a list of codes of one width: whether a code is among those from an index on, and whether they are digits.
 -- Assumes nothing.
 use mathlib.Core.Path.{_≡_, refl, sym}
-use mathlib.Core.Bool.{Bool, false, _&&_, _||_, and-assoc}
+use mathlib.Core.Bool.{Bool, true, false, _&&_, _||_, and-assoc, or-true}
 use mathlib.Core.List.{List, [], _∷_, _++_, map}
 use Prim.Native.Nat.{ℕ, zero, suc, _+_, _-_, _*_, _/_, _%_, _≤_, _<_}
 use native.Mathlib.Nat.{suc-mul, zero-mul}
@@ -20,6 +20,13 @@ pub every-append : (f : ℕ → Bool) (a b : List ℕ) → every f (a ++ b) ≡ 
 every-append f [] b = refl
 every-append f (x ∷ a) b = rw (every-append f a b) (sym (and-assoc (f x) (every f a) (every f b)))
 
+-- one of those behind the first
+one-of-behind : (s : List ℕ) (i : ℕ) (xs : List (List ℕ)) → isOneOf s (drop i xs) ≡ true → isOneOf s xs ≡ true
+unfolding isOneOf
+one-of-behind s zero xs t = t
+one-of-behind s (suc i) [] t = t
+one-of-behind s (suc i) (x ∷ xs) t = rw (one-of-behind s i xs t) (or-true (sameBytes s x))
+
 module _ (w : ℕ) where
   -- b says whether s is the code at i
   pub one-of-step : (s : List ℕ) (n : ℕ) (xs : List ℕ) (i : ℕ) (b : Bool) → i < n
@@ -31,6 +38,13 @@ module _ (w : ℕ) where
   pub one-of-end : (s : List ℕ) (n : ℕ) (xs : List ℕ) (i : ℕ) → n ≤ i → isOneOf s (drop i (blocks w n xs)) ≡ false
   unfolding isOneOf
   one-of-end s n xs i l = rw (drop-of-length-le (blocks w n xs) {i = i} (rw (length-blocks w n xs) l))
+
+  -- s is the code at i
+  pub one-of-at : (s : List ℕ) (n : ℕ) (xs : List ℕ) (i : ℕ) → i < n
+      → sameBytes s (take (i * w + w - i * w) (drop (i * w) xs)) ≡ true → isOneOf s (blocks w n xs) ≡ true
+  one-of-at s n xs i l e =
+      one-of-behind s i (blocks w n xs)
+      (one-of-step s n xs i true l (sym e))
 
   -- each of n codes is w digits where their bytes are digits
   pub digits-blocks : (n : ℕ) (xs : List ℕ) → n * w ≤ length xs

@@ -1,93 +1,20 @@
--- `locals::listed` meets its contract. The loop's invariant: the codes from index i on give the same answer. Assumes nothing.
-use mathlib.Core.Path.{_≡_, refl, sym, _∙_}
-use Prim.Native.Nat.{_-_, _/_}
-use native.Mathlib.Omega.{arith}
-use lib.ListN.{length, drop}
+-- `locals::listed`: a code found soon is listed, and otherwise the list is read. Assumes nothing.
+use mathlib.Core.Path.{sym}
 use borrow.Author.Needs.{needs}
-use denote.Ref.{now}
-use Rattle.text.specs.Fields.{isOneOf}
-use Rattle.layout.specs.Locals.{isListed, codesOfList}
-use Rattle.layout.proofs.LocalsLaws.{one-of-step, one-of-end}
 use Rattle.layout.proofs.locals.listed.Statement.{statement}
 use Rattle.layout.proofs.locals.listed.Tie as tie
 
-abbrev Inv-loop : tie.InvT-loop
-Inv-loop code list n i₀ i = isOneOf code (drop i (codesOfList list)) ≡ isListed code list
+is-at-likely-place-requires : tie.Need-is-at-likely-place-requires
+is-at-likely-place-requires c κs = search needs
 
-abbrev μ-loop : tie.MeasureT-loop
-μ-loop code list n i₀ i = n - i
+returns : tie.Need-returns
+returns c = sym (c .before .is-at-likely-place .ensures (c .if1 .taken))
 
-loop-holds : tie.Need-loop-holds Inv-loop μ-loop
-unfolding isListed
-loop-holds c = refl
+is-read-requires : tie.Need-is-read-requires
+is-read-requires c κs = search needs
 
-mul-at : tie.Need-mul-at Inv-loop μ-loop
-mul-at c = search needs
-
-add-end : tie.Need-add-end Inv-loop μ-loop
-add-end c = search needs
-
-sub-same : tie.Need-sub-same Inv-loop μ-loop
-sub-same c = search needs
-
-part-same-start : tie.Need-part-same-start Inv-loop μ-loop
-part-same-start c = search needs
-
-part-same-end : tie.Need-part-same-end Inv-loop μ-loop
-part-same-end c = search needs
-
-same-requires : tie.Need-same-requires Inv-loop μ-loop
-same-requires c κs = search needs
-
-returns : tie.Need-returns Inv-loop μ-loop
-unfolding codesOfList
-returns c =
-    let a = c .before .before .before .before .before .before .before .args in
-    let l = c .before .before .before .before .loop in
-    let r = c .before .same in
-    let s = now (a .list) in
-    sym (one-of-step 3 (now (a .code)) (length s / 3) s (l .i) (r .result) (omega arith) (r .ensures) ∙ rw (c .if1 .taken))
-    ∙ l .inv
-
-add-i : tie.Need-add-i Inv-loop μ-loop
-add-i c = search needs
-
-loop-less : tie.Need-loop-less Inv-loop μ-loop
-loop-less c = search needs
-
-loop-again : tie.Need-loop-again Inv-loop μ-loop
-unfolding codesOfList
-loop-again c =
-    let a = c .before .before .before .before .before .before .before .args in
-    let l = c .before .before .before .before .loop in
-    let r = c .before .same in
-    let s = now (a .list) in
-    sym (one-of-step 3 (now (a .code)) (length s / 3) s (l .i) (r .result) (omega arith) (r .ensures) ∙ rw (c .if1 .left))
-    ∙ l .inv
-
-returns-2 : tie.Need-returns-2 Inv-loop μ-loop
-unfolding codesOfList
-returns-2 c =
-    let a = c .before .before .before .before .args in
-    let l = c .before .loop in
-    let s = now (a .list) in
-    sym (one-of-end 3 (now (a .code)) (length s / 3) s (l .i) (omega arith)) ∙ l .inv
+returns-2 : tie.Need-returns-2
+returns-2 c = search needs
 
 pub listed-spec : {M : Type 1} → statement M
-listed-spec =
-    tie.close
-    (tie.spec
-    Inv-loop
-    μ-loop
-    loop-holds
-    mul-at
-    add-end
-    sub-same
-    part-same-start
-    part-same-end
-    same-requires
-    returns
-    add-i
-    loop-less
-    loop-again
-    returns-2)
+listed-spec = tie.close (tie.spec is-at-likely-place-requires returns is-read-requires returns-2)
