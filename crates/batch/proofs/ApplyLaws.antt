@@ -1,16 +1,16 @@
 -- The first refusal from its parts, and the outcome of a run from what the work left. Assumes nothing.
 use Prim.Native.Nat.{ℕ, _+_, _*_, _/_, _≤_, _<_}
 use mathlib.Core.Path.{_≡_, refl, sym, ap, _∙_}
-use mathlib.Core.Bool.{Bool, true, false, not, cond, _&&_, _||_}
+use mathlib.Core.Bool.{Bool, true, false, not, cond, _&&_, _||_, and-false}
 use mathlib.Core.List.{List, _++_}
 use native.Mathlib.Omega.{arith}
 use lib.Dec.{eqb, leb, ltb, lit≤}
 use lib.ListN.{length, take, drop, length-drop, take-append-drop}
 use lib.Seq.{length-take-le}
-use borrow.Author.Tests.{eq-eqb, ne-eqb, lt-ltb, le-ltb, leb-true, leb-false}
+use borrow.Author.Tests.{eq-eqb, ne-eqb, lt-ltb, le-ltb, le-leb, leb-true, leb-false}
 use Rattle.text.specs.Blocks.{joined, over, spliced}
 use Rattle.casemaster.specs.Master.{rowsOf}
-use Rattle.text.proofs.FieldsLaws.{length-columns, and-left, and-right}
+use Rattle.text.proofs.FieldsLaws.{length-columns}
 use Rattle.text.proofs.BlocksLaws.{length-blocks, holds-over}
 use Rattle.layout.specs.Limits.{maxRows}
 use Rattle.reporting.specs.Rejects.{numbers, rejectRecords}
@@ -46,19 +46,26 @@ not-both : (a b : Bool) → not (a && b) ≡ (not a || not b)
 not-both true b = refl
 not-both false b = refl
 
+-- the lesser of two numbers
+pub least-left : (a b k : ℕ) → a < b → leb k a ≡ (leb k a && leb k b)
+least-left a b k l = go (leb k a) refl
+  where
+    go : (t : Bool) → leb k a ≡ t → t ≡ (t && leb k b)
+    go true e = sym (le-leb k b (omega (arith, leb-true k a e)))
+    go false e = refl
+
+pub least-right : (a b k : ℕ) → b ≤ a → leb k b ≡ (leb k a && leb k b)
+least-right a b k l = go (leb k b) refl
+  where
+    go : (t : Bool) → leb k b ≡ t → t ≡ (leb k a && t)
+    go true e = sym (rw (le-leb k a (omega (arith, leb-true k b e))))
+    go false e = sym (and-false (leb k a))
+
 module _ (m : List ℕ) (n : ℕ) (batch : List ℕ) where
   abbrev rows : ℕ
   rows = n + addsWithoutRow (rowsOf n m) (detailsOf batch)
 
-  -- refusal 9 does not hold where so many rows, or more, have a place
-  pub has-room : (r : ℕ) → rows ≤ r → (leb r (length m / 200) && leb r maxRows) ≡ true → false ≡ refusal9 m n batch
-  unfolding refusal9
-  has-room r l e =
-      let x : rows ≤ length m / 200 = omega (arith, l, leb-true r (length m / 200) (and-left (leb r (length m / 200)) (leb r maxRows) e)) in
-      let y : rows ≤ maxRows = omega (arith, l, leb-true r maxRows (and-right (leb r (length m / 200)) (leb r maxRows) e)) in
-      sym (rw (le-ltb (length m / 200) rows x, le-ltb maxRows rows y))
-
-  -- it holds where they have none
+  -- refusal 9 holds where they have no place
   pub room-told : not (leb rows (length m / 200) && leb rows maxRows) ≡ refusal9 m n batch
   unfolding refusal9
   room-told = not-both (leb rows (length m / 200)) (leb rows maxRows) ∙ sym (rw (past rows (length m / 200), past rows maxRows))

@@ -6,7 +6,7 @@ use layout::locals;
 use turns::adds;
 ghost use mathlib.Core.Path.{_≡_};
 ghost use mathlib.Core.Bool.{true, _&&_};
-ghost use Prim.Native.Nat.{_+_, _*_, _/_, _≤_};
+ghost use Prim.Native.Nat.{ℕ, _+_, _*_, _/_, _≤_};
 ghost use lib.Dec.{leb};
 ghost use lib.ListN.{length};
 ghost use Rattle.layout.specs.Limits.{maxRows};
@@ -29,11 +29,12 @@ fn opening_refusal(year: u64, locals: &[u8]) -> u64
     if locals::is_local_list(locals) { 0 } else { 2 }
 }
 
-// Whether so many rows have a place in the master.
-fn has_place(m: &[u8], rows: usize) -> bool
-    ensures { λ r. ⌜ r ≡ (leb rows (length (now (m .entry)) / 200) && leb rows maxRows) ⌝ }
+// How many rows a master can have, by its space and by the limit.
+fn most_rows(m: &[u8]) -> usize
+    ensures { λ r. ⌜ ((rows : ℕ) → leb rows r ≡ (leb rows (length (now (m .entry)) / 200) && leb rows maxRows)) ⌝ }
 {
-    (rows <= m.len() / 200) & (rows <= MAX_ROWS)
+    let places = m.len() / 200;
+    if places < MAX_ROWS { places } else { MAX_ROWS }
 }
 
 // Refusal 9. The A records are counted first: where all of them have a place, no key is looked up.
@@ -41,10 +42,9 @@ fn lacks_room(m: &[u8], n: usize, batch: &[u8], d: usize) -> bool
     requires { ⌜ (n * 200 ≤ length (now m)) × (areSoundRows (rowsOf n (now m)) ≡ true) × (d ≡ detailCount (now batch)) × (d * 245 ≤ length (now batch)) ⌝ }
     ensures { λ r. ⌜ r ≡ refusal9 (now (m .entry)) n (now (batch .entry)) ⌝ }
 {
-    if has_place(m, n + adds::count_adds(batch, d)) {
-        return false;
-    }
-    !has_place(m, n + adds::count_new(m, n, batch, d))
+    let count = adds::count_adds(batch, d);
+    let most = most_rows(m);
+    !adds::fit(m, n, batch, d, count, most)
 }
 
 // The number of the first of refusals 9, 10 and 11 that holds, or 0.

@@ -1,4 +1,4 @@
--- `adds::is_new`: the search says exactly whether the rows have one of that key, and another type than A never counts. Assumes nothing.
+-- `adds::has_row`: the search says exactly whether the rows have one of that key, and another type than A never counts. Assumes nothing.
 use mathlib.Core.List.{List}
 use mathlib.Core.Path.{sym, subst, _∙_}
 use Prim.Native.Nat.{ℕ, _*_}
@@ -10,9 +10,9 @@ use Rattle.casemaster.specs.Master.{rowsOf}
 use Rattle.casemaster.specs.Search.{IsPlace}
 use Rattle.casemaster.specs.declared.search.Place.{Place}
 use Rattle.layout.specs.Record.{recordKey}
-use Rattle.turns.proofs.NewLaws.{new-other, new-found, new-missing}
-use Rattle.turns.proofs.adds.is_new.Statement.{statement}
-use Rattle.turns.proofs.adds.is_new.Tie as tie
+use Rattle.turns.proofs.NewLaws.{row-other, row-found, row-missing}
+use Rattle.turns.proofs.adds.has_row.Statement.{statement}
+use Rattle.turns.proofs.adds.has_row.Tie as tie
 use Rattle.casemaster.proofs.RowsLaws.{rows-rise}
 
 is-add-requires : tie.Need-is-add-requires
@@ -21,7 +21,7 @@ is-add-requires c κs = c .before .before .pre .2
 returns : tie.Need-returns
 returns c =
     let a = c .before .before .before .before .args in
-    sym (new-other (rowsOf (a .n) (now (a .m))) (take 245 (drop (a .i * 245) (now (a .batch)))) (sym (c .before .is-add .ensures) ∙ not-true _ (c .if1 .taken)))
+    row-other (rowsOf (a .n) (now (a .m))) (take 245 (drop (a .i * 245) (now (a .batch)))) (sym (c .before .is-add .ensures) ∙ not-true _ (c .if1 .taken))
 
 key-at-requires : tie.Need-key-at-requires
 key-at-requires c κs = c .before .before .before .before .pre .2
@@ -46,7 +46,7 @@ returns-2 c =
     let rows = rowsOf (a .n) (now (a .m)) in
     let rec = take 245 (drop (a .i * 245) (now (a .batch))) in
     let p = subst (λ (k : List ℕ). IsPlace (c .before .before .place-of .result) k rows) (c .before .before .before .before .key-at .ensures) (c .before .before .place-of .ensures) in
-    sym (new-found rows rec _ (subst (λ (z : Place). IsPlace z (recordKey rec) rows) (c .enum-told .given .1) p))
+    row-found rows rec (sym (c .before .before .before .before .before .before .is-add .ensures) ∙ not-false _ (c .before .before .before .before .before .if1 .left)) _ (subst (λ (z : Place). IsPlace z (recordKey rec) rows) (c .enum-told .given .1) p)
 
 returns-3 : tie.Need-returns-3
 returns-3 c =
@@ -55,10 +55,10 @@ returns-3 c =
     let rec = take 245 (drop (a .i * 245) (now (a .batch))) in
     let p = subst (λ (k : List ℕ). IsPlace (c .before .before .place-of .result) k rows) (c .before .before .before .before .key-at .ensures) (c .before .before .place-of .ensures) in
     let g = subst (λ (z : Place). IsPlace z (recordKey rec) rows) (c .enum-told2 .given .1) p in
-    sym (new-missing rows rec (sym (c .before .before .before .before .before .before .is-add .ensures) ∙ not-false _ (c .before .before .before .before .before .if1 .left)) (g .missing))
+    row-missing rows rec (sym (c .before .before .before .before .before .before .is-add .ensures) ∙ not-false _ (c .before .before .before .before .before .if1 .left)) (g .missing)
 
-pub is-new-spec : {M : Type 1} → statement M
-is-new-spec =
+pub has-row-spec : {M : Type 1} → statement M
+has-row-spec =
     tie.close
     (tie.spec
     is-add-requires
