@@ -1,4 +1,5 @@
 pub mod BalanceLaws
+pub mod HintLaws
 pub mod LineLaws
 pub mod PostLaws
 pub mod TurnLaws

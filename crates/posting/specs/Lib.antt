@@ -1,3 +1,4 @@
+pub mod Hints
 pub mod Parts
 pub mod Post
 pub mod Posting

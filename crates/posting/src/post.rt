@@ -1,18 +1,24 @@
 // Posting the lines of a collection file to the rows of a master, in place.
+use crate::hints;
 use crate::turn;
 use casemaster::master;
+use casemaster::master::ROW_WIDTH;
 use casemaster::refusals;
 use casemaster::search;
 use casemaster::search::Place;
 use collections::file;
 use collections::line;
 use collections::line::LINE_WIDTH;
+use text::fields;
 ghost use mathlib.Core.Path.{_≡_};
 ghost use mathlib.Core.Bool.{true, cond};
+ghost use mathlib.Core.Option.{some};
 ghost use Prim.Native.Nat.{_+_, _*_, _≤_, _<_};
 ghost use lib.ListN.{length, take, drop, set};
 ghost use Rattle.casemaster.specs.Master.{rowsOf, areSoundRows};
 ghost use Rattle.casemaster.specs.Row.{isSoundRow};
+ghost use Rattle.casemaster.specs.Rows.{placeWith};
+ghost use Rattle.collections.specs.Line.{lineKey};
 ghost use Rattle.posting.specs.Post.{postCall, postedAs, postOutcome};
 ghost use Rattle.posting.specs.Parts.{IsPut, LineDone, Worked};
 
@@ -49,6 +55,31 @@ fn post_line(m: &mut [u8], n: usize, line: &[u8]) -> bool
     }
 }
 
+// Whether the row under a line's key is at place p, which may be any.
+fn is_place_of(m: &[u8], n: usize, line: &[u8], p: usize) -> bool
+    requires { ⌜ (n * 200 ≤ length (now m)) × (areSoundRows (rowsOf n (now m)) ≡ true) × (length (now line) ≡ 240) ⌝ }
+    ensures { λ r. ⌜ (r ≡ true → placeWith (lineKey (now (line .entry))) (rowsOf n (now (m .entry))) ≡ some p) ⌝ }
+{
+    if n <= p {
+        return false;
+    }
+    let key = line::line_key(line);
+    let at = p * ROW_WIDTH;
+    let end = at + 12;
+    fields::same(&m[at..end], &key)
+}
+
+// The first n rows through a line: at place p, if the row under its key is there.
+fn post_near(m: &mut [u8], n: usize, line: &[u8], p: usize) -> bool
+    requires { ⌜ (n * 200 ≤ length (now m)) × (areSoundRows (rowsOf n (now m)) ≡ true) × (length (now line) ≡ 240) ⌝ }
+    ensures { λ r. ⌜ LineDone (now (m .entry)) n (now (line .entry)) (now (m .exit)) r ⌝ }
+{
+    if is_place_of(m, n, line, p) {
+        return post_at(m, p, line);
+    }
+    post_line(m, n, line)
+}
+
 // Writes the number of the line at place i behind k others, unless it is posted.
 fn note(lines: &mut [u16], k: usize, i: usize, posted: bool) -> usize
     requires { ⌜ (k < length (now lines)) × (i < 65535) ⌝ }
@@ -66,12 +97,15 @@ fn work(m: &mut [u8], n: usize, file: &[u8], count: usize, lines: &mut [u16]) ->
     requires { ⌜ (n * 200 ≤ length (now m)) × (areSoundRows (rowsOf n (now m)) ≡ true) × (count * 240 ≤ length (now file)) × (count < 65536) × (count ≤ length (now lines)) ⌝ }
     ensures { λ r. ⌜ Worked (now (m .entry)) n (now (file .entry)) count (now (lines .entry)) (now (m .exit)) (now (lines .exit)) r ⌝ }
 {
+    let mut hints = [0usize; 16];
     let mut k: usize = 0;
     let mut i: usize = 0;
     while i < count {
+        hints::renew(&mut hints, m, n, file, i, count);
+        let p = hints::hint_for(&hints, i);
         let at = i * LINE_WIDTH;
         let end = at + LINE_WIDTH;
-        let posted = post_line(m, n, &file[at..end]);
+        let posted = post_near(m, n, &file[at..end], p);
         k = note(lines, k, i, posted);
         i += 1;
     }
