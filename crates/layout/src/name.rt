@@ -3,8 +3,7 @@ use text::characters;
 use text::fields;
 ghost use mathlib.Core.Path.{_≡_};
 ghost use mathlib.Core.Bool.{_&&_};
-ghost use lib.ListN.{length, getD};
-ghost use Rattle.text.specs.Characters.{isLetter};
+ghost use lib.ListN.{length};
 ghost use Rattle.layout.specs.Name.{isNameByte, isName, hasLetter};
 
 // Whether a byte is a letter or a hyphen.
@@ -14,17 +13,32 @@ pub fn is_name_byte(b: u8) -> bool
     characters::is_letter(b) | (b == 0x60)
 }
 
-// Whether four bytes are letters, as those of most names are.
-fn are_four_letters(s: &[u8]) -> bool
+// Whether four bytes are one or more letters or hyphens with only spaces behind. No branch: names of less than four letters come between
+// others in no order.
+fn is_four_name(s: &[u8]) -> bool
     requires { ⌜ length (now s) ≡ 4 ⌝ }
-    ensures { λ r. ⌜ r ≡ (isLetter (getD (now (s .entry)) 0 0) && isLetter (getD (now (s .entry)) 1 0)
-        && isLetter (getD (now (s .entry)) 2 0) && isLetter (getD (now (s .entry)) 3 0)) ⌝ }
+    ensures { λ r. ⌜ r ≡ isName (now (s .entry)) ⌝ }
+{
+    let a = is_name_byte(s[0]);
+    let b = is_name_byte(s[1]);
+    let c = is_name_byte(s[2]);
+    let d = is_name_byte(s[3]);
+    let last_blank = s[3] == 0x40;
+    let two_blank = (s[2] == 0x40) & last_blank;
+    let three_blank = (s[1] == 0x40) & two_blank;
+    a & ((b & ((c & (d | last_blank)) | two_blank)) | three_blank)
+}
+
+// Whether one of four bytes is a letter, with no branch either.
+fn has_letter_in_four(s: &[u8]) -> bool
+    requires { ⌜ length (now s) ≡ 4 ⌝ }
+    ensures { λ r. ⌜ r ≡ hasLetter (now (s .entry)) ⌝ }
 {
     let a = characters::is_letter(s[0]);
     let b = characters::is_letter(s[1]);
     let c = characters::is_letter(s[2]);
     let d = characters::is_letter(s[3]);
-    a & b & c & d
+    a | (b | (c | d))
 }
 
 // Whether s is one or more letters or hyphens with only spaces behind, byte by byte.
@@ -47,17 +61,14 @@ fn is_name_by_byte(s: &[u8]) -> bool
     true
 }
 
-// The same; four letters are seen at once.
+// The same; four bytes are seen at once.
 pub fn is_name(s: &[u8]) -> bool
     ensures { λ r. ⌜ r ≡ isName (now (s .entry)) ⌝ }
 {
     if s.len() != 4 {
         return is_name_by_byte(s);
     }
-    if are_four_letters(s) {
-        return true;
-    }
-    is_name_by_byte(s)
+    is_four_name(s)
 }
 
 // Whether four bytes are a name with a letter.
@@ -65,10 +76,7 @@ pub fn is_lettered_name(s: &[u8]) -> bool
     requires { ⌜ length (now s) ≡ 4 ⌝ }
     ensures { λ r. ⌜ r ≡ (isName (now (s .entry)) && hasLetter (now (s .entry))) ⌝ }
 {
-    if are_four_letters(s) {
-        return true;
-    }
-    is_name_by_byte(s) & has_letter(s)
+    is_four_name(s) & has_letter_in_four(s)
 }
 
 // Whether some byte of s is a letter.

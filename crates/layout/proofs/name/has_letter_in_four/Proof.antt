@@ -1,7 +1,8 @@
--- `name::are_four_letters` meets its contract: each of the four bytes by `is_letter`. Assumes nothing.
+-- `name::has_letter_in_four`: each of the four bytes by `is_letter`. Assumes nothing.
+use Rattle.layout.proofs.NameLaws.{four-letter}
 use borrow.Author.Needs.{needs}
-use Rattle.layout.proofs.name.are_four_letters.Statement.{statement}
-use Rattle.layout.proofs.name.are_four_letters.Tie as tie
+use Rattle.layout.proofs.name.has_letter_in_four.Statement.{statement}
+use Rattle.layout.proofs.name.has_letter_in_four.Tie as tie
 
 shared-slice-read-is-letter : tie.Need-shared-slice-read-is-letter
 shared-slice-read-is-letter c = search needs
@@ -29,15 +30,11 @@ is-letter-requires-4 c κs = search needs
 
 returns : tie.Need-returns
 returns c =
-    rw (
-      c .is-letter4 .ensures,
-      c .before .before .is-letter3 .ensures,
-      c .before .before .before .before .is-letter2 .ensures,
-      c .before .before .before .before .before .before .is-letter .ensures,
-    )
+    rw (c .is-letter4 .ensures, c .before .before .is-letter3 .ensures, c .before .before .before .before .is-letter2 .ensures, c .before .before .before .before .before .before .is-letter .ensures)
+    (four-letter (c .before .before .before .before .before .before .before .before .before .args .s .now) (c .before .before .before .before .before .before .before .before .before .pre))
 
-pub are-four-letters-spec : {M : Type 1} → statement M
-are-four-letters-spec =
+pub has-letter-in-four-spec : {M : Type 1} → statement M
+has-letter-in-four-spec =
     tie.close
     (tie.spec
     shared-slice-read-is-letter
