@@ -77,17 +77,17 @@ told n rows (line ∷ lines) = go (isPostedIn rows line) (told (suc n) (afterLin
 -- ---- a posting carried out
 
 module _ (c : Call) (e : refusalOf c ≡ 0) where
-  master-right : masterRefusal (c .master) (c .rows) 0 ≡ 0
-  master-right = go (eqb (masterRefusal (c .master) (c .rows) 0) 0) refl
+  master-right : masterRefusal (c .limit) (c .master) (c .rows) 0 ≡ 0
+  master-right = go (eqb (masterRefusal (c .limit) (c .master) (c .rows) 0) 0) refl
     where
-      go : (b : Bool) → eqb (masterRefusal (c .master) (c .rows) 0) 0 ≡ b → masterRefusal (c .master) (c .rows) 0 ≡ 0
-      go true h = eqb-true (masterRefusal (c .master) (c .rows) 0) 0 h
+      go : (b : Bool) → eqb (masterRefusal (c .limit) (c .master) (c .rows) 0) 0 ≡ b → masterRefusal (c .limit) (c .master) (c .rows) 0 ≡ 0
+      go true h = eqb-true (masterRefusal (c .limit) (c .master) (c .rows) 0) 0 h
       go false h =
-          let n = eqb-false (masterRefusal (c .master) (c .rows) 0) 0 h in
-          absurd (n (sym (master-refused (c .master) (c .rows) n (fileRefusal (c .file) (length (c .lines)))) ∙ e))
+          let n = eqb-false (masterRefusal (c .limit) (c .master) (c .rows) 0) 0 h in
+          absurd (n (sym (master-refused (c .limit) (c .master) (c .rows) n (fileRefusal (c .limit) (c .file) (length (c .lines)))) ∙ e))
 
   fit-before : Fit (rowsBefore c)
-  fit-before = rows-fit (c .master) (c .rows) master-right
+  fit-before = rows-fit (c .limit) (c .master) (c .rows) master-right
 
   fit-after : Fit (rowsAfter c)
   fit-after = Turns.all-fit (rowsBefore c) (linesIn (c .file)) fit-before

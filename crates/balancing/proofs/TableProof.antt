@@ -5,7 +5,7 @@ use Rattle.text.specs.Characters.{space, isLetter, isDigit}
 use Rattle.text.specs.Fields.{isBlank, isZero, allDigits, areDigits, number, digitField, sameBytes, isOneOf}
 use Rattle.text.specs.Blocks.{blocks, joined, over}
 use Rattle.text.specs.ByteOrder.{orderOf, isLess, belowFirst, rising}
-use Rattle.layout.specs.Limits.{maxRows, maxRecords}
+use Rattle.layout.specs.Limits.{maxRows}
 use Rattle.layout.specs.States.{stateTable, isState}
 use Rattle.layout.specs.Ssn.{wrongSsn}
 use Rattle.layout.specs.Name.{isNameByte, isNameRest, isName, hasLetter}
@@ -28,7 +28,7 @@ unfolding
     isName hasLetter blocks joined over isCaseType isSoundKey orderOf isLess belowFirst rising isLive isDeleted rowWith withRow keysOf balance
     isBalanceZero areFieldsSound isEndSound isSoundRow areSoundRows lineKey isLastDigit isAmount amount amountCents collected adjusted isRight balanceAfter
     isPostedOn withBalance postedRow isPostedIn afterLine afterLines postedLines listedFrom linesUnder balanceGiven keyBalance excess excessesFrom
-    maxRows maxRecords masterRefusal lineCount linesIn lastIn refusal3 refusal4 refusal22 linesAbove isTotal refusal23 refusal24 fileRefusal carriedOut postOutcome
+    maxRows masterRefusal lineCount linesIn lastIn refusal3 refusal4 refusal22 linesAbove isTotal refusal23 refusal24 fileRefusal carriedOut postOutcome
     row lineWith line lastOf last field file
 examples =
     record {

@@ -12,7 +12,6 @@ use Rattle.text.specs.Blocks.{joined, over, spliced}
 use Rattle.casemaster.specs.Master.{rowsOf}
 use Rattle.text.proofs.FieldsLaws.{length-columns}
 use Rattle.text.proofs.BlocksLaws.{length-blocks, holds-over}
-use Rattle.layout.specs.Limits.{maxRows}
 use Rattle.reporting.specs.Rejects.{numbers, rejectRecords}
 use Rattle.reporting.specs.Counts.{Counts, countsOf, controlRecord}
 use Rattle.reporting.specs.Tally.{countsIn}
@@ -61,21 +60,21 @@ least-right a b k l = go (leb k b) refl
     go true e = sym (rw (le-leb k a (omega (arith, leb-true k b e))))
     go false e = sym (and-false (leb k a))
 
-module _ (m : List ℕ) (n : ℕ) (batch : List ℕ) where
+module _ (limit : ℕ) (m : List ℕ) (n : ℕ) (batch : List ℕ) where
   abbrev rows : ℕ
   rows = n + addsWithoutRow (rowsOf n m) (detailsOf batch)
 
   -- refusal 9 holds where they have no place
-  pub room-told : not (leb rows (length m / 200) && leb rows maxRows) ≡ refusal9 m n batch
+  pub room-told : not (leb rows (length m / 200) && leb rows limit) ≡ refusal9 limit m n batch
   unfolding refusal9
-  room-told = not-both (leb rows (length m / 200)) (leb rows maxRows) ∙ sym (rw (past rows (length m / 200), past rows maxRows))
+  room-told = not-both (leb rows (length m / 200)) (leb rows limit) ∙ sym (rw (past rows (length m / 200), past rows limit))
 
 module _ (c : Call) where
-  pub space-9 : refusal9 (c .master) (c .rows) (c .batch) ≡ true → 9 ≡ spaceRefusal c
+  pub space-9 : refusal9 (c .limit) (c .master) (c .rows) (c .batch) ≡ true → 9 ≡ spaceRefusal c
   unfolding spaceRefusal
   space-9 e = sym (rw e)
 
-  module _ (r : refusal9 (c .master) (c .rows) (c .batch) ≡ false) where
+  module _ (r : refusal9 (c .limit) (c .master) (c .rows) (c .batch) ≡ false) where
     pub space-10 : length (c .verdicts) < detailCount (c .batch) → 10 ≡ spaceRefusal c
     unfolding spaceRefusal refusal10
     space-10 l = sym (rw (r, lt-ltb _ _ l))
@@ -97,23 +96,23 @@ opening false true behind = refl
 opening false false behind = refl
 
 module _ (c : Call) (o : ℕ) (eo : o ≡ orElse (refusal1 (c .year)) 1 (orElse (refusal2 (c .locals)) 2 0)) where
-  behind-opening : applyRefusal c ≡ cond (eqb o 0) (masterRefusal (c .master) (c .rows) (batchRefusal (c .batch) (spaceRefusal c))) o
+  behind-opening : applyRefusal c ≡ cond (eqb o 0) (masterRefusal (c .limit) (c .master) (c .rows) (batchRefusal (c .limit) (c .batch) (spaceRefusal c))) o
   unfolding applyRefusal
   behind-opening = opening (refusal1 (c .year)) (refusal2 (c .locals)) _ ∙ rw (← eo)
 
   pub first-opening : (o ≡ 0 → ⊥) → o ≡ applyRefusal c
   first-opening n = sym (behind-opening ∙ rw (ne-eqb o 0 n))
 
-  module _ (zo : o ≡ 0) (m : ℕ) (em : m ≡ masterRefusal (c .master) (c .rows) 0) where
-    past-opening : applyRefusal c ≡ masterRefusal (c .master) (c .rows) (batchRefusal (c .batch) (spaceRefusal c))
+  module _ (zo : o ≡ 0) (m : ℕ) (em : m ≡ masterRefusal (c .limit) (c .master) (c .rows) 0) where
+    past-opening : applyRefusal c ≡ masterRefusal (c .limit) (c .master) (c .rows) (batchRefusal (c .limit) (c .batch) (spaceRefusal c))
     past-opening = behind-opening ∙ rw (eq-eqb o 0 zo)
 
     pub first-master : (m ≡ 0 → ⊥) → m ≡ applyRefusal c
-    first-master n = sym (past-opening ∙ master-refused (c .master) (c .rows) (λ z. n (em ∙ z)) (batchRefusal (c .batch) (spaceRefusal c)) ∙ sym em)
+    first-master n = sym (past-opening ∙ master-refused (c .limit) (c .master) (c .rows) (λ z. n (em ∙ z)) (batchRefusal (c .limit) (c .batch) (spaceRefusal c)) ∙ sym em)
 
-    module _ (zm : m ≡ 0) (b : ℕ) (eb : b ≡ batchRefusal (c .batch) 0) where
+    module _ (zm : m ≡ 0) (b : ℕ) (eb : b ≡ batchRefusal (c .limit) (c .batch) 0) where
       past-master : applyRefusal c ≡ cond (eqb b 0) (spaceRefusal c) b
-      past-master = past-opening ∙ master-passed (c .master) (c .rows) (sym em ∙ zm) (batchRefusal (c .batch) (spaceRefusal c)) ∙ batch-behind (c .batch) (spaceRefusal c) ∙ rw (← eb)
+      past-master = past-opening ∙ master-passed (c .limit) (c .master) (c .rows) (sym em ∙ zm) (batchRefusal (c .limit) (c .batch) (spaceRefusal c)) ∙ batch-behind (c .limit) (c .batch) (spaceRefusal c) ∙ rw (← eb)
 
       pub first-batch : (b ≡ 0 → ⊥) → b ≡ applyRefusal c
       first-batch n = sym (past-master ∙ rw (ne-eqb b 0 n))

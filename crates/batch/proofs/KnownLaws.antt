@@ -10,8 +10,6 @@ use borrow.Author.Tests.{ltb-false, eqb-true, not-false}
 use Rattle.casemaster.specs.Master.{rowsOf, areSoundRows}
 use Rattle.layout.specs.Locals.{isLocalList}
 use Rattle.text.proofs.BoolLaws.{or-left, or-right}
-use Rattle.layout.specs.Limits.{maxRows, maxRecords}
-use Rattle.layout.proofs.LimitsLaws.{few-details}
 use Rattle.control.proofs.RefusalsLaws.{KnownBatch}
 use Rattle.batch.proofs.PassedLaws.{Passed, passed}
 use Rattle.casemaster.specs.Refusals.{refusal3, refusal4}
@@ -30,17 +28,16 @@ pub record Known (c : Call) : Type 0 where
   -- 3 and 4
   pub master-whole : length (c .master) % 200 ≡ 0
   pub rows-in : c .rows * 200 ≤ length (c .master)
-  pub rows-limit : c .rows ≤ maxRows
+  pub rows-limit : c .rows ≤ c .limit
   pub sound : areSoundRows (rowsOf (c .rows) (c .master)) ≡ true
   -- 5 to 8, 20 and 21
-  pub batch-passed : KnownBatch (c .batch)
+  pub batch-passed : KnownBatch (c .limit) (c .batch)
   pub batch-whole : length (c .batch) ≡ (detailCount (c .batch) + 1) * 245
   pub batch-in : detailCount (c .batch) * 245 + 245 ≤ length (c .batch)
-  pub batch-limit : detailCount (c .batch) + 1 ≤ maxRecords
-  pub few : detailCount (c .batch) ≤ 2 ^ 24
+  pub batch-limit : detailCount (c .batch) ≤ c .limit
   -- 9 to 11
   pub room : c .rows + addsWithoutRow (rowsOf (c .rows) (c .master)) (detailsOf (c .batch)) ≤ length (c .master) / 200
-  pub room-limit : c .rows + addsWithoutRow (rowsOf (c .rows) (c .master)) (detailsOf (c .batch)) ≤ maxRows
+  pub room-limit : c .rows + addsWithoutRow (rowsOf (c .rows) (c .master)) (detailsOf (c .batch)) ≤ c .limit
   pub slots : detailCount (c .batch) ≤ length (c .verdicts)
   pub space : (detailCount (c .batch) + 1) * 245 ≤ length (c .rejects)
 
@@ -49,7 +46,7 @@ unfolding refusal1 refusal2 refusal3 refusal4 refusal9 refusal10 refusal11
 known c p =
     let n : ℕ = length (c .master) in
     let m : ℕ = c .rows + addsWithoutRow (rowsOf (c .rows) (c .master)) (detailsOf (c .batch)) in
-    let three = or-left (not (eqb (n % 200) 0) || ltb (n / 200) (c .rows)) (ltb maxRows (c .rows)) (p .no3) in
+    let three = or-left (not (eqb (n % 200) 0) || ltb (n / 200) (c .rows)) (ltb (c .limit) (c .rows)) (p .no3) in
     let inside = ltb-false (n / 200) (c .rows) (or-right (not (eqb (n % 200) 0)) (ltb (n / 200) (c .rows)) three) in
     let five = p .batch-passed .whole in
     let eleven = ltb-false (length (c .rejects)) (245 * (detailCount (c .batch) + 1)) (p .no11) in
@@ -59,15 +56,14 @@ known c p =
       list = not-false (isLocalList (c .locals)) (p .no2);
       master-whole = eqb-true (n % 200) 0 (not-false (eqb (n % 200) 0) (or-left (not (eqb (n % 200) 0)) (ltb (n / 200) (c .rows)) three));
       rows-in = omega (arith, inside);
-      rows-limit = ltb-false maxRows (c .rows) (or-right (not (eqb (n % 200) 0) || ltb (n / 200) (c .rows)) (ltb maxRows (c .rows)) (p .no3));
+      rows-limit = ltb-false (c .limit) (c .rows) (or-right (not (eqb (n % 200) 0) || ltb (n / 200) (c .rows)) (ltb (c .limit) (c .rows)) (p .no3));
       sound = not-false (areSoundRows (rowsOf (c .rows) (c .master))) (p .no4);
       batch-passed = p .batch-passed;
       batch-whole = omega (arith, five .one, five .whole);
       batch-in = omega (arith, five .one, five .whole);
       batch-limit = omega (arith, five .one, five .few);
-      few = omega (arith, five .one, five .few, few-details);
-      room = ltb-false (n / 200) m (or-left (ltb (n / 200) m) (ltb maxRows m) (p .no9));
-      room-limit = ltb-false maxRows m (or-right (ltb (n / 200) m) (ltb maxRows m) (p .no9));
+      room = ltb-false (n / 200) m (or-left (ltb (n / 200) m) (ltb (c .limit) m) (p .no9));
+      room-limit = ltb-false (c .limit) m (or-right (ltb (n / 200) m) (ltb (c .limit) m) (p .no9));
       slots = ltb-false (length (c .verdicts)) (detailCount (c .batch)) (p .no10);
       space = omega (arith, eleven);
     }

@@ -10,10 +10,10 @@ use Rattle.batch.specs.Refusals.{refusal1, refusal2, refusal9, refusal10
 pub record Passed (c : Call) : Type 0 where
   pub no1 : refusal1 (c .year) ≡ false
   pub no2 : refusal2 (c .locals) ≡ false
-  pub no3 : refusal3 (c .master) (c .rows) ≡ false
+  pub no3 : refusal3 (c .limit) (c .master) (c .rows) ≡ false
   pub no4 : refusal4 (c .master) (c .rows) ≡ false
-  pub batch-passed : KnownBatch (c .batch)
-  pub no9 : refusal9 (c .master) (c .rows) (c .batch) ≡ false
+  pub batch-passed : KnownBatch (c .limit) (c .batch)
+  pub no9 : refusal9 (c .limit) (c .master) (c .rows) (c .batch) ≡ false
   pub no10 : refusal10 (c .batch) (c .verdicts) ≡ false
   pub no11 : refusal11 (c .batch) (c .rejects) ≡ false
 
@@ -24,7 +24,7 @@ passed c e =
     let p2 = not-first 1 _ _ (p1 .1) in
     let p3 = not-first 2 _ _ (p2 .1) in
     let p4 = not-first 3 _ _ (p3 .1) in
-    let pb = batch-known (c .batch) _ (p4 .1) in
+    let pb = batch-known (c .limit) (c .batch) _ (p4 .1) in
     let p9 = not-first 8 _ _ (pb .1) in
     let p10 = not-first 9 _ _ (p9 .1) in
     let p11 = not-first 10 _ _ (p10 .1) in

@@ -1,6 +1,7 @@
 -- Document 01, "Applying a batch": all that is lent to the call. Assumes nothing.
 use Prim.Native.Nat.{ℕ}
 use mathlib.Core.List.{List}
+use Rattle.layout.specs.Limits.{maxRows}
 use Rattle.layout.specs.Batch.{detailsOf, submittingState}
 use Rattle.turns.specs.Settings.{Settings, settingsOf}
 
@@ -13,8 +14,10 @@ pub record Call : Type 0 where
   pub year : ℕ
   pub verdicts : List ℕ
   pub rejects : List ℕ
+  -- the most rows and details, which refusals 3, 5 and 9 take; nothing else does
+  pub limit : ℕ
 
--- the call, from what is lent
+-- the call, from what is lent, with the limit that the code has
 abbrev pub callOf : List ℕ → ℕ → List ℕ → List ℕ → ℕ → List ℕ → List ℕ → Call
 callOf master rows batch locals year verdicts rejects =
     record {
@@ -25,6 +28,7 @@ callOf master rows batch locals year verdicts rejects =
       year = year;
       verdicts = verdicts;
       rejects = rejects;
+      limit = maxRows;
     }
 
 -- what its judgements go by: the control record's state, the year, the list, and under each key the names that its details give

@@ -5,7 +5,6 @@ use mathlib.Core.List.{List}
 use mathlib.Core.Bool.{Bool, not, _||_}
 use lib.Dec.{ltb}
 use lib.ListN.{length}
-use Rattle.layout.specs.Limits.{maxRows}
 use Rattle.layout.specs.Locals.{isLocalList}
 use Rattle.layout.specs.Batch.{detailCount, detailsOf}
 use Rattle.casemaster.specs.Master.{rowsOf}
@@ -22,11 +21,11 @@ refusal1 year = ltb year 1900 || ltb 9999 year
 unfoldable pub refusal2 : List ℕ → Bool
 refusal2 locals = not (isLocalList locals)
 
--- 9: rows plus A records whose key has no row at entry exceed length ÷ 200 or 65,535
-unfoldable pub refusal9 : List ℕ → ℕ → List ℕ → Bool
-refusal9 master rows batch =
+-- 9: rows plus A records whose key has no row at entry exceed length ÷ 200 or the limit (65,535)
+unfoldable pub refusal9 : ℕ → List ℕ → ℕ → List ℕ → Bool
+refusal9 limit master rows batch =
     ltb (length master / 200) (rows + addsWithoutRow (rowsOf rows master) (detailsOf batch))
-    || ltb maxRows (rows + addsWithoutRow (rowsOf rows master) (detailsOf batch))
+    || ltb limit (rows + addsWithoutRow (rowsOf rows master) (detailsOf batch))
 
 -- 10: verdict list shorter than the details
 unfoldable pub refusal10 : List ℕ → List ℕ → Bool
@@ -39,7 +38,7 @@ refusal11 batch rejects = ltb (length rejects) (245 * (detailCount batch + 1))
 -- the first of 9, 10 and 11 that holds, 0 where none does
 unfoldable pub spaceRefusal : Call → ℕ
 spaceRefusal c =
-    orElse (refusal9 (c .master) (c .rows) (c .batch)) 9
+    orElse (refusal9 (c .limit) (c .master) (c .rows) (c .batch)) 9
     (orElse (refusal10 (c .batch) (c .verdicts)) 10
     (orElse (refusal11 (c .batch) (c .rejects)) 11 0))
 
@@ -48,4 +47,4 @@ unfoldable pub applyRefusal : Call → ℕ
 applyRefusal c =
     orElse (refusal1 (c .year)) 1
     (orElse (refusal2 (c .locals)) 2
-    (masterRefusal (c .master) (c .rows) (batchRefusal (c .batch) (spaceRefusal c))))
+    (masterRefusal (c .limit) (c .master) (c .rows) (batchRefusal (c .limit) (c .batch) (spaceRefusal c))))

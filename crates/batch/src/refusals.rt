@@ -40,7 +40,7 @@ fn most_rows(m: &[u8]) -> usize
 // Refusal 9. The A records are counted first: where all of them have a place, no key is looked up.
 fn lacks_room(m: &[u8], n: usize, batch: &[u8], d: usize) -> bool
     requires { ⌜ (n * 200 ≤ length (now m)) × (areSoundRows (rowsOf n (now m)) ≡ true) × (d ≡ detailCount (now batch)) × (d * 245 ≤ length (now batch)) ⌝ }
-    ensures { λ r. ⌜ r ≡ refusal9 (now (m .entry)) n (now (batch .entry)) ⌝ }
+    ensures { λ r. ⌜ r ≡ refusal9 maxRows (now (m .entry)) n (now (batch .entry)) ⌝ }
 {
     let count = adds::count_adds(batch, d);
     let most = most_rows(m);

@@ -13,19 +13,19 @@ use Rattle.layout.specs.Limits.{maxRows}
 use Rattle.casemaster.specs.Master.{rowsOf, areSoundRows, areSoundOldRows}
 use Rattle.casemaster.specs.Refusals.{refusal3, refusal4, orElse, masterRefusal, oldMasterRefusal}
 
-module _ (master : List ℕ) (rows : ℕ) where
-  pub master-passed : masterRefusal master rows 0 ≡ 0 → (behind : ℕ) → masterRefusal master rows behind ≡ behind
+module _ (limit : ℕ) (master : List ℕ) (rows : ℕ) where
+  pub master-passed : masterRefusal limit master rows 0 ≡ 0 → (behind : ℕ) → masterRefusal limit master rows behind ≡ behind
   unfolding masterRefusal
-  master-passed e behind = go (refusal3 master rows) (refusal4 master rows) e
+  master-passed e behind = go (refusal3 limit master rows) (refusal4 master rows) e
     where
       go : (a b : Bool) → orElse a 3 (orElse b 4 0) ≡ 0 → orElse a 3 (orElse b 4 behind) ≡ behind
       go true b e = absurd (omega arith)
       go false true e = absurd (omega arith)
       go false false e = refl
 
-  pub master-refused : (masterRefusal master rows 0 ≡ 0 → ⊥) → (behind : ℕ) → masterRefusal master rows behind ≡ masterRefusal master rows 0
+  pub master-refused : (masterRefusal limit master rows 0 ≡ 0 → ⊥) → (behind : ℕ) → masterRefusal limit master rows behind ≡ masterRefusal limit master rows 0
   unfolding masterRefusal
-  master-refused h behind = go (refusal3 master rows) (refusal4 master rows) h
+  master-refused h behind = go (refusal3 limit master rows) (refusal4 master rows) h
     where
       go : (a b : Bool) → (orElse a 3 (orElse b 4 0) ≡ 0 → ⊥) → orElse a 3 (orElse b 4 behind) ≡ orElse a 3 (orElse b 4 0)
       go true b h = refl
@@ -33,10 +33,10 @@ module _ (master : List ℕ) (rows : ℕ) where
       go false false h = absurd (h refl)
 
 -- what is known of a master that neither refuses, whatever 4 is over
-module _ (master : List ℕ) (rows : ℕ) (four : Bool) (e : orElse (refusal3 master rows) 3 (orElse four 4 0) ≡ 0) where
+module _ (limit : ℕ) (master : List ℕ) (rows : ℕ) (four : Bool) (e : orElse (refusal3 limit master rows) 3 (orElse four 4 0) ≡ 0) where
   rows-inside : rows ≤ length master / 200
   unfolding refusal3
-  rows-inside = go (not (eqb (length master % 200) 0)) (ltb (length master / 200) rows) refl (ltb maxRows rows) four e
+  rows-inside = go (not (eqb (length master % 200) 0)) (ltb (length master / 200) rows) refl (ltb limit rows) four e
     where
       go : (a b : Bool) → ltb (length master / 200) rows ≡ b → (c d : Bool) → orElse (a || b || c) 3 (orElse d 4 0) ≡ 0
           → rows ≤ length master / 200
@@ -45,27 +45,39 @@ module _ (master : List ℕ) (rows : ℕ) (four : Bool) (e : orElse (refusal3 ma
       go false true t c d e = absurd (omega arith)
 
   not-four : four ≡ false
-  not-four = go (refusal3 master rows) four e
+  not-four = go (refusal3 limit master rows) four e
     where
       go : (a b : Bool) → orElse a 3 (orElse b 4 0) ≡ 0 → b ≡ false
       go true b e = absurd (suc-ne-zero 2 e)
       go false true e = absurd (suc-ne-zero 3 e)
       go false false e = refl
 
-module _ (master : List ℕ) (rows : ℕ) where
+module _ (limit : ℕ) (master : List ℕ) (rows : ℕ) where
   -- the rows lie inside the master, whatever the limit, and are sound
-  pub master-rows : masterRefusal master rows 0 ≡ 0 → rows ≤ length master / 200
+  pub master-rows : masterRefusal limit master rows 0 ≡ 0 → rows ≤ length master / 200
   unfolding masterRefusal
-  master-rows e = rows-inside master rows (refusal4 master rows) e
+  master-rows e = rows-inside limit master rows (refusal4 master rows) e
 
-  pub master-sound : masterRefusal master rows 0 ≡ 0 → areSoundRows (rowsOf rows master) ≡ true
+  -- and are no more than the limit
+  pub master-limit : masterRefusal limit master rows 0 ≡ 0 → rows ≤ limit
+  unfolding masterRefusal refusal3
+  master-limit e =
+      go (not (eqb (length master % 200) 0) || ltb (length master / 200) rows) (ltb limit rows) refl (refusal4 master rows) e
+    where
+      go : (a b : Bool) → ltb limit rows ≡ b → (c : Bool) → orElse (a || b) 3 (orElse c 4 0) ≡ 0 → rows ≤ limit
+      go a false t c e = ltb-false limit rows t
+      go true true t c e = absurd (omega arith)
+      go false true t c e = absurd (omega arith)
+
+  pub master-sound : masterRefusal limit master rows 0 ≡ 0 → areSoundRows (rowsOf rows master) ≡ true
   unfolding masterRefusal refusal4
-  master-sound e = not-false (areSoundRows (rowsOf rows master)) (not-four master rows (not (areSoundRows (rowsOf rows master))) e)
+  master-sound e = not-false (areSoundRows (rowsOf rows master)) (not-four limit master rows (not (areSoundRows (rowsOf rows master))) e)
 
+module _ (master : List ℕ) (rows : ℕ) where
   pub old-master-rows : oldMasterRefusal master rows ≡ 0 → rows ≤ length master / 200
   unfolding oldMasterRefusal
-  old-master-rows e = rows-inside master rows (not (areSoundOldRows (rowsOf rows master))) e
+  old-master-rows e = rows-inside maxRows master rows (not (areSoundOldRows (rowsOf rows master))) e
 
   pub old-master-sound : oldMasterRefusal master rows ≡ 0 → areSoundOldRows (rowsOf rows master) ≡ true
   unfolding oldMasterRefusal
-  old-master-sound e = not-false (areSoundOldRows (rowsOf rows master)) (not-four master rows (not (areSoundOldRows (rowsOf rows master))) e)
+  old-master-sound e = not-false (areSoundOldRows (rowsOf rows master)) (not-four maxRows master rows (not (areSoundOldRows (rowsOf rows master))) e)

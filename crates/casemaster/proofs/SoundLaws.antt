@@ -2,7 +2,7 @@
 -- status, cents and filler, and rows that agree on these are equally sound; so is what is written into a row, read field by field.
 -- Assumes nothing.
 use Prim.Native.Nat.{ℕ, _+_, _≤_}
-use mathlib.Core.Path.{_≡_, sym, ap, _∙_}
+use mathlib.Core.Path.{_≡_, refl, sym, ap, _∙_}
 use mathlib.Core.List.{List}
 use mathlib.Core.Bool.{Bool, true, cond, _&&_}
 use lib.Dec.{eqb, lit≤}
@@ -12,6 +12,8 @@ use Rattle.text.specs.Fields.{columns, isBlank, isZero, allDigits}
 use Rattle.layout.specs.Name.{isName, hasLetter}
 use Rattle.layout.specs.Key.{isSoundKey}
 use Rattle.casemaster.specs.Row.{isBalanceZero, isLive, isDeleted, isDeletedAt, areFieldsSound, isEndSound, isSoundRow}
+use Rattle.casemaster.specs.Forms.{isSoundIn}
+use Rattle.casemaster.specs.declared.row.Form.the-variants.{New}
 use Rattle.text.proofs.FieldsLaws.{and-left, and-right}
 use Rattle.text.proofs.BoolLaws.{and-both}
 use Rattle.layout.proofs.LocalsLaws.{every-append}
@@ -160,3 +162,8 @@ module _ (ps : List Put) (s : List ℕ) (f : AllFit 200 ps) (e : length s ≡ 20
       (same-sound (columnsOf (written ps s)) (columnsOf s)
       (same-by (columnsOf (written ps s)) (columnsOf s) (λ a z. isFree a z ps)
       (λ a z l o t. columns-free 200 a z l o ps s t f e) c) h)
+
+-- the row's test over the form with cents
+pub sound-new : (row : List ℕ) → isSoundIn New row ≡ isSoundRow row
+unfolding isSoundIn isSoundRow
+sound-new row = refl

@@ -3,6 +3,7 @@
 use Prim.Native.Nat.{ℕ}
 use mathlib.Core.List.{List}
 use mathlib.Core.Bool.{Bool, not, _&&_}
+use Rattle.layout.specs.Limits.{maxRows}
 use Rattle.layout.specs.Key.{isSoundKey}
 use Rattle.casemaster.specs.Row.{rowKey, areFieldsSound, isEndSound, isOldEndSound}
 use Rattle.casemaster.specs.Master.{rowsOf, areSoundBy}
@@ -21,4 +22,4 @@ unfoldable pub areSoundIn : Form → List (List ℕ) → Bool
 areSoundIn form rows = areSoundBy (isSoundIn form) rows
 
 unfoldable pub refusalIn : Form → List ℕ → ℕ → ℕ
-refusalIn form master rows = orElse (refusal3 master rows) 3 (orElse (not (areSoundIn form (rowsOf rows master))) 4 0)
+refusalIn form master rows = orElse (refusal3 maxRows master rows) 3 (orElse (not (areSoundIn form (rowsOf rows master))) 4 0)

@@ -1,7 +1,7 @@
 -- Document 01, "A case's row" and "Applying a batch": a master is rows and a kept tail. Assumes nothing.
 use Prim.Native.Nat.{ℕ}
-use mathlib.Core.List.{List, map}
-use mathlib.Core.Bool.{Bool, _&&_}
+use mathlib.Core.List.{List, [], _∷_, _++_, map}
+use mathlib.Core.Bool.{Bool, cond, _&&_}
 use Rattle.text.specs.Blocks.{blocks}
 use Rattle.casemaster.specs.Row.{rowWidth, rowKey, isSoundRow, isSoundOldRow}
 use Rattle.text.specs.ByteOrder.{rising}
@@ -10,6 +10,11 @@ use Rattle.text.specs.Fields.{every}
 -- the first n rows of a master's bytes; what stands behind them are no rows
 abbrev pub rowsOf : ℕ → List ℕ → List (List ℕ)
 rowsOf n master = blocks rowWidth n master
+
+-- those of some rows that pass a test, in their order
+unfoldable pub rowsThat : (List ℕ → Bool) → List (List ℕ) → List (List ℕ)
+rowsThat test [] = []
+rowsThat test (row ∷ rows) = cond (test row) (row ∷ []) [] ++ rowsThat test rows
 
 unfoldable pub keysOf : List (List ℕ) → List (List ℕ)
 keysOf rows = map rowKey rows

@@ -12,18 +12,18 @@ use Rattle.casemaster.specs.Master.{rowsOf, areSoundRows, areSoundOldRow
 abbrev pub orElse : Bool → ℕ → ℕ → ℕ
 orElse holds refusal behind = cond holds refusal behind
 
--- 3: master length no multiple of 200, or row count above length ÷ 200 or 65,535
-unfoldable pub refusal3 : List ℕ → ℕ → Bool
-refusal3 master rows = not (eqb (length master % 200) 0) || ltb (length master / 200) rows || ltb maxRows rows
+-- 3: master length no multiple of 200, or row count above length ÷ 200 or the limit (65,535)
+unfoldable pub refusal3 : ℕ → List ℕ → ℕ → Bool
+refusal3 limit master rows = not (eqb (length master % 200) 0) || ltb (length master / 200) rows || ltb limit rows
 
 -- 4: an unsound row or order
 unfoldable pub refusal4 : List ℕ → ℕ → Bool
 refusal4 master rows = not (areSoundRows (rowsOf rows master))
 
 -- the first of 3 and 4 that holds, else what comes behind
-unfoldable pub masterRefusal : List ℕ → ℕ → ℕ → ℕ
-masterRefusal master rows behind = orElse (refusal3 master rows) 3 (orElse (refusal4 master rows) 4 behind)
+unfoldable pub masterRefusal : ℕ → List ℕ → ℕ → ℕ → ℕ
+masterRefusal limit master rows behind = orElse (refusal3 limit master rows) 3 (orElse (refusal4 master rows) 4 behind)
 
 -- over rows without cents
 unfoldable pub oldMasterRefusal : List ℕ → ℕ → ℕ
-oldMasterRefusal master rows = orElse (refusal3 master rows) 3 (orElse (not (areSoundOldRows (rowsOf rows master))) 4 0)
+oldMasterRefusal master rows = orElse (refusal3 maxRows master rows) 3 (orElse (not (areSoundOldRows (rowsOf rows master))) 4 0)

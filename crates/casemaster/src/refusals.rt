@@ -3,6 +3,7 @@ use crate::master;
 use crate::row::Form;
 use layout::limits::MAX_ROWS;
 ghost use mathlib.Core.Path.{_≡_};
+ghost use Rattle.layout.specs.Limits.{maxRows};
 ghost use Rattle.casemaster.specs.Refusals.{masterRefusal, oldMasterRefusal};
 ghost use Rattle.casemaster.specs.Forms.{refusalIn};
 
@@ -28,7 +29,7 @@ fn refusal_in(master: &[u8], rows: usize, form: Form) -> u64
 
 // Over rows with cents.
 pub fn master_refusal(master: &[u8], rows: usize) -> u64
-    ensures { λ r. ⌜ r ≡ masterRefusal (now (master .entry)) rows 0 ⌝ }
+    ensures { λ r. ⌜ r ≡ masterRefusal maxRows (now (master .entry)) rows 0 ⌝ }
 {
     refusal_in(master, rows, Form::New)
 }

@@ -10,7 +10,6 @@ use lib.ListN.{length, take, drop, length-take, length-drop}
 use Rattle.text.specs.Fields.{columns, sameBytes}
 use Rattle.text.specs.Blocks.{blocks}
 use Rattle.text.proofs.FieldsLaws.{length-columns}
-use Rattle.layout.specs.Limits.{maxRecords}
 use Rattle.casemaster.specs.Refusals.{orElse}
 use Rattle.collections.specs.Line.{collected, adjusted}
 use Rattle.collections.specs.File.{lineCount, linesIn, lastIn, refusal22, totalText, linesAbove, isTotal, refusal23, refusal24, fileRefusal}
@@ -46,25 +45,25 @@ refusal-23 file =
 
 -- ---- 22 and 24
 
-module _ (file : List ℕ) (room : ℕ) (e : fileRefusal file room ≡ 0) where
-  passed-22 : refusal22 file ≡ false
+module _ (limit : ℕ) (file : List ℕ) (room : ℕ) (e : fileRefusal limit file room ≡ 0) where
+  passed-22 : refusal22 limit file ≡ false
   unfolding fileRefusal
-  passed-22 = go (refusal22 file) (refusal23 file) (refusal24 file room) e
+  passed-22 = go (refusal22 limit file) (refusal23 file) (refusal24 file room) e
     where
       go : (a b c : Bool) → orElse a 22 (orElse b 23 (orElse c 24 0)) ≡ 0 → a ≡ false
       go true b c e = absurd (omega arith)
       go false b c e = refl
 
   -- a last record, and no more records than the limit
-  pub file-whole : (1 ≤ length file / 240) × (length file / 240 ≤ maxRecords)
+  pub file-whole : (1 ≤ length file / 240) × (length file / 240 ≤ limit + 1)
   unfolding refusal22
   file-whole =
-      go (eqb (length file) 0) refl (eqb (length file % 240) 0) refl (ltb maxRecords (length file / 240)) refl passed-22
+      go (eqb (length file) 0) refl (eqb (length file % 240) 0) refl (ltb (limit + 1) (length file / 240)) refl passed-22
     where
       go : (a : Bool) → eqb (length file) 0 ≡ a → (b : Bool) → eqb (length file % 240) 0 ≡ b → (d : Bool)
-          → ltb maxRecords (length file / 240) ≡ d → (a || not b || d) ≡ false → (1 ≤ length file / 240) × (length file / 240 ≤ maxRecords)
+          → ltb (limit + 1) (length file / 240) ≡ d → (a || not b || d) ≡ false → (1 ≤ length file / 240) × (length file / 240 ≤ limit + 1)
       go false f true g false h z =
-          (omega (arith, eqb-false (length file) 0 f, eqb-true (length file % 240) 0 g), ltb-false maxRecords (length file / 240) h)
+          (omega (arith, eqb-false (length file) 0 f, eqb-true (length file % 240) 0 g), ltb-false (limit + 1) (length file / 240) h)
       go true f b g d h z = let w : _≡_ {A = ℕ} 0 1 = cc in absurd (omega arith)
       go false f false g d h z = let w : _≡_ {A = ℕ} 0 1 = cc in absurd (omega arith)
       go false f true g true h z = let w : _≡_ {A = ℕ} 0 1 = cc in absurd (omega arith)
@@ -72,7 +71,7 @@ module _ (file : List ℕ) (room : ℕ) (e : fileRefusal file room ≡ 0) where
   -- the list has space for them
   pub file-room : length file / 240 - 1 ≤ room
   unfolding fileRefusal refusal24 lineCount
-  file-room = go (refusal22 file) (refusal23 file) (ltb room (length file / 240 - 1)) refl e
+  file-room = go (refusal22 limit file) (refusal23 file) (ltb room (length file / 240 - 1)) refl e
     where
       go : (a b c : Bool) → ltb room (length file / 240 - 1) ≡ c → orElse a 22 (orElse b 23 (orElse c 24 0)) ≡ 0 → length file / 240 - 1 ≤ room
       go a b false t e = ltb-false room (length file / 240 - 1) t

@@ -7,7 +7,6 @@ use lib.ListN.{length, take, drop}
 use Rattle.text.specs.Characters.{space, A, L, O, T}
 use Rattle.text.specs.Fields.{areDigits, number, sameBytes}
 use Rattle.text.specs.Blocks.{blocks}
-use Rattle.layout.specs.Limits.{maxRecords}
 use Rattle.casemaster.specs.Refusals.{orElse}
 use Rattle.collections.specs.Chart04.{lineWidth}
 use Rattle.collections.specs.Chart05.{lastControl, lastAdjustments, lastCollections}
@@ -26,9 +25,9 @@ lastIn file = take lineWidth (drop (lineCount file * lineWidth) file)
 
 -- ---- refused, in order
 
--- 22: a file empty, no multiple of 240 or over 65,536 records
-unfoldable pub refusal22 : List ℕ → Bool
-refusal22 file = eqb (length file) 0 || not (eqb (length file % lineWidth) 0) || ltb maxRecords (length file / lineWidth)
+-- 22: a file empty, no multiple of 240 or over 65,536 records: one more than the limit
+unfoldable pub refusal22 : ℕ → List ℕ → Bool
+refusal22 limit file = eqb (length file) 0 || not (eqb (length file % lineWidth) 0) || ltb (limit + 1) (length file / lineWidth)
 
 -- TOTAL and four spaces
 abbrev pub totalText : List ℕ
@@ -56,5 +55,5 @@ unfoldable pub refusal24 : List ℕ → ℕ → Bool
 refusal24 file room = ltb room (lineCount file)
 
 -- the first of 22, 23 and 24 that holds, 0 where none does
-unfoldable pub fileRefusal : List ℕ → ℕ → ℕ
-fileRefusal file room = orElse (refusal22 file) 22 (orElse (refusal23 file) 23 (orElse (refusal24 file room) 24 0))
+unfoldable pub fileRefusal : ℕ → List ℕ → ℕ → ℕ
+fileRefusal limit file room = orElse (refusal22 limit file) 22 (orElse (refusal23 file) 23 (orElse (refusal24 file room) 24 0))

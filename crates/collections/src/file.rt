@@ -6,10 +6,11 @@ use layout::limits::MAX_RECORDS;
 use text::fields;
 ghost use mathlib.Core.Path.{_≡_};
 ghost use mathlib.Core.Bool.{cond};
-ghost use Prim.Native.Nat.{_+_, _*_, _≤_, _<_};
+ghost use Prim.Native.Nat.{_+_, _*_, _≤_};
 ghost use lib.Dec.{ltb};
 ghost use lib.ListN.{length};
 ghost use Rattle.text.specs.Blocks.{blocks};
+ghost use Rattle.layout.specs.Limits.{maxRows};
 ghost use Rattle.collections.specs.File.{isTotal, fileRefusal};
 ghost use Rattle.collections.specs.Parts.{AreTotals, isLastRight};
 
@@ -28,7 +29,7 @@ fn one_above(cents: u64) -> u64
 
 // The totals of the first `count` lines.
 fn count_totals(file: &[u8], count: usize) -> Totals
-    requires { ⌜ (count * 240 ≤ length (now file)) × (count < 65536) ⌝ }
+    requires { ⌜ count * 240 ≤ length (now file) ⌝ }
     ensures { λ r. ⌜ AreTotals (blocks 240 count (now (file .entry))) r ⌝ }
 {
     let mut adjustments: u64 = 0;
@@ -61,7 +62,7 @@ fn is_total(field: &[u8], n: u64) -> bool
 
 // Whether the record behind `count` lines is right as the last one.
 fn is_last_right(file: &[u8], count: usize) -> bool
-    requires { ⌜ (count * 240 + 240 ≤ length (now file)) × (count < 65536) ⌝ }
+    requires { ⌜ count * 240 + 240 ≤ length (now file) ⌝ }
     ensures { λ r. ⌜ r ≡ isLastRight count (now (file .entry)) ⌝ }
 {
     let at = count * LINE_WIDTH;
@@ -79,7 +80,7 @@ fn is_last_right(file: &[u8], count: usize) -> bool
 
 // The number of the first of refusals 22, 23 and 24 that holds, or 0; the list has space for `room` numbers.
 pub fn file_refusal(file: &[u8], room: usize) -> u64
-    ensures { λ r. ⌜ r ≡ fileRefusal (now (file .entry)) room ⌝ }
+    ensures { λ r. ⌜ r ≡ fileRefusal maxRows (now (file .entry)) room ⌝ }
 {
     if file.len() == 0 {
         return 22;

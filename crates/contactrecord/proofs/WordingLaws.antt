@@ -10,9 +10,8 @@ use lib.ListN.{length, getD, take, drop, drop-of-length-le}
 use lib.Dec.{eqb}
 use lib.Seq.{drop-cons, take-all, take-append-seam, append-snoc}
 use Rattle.text.specs.Characters.{isDigit, isLetter}
-use Rattle.text.specs.Fields.{sameBytes, isOneOf, isBlank}
-use Rattle.layout.specs.Exclusions.{unlessEmpty}
-use Rattle.layout.proofs.ExclusionsLaws.{part-more}
+use Rattle.text.specs.Fields.{sameBytes, isOneOf, isBlank, unlessEmpty}
+use Rattle.text.proofs.PartsLaws.{part-more}
 use Rattle.text.proofs.SameLaws.{same-lengths, same-self, same-eq}
 use Rattle.contactrecord.specs.Wording.{startsWith, contains, runsFrom, hasRun}
 use Rattle.contactrecord.specs.Contact.{isExtension}

@@ -4,8 +4,7 @@ use mathlib.Core.List.{List, [], _∷_, _++_}
 use mathlib.Core.Bool.{Bool, false, cond, _||_}
 use lib.ListN.{length, take}
 use Rattle.text.specs.Characters.{isLetter}
-use Rattle.text.specs.Fields.{sameBytes, isOneOf}
-use Rattle.layout.specs.Exclusions.{unlessEmpty}
+use Rattle.text.specs.Fields.{sameBytes, isOneOf, unlessEmpty}
 
 -- the text stands at the front
 unfoldable pub startsWith : List ℕ → List ℕ → Bool

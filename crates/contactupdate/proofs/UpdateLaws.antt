@@ -9,9 +9,10 @@ use lib.ListN.{length, replicate, length-replicate}
 use borrow.Author.Tests.{ne-eqb, le-ltb, lt-ltb, ltb-false}
 use Rattle.text.specs.Blocks.{joined, over}
 use Rattle.text.proofs.BoolLaws.{or-right}
+use Rattle.layout.specs.Limits.{maxRows}
 use Rattle.contacttable.specs.Table.{contactsOf, isWrongTable}
 use Rattle.contacttable.proofs.TableLaws.{right-table}
-use Rattle.contactupdate.specs.Update.{faultyFrom, maxContacts, isWrongFile, recordsOf, lacking, refusal19, updateRefusal, updatedAs, newTable, updateOutcome}
+use Rattle.contactupdate.specs.Update.{faultyFrom, isWrongFile, recordsOf, lacking, refusal19, updateRefusal, updatedAs, newTable, updateOutcome}
 use Rattle.contactupdate.specs.Marks.{keysMarked, lackingIn, Flagged}
 use Rattle.contactupdate.specs.Merging.{Passed}
 use Rattle.contactupdate.specs.declared.update.Updated.{Updated}
@@ -26,31 +27,31 @@ table-flagged table count held t e =
     rw e
     (flagged (contactsOf count table) (replicate 54000 0) (right-table table count t .table) (length-replicate {A = ℕ} 54000 0) (zeros-get 54000))
 
-file-few : (file : List ℕ) → isWrongFile file ≡ false → length file / 220 ≤ maxContacts
+file-few : (limit : ℕ) (file : List ℕ) → isWrongFile limit file ≡ false → length file / 220 ≤ limit
 unfolding isWrongFile
-file-few file f =
-    ltb-false maxContacts (length file / 220) (or-right (not (eqb (length file % 220) 0)) (ltb maxContacts (length file / 220)) f)
+file-few limit file f =
+    ltb-false limit (length file / 220) (or-right (not (eqb (length file % 220) 0)) (ltb limit (length file / 220)) f)
 
-module _ (table : List ℕ) (count : ℕ) (file faulty : List ℕ) where
-  outcome-refused : (code : ℕ) → updateRefusal table count file faulty ≡ code → (code ≡ 0 → ⊥)
-      → updatedAs (Refused code) table faulty ≡ updateOutcome table count file faulty
+module _ (limit : ℕ) (table : List ℕ) (count : ℕ) (file faulty : List ℕ) where
+  outcome-refused : (code : ℕ) → updateRefusal limit table count file faulty ≡ code → (code ≡ 0 → ⊥)
+      → updatedAs (Refused code) table faulty ≡ updateOutcome limit table count file faulty
   unfolding updateOutcome
   outcome-refused code e h = rw (e, ne-eqb code 0 h)
 
-  pub outcome-file : isWrongFile file ≡ true → updatedAs (Refused 18) table faulty ≡ updateOutcome table count file faulty
+  pub outcome-file : isWrongFile limit file ≡ true → updatedAs (Refused 18) table faulty ≡ updateOutcome limit table count file faulty
   unfolding updateRefusal
   outcome-file f = outcome-refused 18 (rw f) (λ z. omega arith)
 
-  pub outcome-table : isWrongTable table count ≡ true → updatedAs (Refused 18) table faulty ≡ updateOutcome table count file faulty
+  pub outcome-table : isWrongTable table count ≡ true → updatedAs (Refused 18) table faulty ≡ updateOutcome limit table count file faulty
   unfolding updateRefusal
-  outcome-table t = outcome-refused 18 (rw (t, or-true (isWrongFile file))) (λ z. omega arith)
+  outcome-table t = outcome-refused 18 (rw (t, or-true (isWrongFile limit file))) (λ z. omega arith)
 
-  module _ (f : isWrongFile file ≡ false) (t : isWrongTable table count ≡ false) where
-    outcome-19 : refusal19 table count file faulty ≡ true → updatedAs (Refused 19) table faulty ≡ updateOutcome table count file faulty
+  module _ (f : isWrongFile limit file ≡ false) (t : isWrongTable table count ≡ false) where
+    outcome-19 : refusal19 table count file faulty ≡ true → updatedAs (Refused 19) table faulty ≡ updateOutcome limit table count file faulty
     unfolding updateRefusal
     outcome-19 s = outcome-refused 19 (rw (f, t, s)) (λ z. omega arith)
 
-    pub outcome-list : length faulty < length file / 220 → updatedAs (Refused 19) table faulty ≡ updateOutcome table count file faulty
+    pub outcome-list : length faulty < length file / 220 → updatedAs (Refused 19) table faulty ≡ updateOutcome limit table count file faulty
     unfolding refusal19
     outcome-list h =
         outcome-19
@@ -62,20 +63,20 @@ module _ (table : List ℕ) (count : ℕ) (file faulty : List ℕ) where
       lacks = lacking-is (contactsOf count table) held (right-table table count t .table) g (recordsOf file)
 
       pub outcome-space : length table / 220 - count < lackingIn held (recordsOf file)
-          → updatedAs (Refused 19) table faulty ≡ updateOutcome table count file faulty
+          → updatedAs (Refused 19) table faulty ≡ updateOutcome limit table count file faulty
       unfolding refusal19
       outcome-space h =
           outcome-19
           (rw (lt-ltb (length table / 220) (count + lacking (contactsOf count table) (recordsOf file)) (omega (arith, lacks))))
 
       module _ (s : lackingIn held (recordsOf file) ≤ length table / 220 - count) (l : length file / 220 ≤ length faulty) where
-        pub passed : Passed table count file faulty held
-        passed =
+        pub passed : limit ≡ maxRows → Passed table count file faulty held
+        passed e =
             let r = right-table table count t in
             record {
               table-right = r .table;
               marks = g;
-              few = file-few file f;
+              few = omega (arith, file-few limit file f);
               space = omega (arith, r .few);
               list = l;
             }
@@ -83,7 +84,7 @@ module _ (table : List ℕ) (count : ℕ) (file faulty : List ℕ) where
         pub outcome-done : (r : Updated) (after numbers : List ℕ)
             → r ≡ Done (length (newTable table count file)) (length (faultyFrom 1 (recordsOf file)))
             → after ≡ over (joined (newTable table count file)) table → numbers ≡ over (faultyFrom 1 (recordsOf file)) faulty
-            → updatedAs r after numbers ≡ updateOutcome table count file faulty
+            → updatedAs r after numbers ≡ updateOutcome limit table count file faulty
         unfolding updateOutcome updateRefusal refusal19
         outcome-done r after numbers er ea en =
             let q = right-table table count t .few in

@@ -6,8 +6,9 @@ use mathlib.Core.List.{List, []}
 use mathlib.Core.Bool.{true, cond}
 use lib.ListN.{length, getD, take, drop}
 use lib.Dec.{eqb}
+use Rattle.layout.specs.Limits.{maxRows}
 use Rattle.contacttable.specs.Table.{contactsOf, isTable}
-use Rattle.contactupdate.specs.Update.{recordsOf, maxContacts}
+use Rattle.contactupdate.specs.Update.{recordsOf}
 use Rattle.contactupdate.specs.KeyNumbers.{Held, cell, spread, heldIn}
 use Rattle.contactupdate.specs.Marks.{lackingIn, Flagged}
 use Rattle.contactupdate.specs.Noting.{heldAfter}
@@ -44,6 +45,6 @@ pub record Ready (table : List ℕ) (count total : ℕ) (file held lasts : List 
 pub record Passed (table : List ℕ) (count : ℕ) (file faulty held : List ℕ) : Type 0 where
   pub table-right : isTable (contactsOf count table) ≡ true
   pub marks : Flagged (contactsOf count table) held
-  pub few : length file / 220 ≤ maxContacts
+  pub few : length file / 220 ≤ maxRows
   pub space : (count + lackingIn held (recordsOf file)) * 220 ≤ length table
   pub list : length file / 220 ≤ length faulty

@@ -28,13 +28,9 @@ unfoldable pub faultyFrom : ℕ → List (List ℕ) → List ℕ
 faultyFrom n [] = []
 faultyFrom n (rec ∷ file) = cond (isFaulty rec) (n ∷ faultyFrom (n + 1) file) (faultyFrom (n + 1) file)
 
--- at most 65,535 records in a file
-unfoldable pub maxContacts : ℕ
-maxContacts = 65535
-
--- 18, of a file: a length no multiple of 220, or over 65,535 records
-unfoldable pub isWrongFile : List ℕ → Bool
-isWrongFile file = not (eqb (length file % 220) 0) || ltb maxContacts (length file / 220)
+-- 18, of a file: a length no multiple of 220, or over the limit (65,535) of records
+unfoldable pub isWrongFile : ℕ → List ℕ → Bool
+isWrongFile limit file = not (eqb (length file % 220) 0) || ltb limit (length file / 220)
 
 -- the records of a file
 abbrev pub recordsOf : List ℕ → List (List ℕ)
@@ -51,9 +47,9 @@ refusal19 table count file faulty =
     ltb (length table / 220) (count + lacking (contactsOf count table) (recordsOf file)) || ltb (length faulty) (length file / 220)
 
 -- refused: 18, of the file or the table, then 19
-unfoldable pub updateRefusal : List ℕ → ℕ → List ℕ → List ℕ → ℕ
-updateRefusal table count file faulty =
-    orElse (isWrongFile file || isWrongTable table count) 18 (orElse (refusal19 table count file faulty) 19 0)
+unfoldable pub updateRefusal : ℕ → List ℕ → ℕ → List ℕ → List ℕ → ℕ
+updateRefusal limit table count file faulty =
+    orElse (isWrongFile limit file || isWrongTable table count) 18 (orElse (refusal19 table count file faulty) 19 0)
 
 -- the result is the new table count and the list's, or a refusal's number
 pub data UpdateResult : Type 0 where
@@ -80,12 +76,12 @@ newTable table count file = updated (recordsOf file) (contactsOf count table)
 
 -- the new records and the numbers of the faulty ones, a record's number being its place in the file from 1; bytes behind the records and
 -- numbers behind the list are kept; a refusal leaves both buffers alone
-unfoldable pub updateOutcome : List ℕ → ℕ → List ℕ → List ℕ → UpdateOutcome
-updateOutcome table count file faulty =
-    cond (eqb (updateRefusal table count file faulty) 0)
+unfoldable pub updateOutcome : ℕ → List ℕ → ℕ → List ℕ → List ℕ → UpdateOutcome
+updateOutcome limit table count file faulty =
+    cond (eqb (updateRefusal limit table count file faulty) 0)
     (record {
       result = counts (length (newTable table count file)) (length (faultyFrom 1 (recordsOf file)));
       table = over (joined (newTable table count file)) table;
       faulty = over (faultyFrom 1 (recordsOf file)) faulty;
     })
-    (record { result = refused (updateRefusal table count file faulty); table = table; faulty = faulty })
+    (record { result = refused (updateRefusal limit table count file faulty); table = table; faulty = faulty })

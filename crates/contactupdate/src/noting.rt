@@ -7,6 +7,7 @@ ghost use mathlib.Core.Bool.{cond};
 ghost use Prim.Native.Nat.{_+_, _*_, _≤_, _<_};
 ghost use lib.ListN.{length, set};
 ghost use Rattle.text.specs.Blocks.{over};
+ghost use Rattle.layout.specs.Limits.{maxRows};
 ghost use Rattle.contactrecord.specs.Contact.{isFaulty};
 ghost use Rattle.contacttable.specs.Table.{contactsOf};
 ghost use Rattle.contactupdate.specs.Update.{faultyFrom};
@@ -21,7 +22,7 @@ fn note_record(
     faulty: &mut [u16],
     listed: usize,
 ) -> usize
-    requires { ⌜ (length (now rec) ≡ 220) × (number < 65536) × (length (now lasts) ≡ 54000) × (listed < length (now faulty)) ⌝ }
+    requires { ⌜ (length (now rec) ≡ 220) × (number ≤ maxRows) × (length (now lasts) ≡ 54000) × (listed < length (now faulty)) ⌝ }
     ensures { λ r. ⌜ (r ≡ cond (isFaulty (now (rec .entry))) (listed + 1) listed)
         × (now (lasts .exit) ≡ cond (isFaulty (now (rec .entry))) (now (lasts .entry)) (set (now (lasts .entry)) (keyNumber (now (rec .entry))) number))
         × (now (faulty .exit) ≡ cond (isFaulty (now (rec .entry))) (set (now (faulty .entry)) listed number) (now (faulty .entry))) ⌝ }
@@ -36,7 +37,7 @@ fn note_record(
 
 // Notes the numbers of the last good records of each key, and lists those of the faulty ones; returns how many are listed.
 pub fn note_file(file: &[u8], n: usize, lasts: &mut [u32], faulty: &mut [u16]) -> usize
-    requires { ⌜ (n * 220 ≤ length (now file)) × (n < 65536) × (length (now lasts) ≡ 54000) × (n ≤ length (now faulty)) ⌝ }
+    requires { ⌜ (n * 220 ≤ length (now file)) × (n ≤ maxRows) × (length (now lasts) ≡ 54000) × (n ≤ length (now faulty)) ⌝ }
     ensures { λ r. ⌜ (r ≡ length (faultyFrom 1 (contactsOf n (now (file .entry)))))
         × (now (lasts .exit) ≡ lastsFrom 1 (contactsOf n (now (file .entry))) (now (lasts .entry)))
         × (now (faulty .exit) ≡ over (faultyFrom 1 (contactsOf n (now (file .entry)))) (now (faulty .entry))) ⌝ }

@@ -4,15 +4,14 @@ use crate::merging;
 use crate::noting;
 use contactrecord::chart_a3::CONTACT_WIDTH;
 use contacttable::table;
+use layout::limits::MAX_ROWS;
 ghost use mathlib.Core.Path.{_≡_};
 ghost use lib.ListN.{length};
 ghost use Rattle.text.specs.Blocks.{joined, over};
+ghost use Rattle.layout.specs.Limits.{maxRows};
 ghost use Rattle.contactupdate.specs.Update.{isWrongFile, recordsOf, newTable, faultyFrom, updatedAs, updateOutcome};
 ghost use Rattle.contactupdate.specs.Merging.{Passed};
 ghost use Rattle.contactupdate.specs.declared.update.Updated as Updated;
-
-// At most 65,535 records in a file: their numbers have sixteen bits.
-const MAX_CONTACTS: usize = 65535;
 
 // The answer of the call: the new table count and how many numbers are listed, or the number of the refusal.
 pub enum Updated {
@@ -22,12 +21,12 @@ pub enum Updated {
 
 // Whether refusal 18 holds of a file.
 fn is_wrong_file(file: &[u8]) -> bool
-    ensures { λ r. ⌜ r ≡ isWrongFile (now (file .entry)) ⌝ }
+    ensures { λ r. ⌜ r ≡ isWrongFile maxRows (now (file .entry)) ⌝ }
 {
     if file.len() % CONTACT_WIDTH != 0 {
         return true;
     }
-    MAX_CONTACTS < file.len() / CONTACT_WIDTH
+    MAX_ROWS < file.len() / CONTACT_WIDTH
 }
 
 // Reads the file into a table whose keys are marked.
@@ -47,7 +46,7 @@ fn work(table: &mut [u8], count: usize, file: &[u8], faulty: &mut [u16], held: &
 
 // Reads a file into a table of `count` records and lists the numbers of its faulty ones, or refuses.
 pub fn update(table: &mut [u8], count: usize, file: &[u8], faulty: &mut [u16]) -> Updated
-    ensures { λ r. ⌜ updatedAs r (now (table .exit)) (now (faulty .exit)) ≡ updateOutcome (now (table .entry)) count (now (file .entry)) (now (faulty .entry)) ⌝ }
+    ensures { λ r. ⌜ updatedAs r (now (table .exit)) (now (faulty .exit)) ≡ updateOutcome maxRows (now (table .entry)) count (now (file .entry)) (now (faulty .entry)) ⌝ }
 {
     if is_wrong_file(file) {
         return Updated::Refused(18);

@@ -1,3 +1,4 @@
 pub mod Refusals
 pub mod Totals
 pub mod TotalsParts
+pub mod Stated

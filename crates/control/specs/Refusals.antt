@@ -1,18 +1,17 @@
 -- Document 01, "Applying a batch", refusals 5 to 8, with 20 and 21 of document 02, item 5: those of every call that takes a batch, in
 -- order. Assumes nothing.
-use Prim.Native.Nat.{ℕ, _/_, _%_}
+use Prim.Native.Nat.{ℕ, _+_, _/_, _%_}
 use mathlib.Core.List.{List}
 use mathlib.Core.Bool.{Bool, not, _||_}
 use lib.Dec.{eqb, ltb}
 use lib.ListN.{length}
-use Rattle.layout.specs.Limits.{maxRecords}
 use Rattle.layout.specs.Batch.{detailsOf, controlOf}
 use Rattle.casemaster.specs.Refusals.{orElse}
 use Rattle.control.specs.Totals.{hasCTL, hasState, hasTotals, areCountsRight, areAmountsRight}
 
--- 5: batch empty, no multiple of 245, or over 65,536 records
-unfoldable pub refusal5 : List ℕ → Bool
-refusal5 batch = eqb (length batch) 0 || not (eqb (length batch % 245) 0) || ltb maxRecords (length batch / 245)
+-- 5: batch empty, no multiple of 245, or over 65,536 records: one more than the limit
+unfoldable pub refusal5 : ℕ → List ℕ → Bool
+refusal5 limit batch = eqb (length batch) 0 || not (eqb (length batch % 245) 0) || ltb (limit + 1) (length batch / 245)
 
 -- 6: CTL is missing
 unfoldable pub refusal6 : List ℕ → Bool
@@ -35,9 +34,9 @@ unfoldable pub refusal8 : List ℕ → Bool
 refusal8 batch = not (areAmountsRight (controlOf batch) (detailsOf batch))
 
 -- the first of 5, 6, 20, 21, 7 and 8 that holds, else what comes behind
-unfoldable pub batchRefusal : List ℕ → ℕ → ℕ
-batchRefusal batch behind =
-    orElse (refusal5 batch) 5
+unfoldable pub batchRefusal : ℕ → List ℕ → ℕ → ℕ
+batchRefusal limit batch behind =
+    orElse (refusal5 limit batch) 5
     (orElse (refusal6 batch) 6
     (orElse (refusal20 batch) 20
     (orElse (refusal21 batch) 21

@@ -4,11 +4,12 @@ use layout::limits::MAX_RECORDS;
 use layout::records;
 use layout::records::RECORD_WIDTH;
 ghost use mathlib.Core.Path.{_≡_};
+ghost use Rattle.layout.specs.Limits.{maxRows};
 ghost use Rattle.control.specs.Refusals.{refusal5, batchRefusal};
 
 // Refusal 5: a batch that is empty, no multiple of a record's width, or of too many records.
 fn is_wrong_length(batch: &[u8]) -> bool
-    ensures { λ r. ⌜ r ≡ refusal5 (now (batch .entry)) ⌝ }
+    ensures { λ r. ⌜ r ≡ refusal5 maxRows (now (batch .entry)) ⌝ }
 {
     let n = batch.len();
     (n == 0) | (n % RECORD_WIDTH != 0) | (MAX_RECORDS < n / RECORD_WIDTH)
@@ -16,7 +17,7 @@ fn is_wrong_length(batch: &[u8]) -> bool
 
 // The number of the first of refusals 5, 6, 20, 21, 7 and 8 that holds, or 0.
 pub fn batch_refusal(batch: &[u8]) -> u64
-    ensures { λ r. ⌜ r ≡ batchRefusal (now (batch .entry)) 0 ⌝ }
+    ensures { λ r. ⌜ r ≡ batchRefusal maxRows (now (batch .entry)) 0 ⌝ }
 {
     if is_wrong_length(batch) {
         return 5;

@@ -2,6 +2,7 @@
 use Prim.Native.Nat.{ℕ}
 use mathlib.Core.Path.{_≡_, ap, _∙_, sym}
 use mathlib.Core.List.{List}
+use Rattle.layout.specs.Limits.{maxRows}
 use Rattle.contactupdate.specs.Update.{UpdateOutcome, updatedAs, updateOutcome}
 use Rattle.contactupdate.specs.declared.update.Updated.{Updated}
 use Rattle.contacttable.specs.Codes.{CodesOutcome, codesAs, codesOutcome}
@@ -9,7 +10,7 @@ use Rattle.contacttable.specs.declared.codes.Codes.{Codes}
 use Rattle.fantanolive.specs.ContactsCalls.{updateLeftBy, updateLeft, codesLeftBy, codesLeft}
 
 pub update-left : (table : List ℕ) (count : ℕ) (file faulty table′ faulty′ result : List ℕ) (answer told : Updated)
-    → updatedAs answer table′ faulty′ ≡ updateOutcome table count file faulty → answer ≡ told
+    → updatedAs answer table′ faulty′ ≡ updateOutcome maxRows table count file faulty → answer ≡ told
     → updateLeftBy (updatedAs told table′ faulty′) result ≡ updateLeft table count file faulty result
 unfolding updateLeft
 update-left table count file faulty table′ faulty′ result answer told o e =

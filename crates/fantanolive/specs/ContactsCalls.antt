@@ -2,6 +2,7 @@
 -- outcome of the call beneath it. Assumes nothing.
 use Prim.Native.Nat.{ℕ}
 use mathlib.Core.List.{List, [], _∷_}
+use Rattle.layout.specs.Limits.{maxRows}
 use Rattle.contactupdate.specs.Update as Update
 use Rattle.contactupdate.specs.Update.{UpdateResult, UpdateOutcome, updateOutcome}
 use Rattle.contacttable.specs.Codes as Codes
@@ -30,7 +31,7 @@ updateLeftBy o result =
     record { number = updateNumber (o .result); result = updateResult (o .result) result; table = o .table; faulty = o .faulty }
 
 unfoldable pub updateLeft : List ℕ → ℕ → List ℕ → List ℕ → List ℕ → UpdateLeft
-updateLeft table count file faulty result = updateLeftBy (updateOutcome table count file faulty) result
+updateLeft table count file faulty result = updateLeftBy (updateOutcome maxRows table count file faulty) result
 
 -- ---- fantanolive_contacts_codes
 

@@ -3,7 +3,7 @@
 use Prim.Native.Nat.{ℕ}
 use mathlib.Core.Path.{_≡_, refl}
 use mathlib.Core.Bool.{Bool, true, false, cond, _&&_, _||_}
-use mathlib.Core.List.{List, [], _∷_}
+use mathlib.Core.List.{List, [], _∷_, _++_}
 use Rattle.text.specs.Characters.{B}
 use Rattle.text.specs.Fields.{columns, sameBytes, isOneOf}
 use Rattle.text.proofs.SameLaws.{eq-same}
@@ -43,5 +43,28 @@ module _ (state rec : List ℕ) where
       go : (t : Bool)
           → isOneOf (columns 30 33 rec) (cond t (columns 30 33 first ∷ namesGiven state recs) (namesGiven state recs))
           ≡ (t && sameBytes (columns 30 33 rec) (columns 30 33 first) || isOneOf (columns 30 33 rec) (namesGiven state recs))
+      go true = refl
+      go false = refl
+
+-- ---- the names that some records give
+
+module _ (state : List ℕ) where
+  pub names-none : namesGiven state [] ≡ []
+  unfolding namesGiven
+  names-none = refl
+
+  -- a record that is no B adds none
+  pub names-skip : (rec : List ℕ) (recs : List (List ℕ)) → isType B rec ≡ false → namesGiven state (rec ∷ recs) ≡ namesGiven state recs
+  unfolding namesGiven
+  names-skip rec recs e = rw (other-gives-none state rec e)
+
+  pub names-append : (xs ys : List (List ℕ)) → namesGiven state (xs ++ ys) ≡ namesGiven state xs ++ namesGiven state ys
+  unfolding namesGiven
+  names-append [] ys = refl
+  names-append (x ∷ xs) ys = rw (names-append xs ys) (go (givesName state x))
+    where
+      go : (t : Bool)
+          → cond t (columns 30 33 x ∷ (namesGiven state xs ++ namesGiven state ys)) (namesGiven state xs ++ namesGiven state ys)
+          ≡ cond t (columns 30 33 x ∷ namesGiven state xs) (namesGiven state xs) ++ namesGiven state ys
       go true = refl
       go false = refl

@@ -13,7 +13,7 @@ use Rattle.layout.specs.Name.{isName, hasLetter}
 use Rattle.layout.specs.Zip.{isZip}
 use Rattle.layout.specs.Calendar.{isDate}
 use Rattle.layout.specs.ProcessYear.{inWindow}
-use Rattle.layout.specs.Exclusions.{exclusionsOf}
+use Rattle.exclusionsets.specs.Exclusions.{exclusionsOf}
 use Rattle.layout.specs.Locals.{isListed}
 use Rattle.layout.specs.Key.{isCaseType}
 use Rattle.casemaster.specs.Row.{isLive}

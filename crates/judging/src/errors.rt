@@ -1,9 +1,9 @@
 // A record's errors: a function for each code, and the set of all that hold.
 use casemaster::row;
+use exclusionsets::exclusions;
+use exclusionsets::exclusions::Exclusions;
 use layout::calendar;
 use layout::chart_a1;
-use layout::exclusions;
-use layout::exclusions::Exclusions;
 use layout::key;
 use layout::locals;
 use layout::name;
@@ -20,7 +20,7 @@ ghost use mathlib.Core.Bool.{_&&_};
 ghost use lib.Dec.{ltb};
 ghost use Rattle.text.specs.Characters;
 ghost use Rattle.text.specs.Fields.{columns, areDigits, number};
-ghost use Rattle.layout.specs.Exclusions.{exclusionsOf};
+ghost use Rattle.exclusionsets.specs.Exclusions.{exclusionsOf};
 ghost use Rattle.layout.specs.Record.{isType};
 ghost use Rattle.judging.specs.Errors.{error01, error02, error03, error04, error05, error06, error07, error08, error09, isLocalCode, error10, error11, error12, error13, error14, wrongAddress, wrongPart, error15, isNone, error16, error17, error18};
 ghost use Rattle.judging.specs.Parts.{UnderNames};

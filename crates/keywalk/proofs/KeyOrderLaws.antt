@@ -21,6 +21,7 @@ use Rattle.keyorder.specs.Order.{detailAt, rankOf, rankAt, Before, InKeyOrder}
 use Rattle.turns.specs.Turns.{afterDetail, verdictOn, finalRows, verdictsOn}
 use Rattle.text.proofs.WidthLaws.{All}
 use Rattle.turns.proofs.UnderLaws.{IsRecord, found-final}
+use Rattle.turns.proofs.AppendLaws.{under-append}
 use Rattle.turns.specs.Under.{isUnder, detailsUnder, runRow}
 use Rattle.casemaster.proofs.RowsLaws.{IsWide}
 use Rattle.turns.specs.Settings.{Settings, settingUnder}
@@ -32,17 +33,6 @@ keyAt details i = recordKey (detailAt details i)
 -- ---- the details of a key in a part of the batch
 
 module _ (key : List ℕ) where
-  pub under-append : (xs ys : List (List ℕ)) → detailsUnder key (xs ++ ys) ≡ detailsUnder key xs ++ detailsUnder key ys
-  unfolding detailsUnder
-  under-append [] ys = refl
-  under-append (x ∷ xs) ys = rw (under-append xs ys) (go (isUnder key x))
-    where
-      go : (t : Bool)
-          → cond t (x ∷ (detailsUnder key xs ++ detailsUnder key ys)) (detailsUnder key xs ++ detailsUnder key ys)
-          ≡ cond t (x ∷ detailsUnder key xs) (detailsUnder key xs) ++ detailsUnder key ys
-      go true = refl
-      go false = refl
-
   -- a detail of the key alone
   pub under-one : (x : List ℕ) → recordKey x ≡ key → detailsUnder key (x ∷ []) ≡ x ∷ []
   unfolding detailsUnder
@@ -81,11 +71,11 @@ module _ (key : List ℕ) where
         getD-take m (drop (suc i) details) j [] n ∙ getD-drop (suc i) details j [] in
         h (suc i + j) (omega arith) (omega arith) (sym (ap recordKey g) ∙ e)) in
         ap (detailsUnder key) (take-add (suc i) m details)
-        ∙ under-append (take (suc i) details) part
+        ∙ under-append key (take (suc i) details) part
         ∙ ap (λ (s : List (List ℕ)). detailsUnder key (take (suc i) details) ++ s) between
         ∙ append-nil (detailsUnder key (take (suc i) details))
         ∙ ap (detailsUnder key) (take-suc details i [] (omega arith))
-        ∙ under-append (take i details) (detailAt details i ∷ [])
+        ∙ under-append key (take i details) (detailAt details i ∷ [])
         ∙ ap (λ (s : List (List ℕ)). detailsUnder key (take i details) ++ s) (under-one (detailAt details i) k)
 
 -- ---- the order

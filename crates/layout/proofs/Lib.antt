@@ -1,6 +1,5 @@
 pub mod CalendarLaws
 pub mod CodesLaws
-pub mod ExclusionsLaws
 pub mod KeyLaws
 pub mod KeyNumberLaws
 pub mod KeyWritten

@@ -1,20 +1,29 @@
--- Laws of the most records: the only place that computes with the number. Assumes nothing.
+-- Laws of the limit: the only place that computes with the number. Assumes nothing.
 use mathlib.Core.Path.{_≡_, refl}
-use Prim.Native.Nat.{_^_, _≤_}
+use Prim.Native.Nat.{_+_, _^_, _≤_, _<_}
 use lib.Dec.{lit≤}
-use Rattle.layout.specs.Limits.{maxRecords}
+use Rattle.layout.specs.Limits.{maxRows}
 
--- the code's MAX_RECORDS is the definition's limit
-pub max-records : maxRecords ≡ 65536
-unfolding maxRecords
+-- the code's MAX_ROWS and MAX_RECORDS are the definition's limit and one more
+pub max-rows : maxRows ≡ 65535
+unfolding maxRows
+max-rows = refl
+
+pub max-records : maxRows + 1 ≡ 65536
+unfolding maxRows
 max-records = refl
 
 -- so many records can be counted, and their amounts added up, in 64 bits
-pub few-records : maxRecords ≤ 2 ^ 32
-unfolding maxRecords
+pub few-records : maxRows + 1 ≤ 2 ^ 32
+unfolding maxRows
 few-records = lit≤ tt
 
--- and a detail's index has 24 bits
-pub few-details : maxRecords ≤ 2 ^ 24
-unfolding maxRecords
+-- a detail's index has 24 bits
+pub few-details : maxRows + 1 ≤ 2 ^ 24
+unfolding maxRows
 few-details = lit≤ tt
+
+-- and a number in a list of lines or contact records has 16
+pub list-number : maxRows < 2 ^ 16
+unfolding maxRows
+list-number = lit≤ tt

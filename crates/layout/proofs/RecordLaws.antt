@@ -2,14 +2,16 @@
 use Prim.Native.Nat.{ℕ, _+_, _-_, _≤_}
 use mathlib.Core.Path.{_≡_, refl, ap, _∙_}
 use mathlib.Core.List.{List, [], _++_, append-assoc}
+use mathlib.Core.Bool.{true, _||_}
 use native.Mathlib.Omega.{arith}
-use lib.Dec.{lit≤}
+use lib.Dec.{eqb, lit≤}
 use lib.ListN.{length, getD, length-append}
 use lib.Seq.{getD-append-add}
+use Rattle.text.specs.Characters.{A, B, C, D, L, M, R, S, T, Z}
 use Rattle.text.specs.Fields.{columns}
 use Rattle.text.proofs.FieldsLaws.{length-columns, one-column}
 use Rattle.text.proofs.ColumnsLaws.{columns-between}
-use Rattle.layout.specs.Record.{recordKey, caseTypeOf}
+use Rattle.layout.specs.Record.{recordKey, typeOf, isKnownType, caseTypeOf}
 
 module _ (rec : List ℕ) (e : length rec ≡ 245) where
   -- the width of a field sent
@@ -46,3 +48,10 @@ module _ (rec : List ℕ) (e : length rec ≡ 245) where
       ap (λ (k : ℕ). getD (recordKey rec) k 0) z
       ∙ getD-append-add front (columns 74 74 rec) 0 0
       ∙ one-column 74 rec (lit≤ tt)
+
+-- a record of one of the ten types
+pub known-type : (rec : List ℕ) (kind : ℕ) → typeOf rec ≡ kind
+    → (eqb kind A || eqb kind B || eqb kind C || eqb kind D || eqb kind L || eqb kind M || eqb kind R || eqb kind S || eqb kind T || eqb kind Z) ≡ true
+    → isKnownType rec ≡ true
+unfolding isKnownType
+known-type rec kind e t = rw e t

@@ -7,7 +7,6 @@ pub mod Chart07
 pub mod ChartA1
 pub mod ChartA2
 pub mod Codes
-pub mod Exclusions
 pub mod Key
 pub mod Limits
 pub mod Locals
@@ -17,5 +16,4 @@ pub mod Record
 pub mod Ssn
 pub mod StateCodes
 pub mod States
-pub mod WordNumbers
 pub mod Zip

@@ -1,10 +1,7 @@
--- Document 01: the limits, each named once. Assumes nothing.
+-- Documents 01 and 02: the limit, named once. Assumes nothing.
 use Prim.Native.Nat.{ℕ}
 
--- at most 65,535 rows
+-- the most rows that a master may have, and the most details of a batch, lines of a collection file and records of a contact file. A
+-- batch and a collection file have one record more. A definition that takes a limit is over any; this is the one that the code has.
 unfoldable pub maxRows : ℕ
 maxRows = 65535
-
--- at most 65,536 records in a batch or a collection file
-unfoldable pub maxRecords : ℕ
-maxRecords = 65536

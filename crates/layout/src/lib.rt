@@ -8,7 +8,6 @@ pub mod chart_07;
 pub mod chart_a1;
 pub mod chart_a2;
 pub mod codes;
-pub mod exclusions;
 pub mod key;
 pub mod limits;
 pub mod locals;

@@ -1,7 +1,7 @@
-// The limits of document 01, each named once.
+// The limit of the papers, named once.
 
-// At most so many rows.
+// The most rows that a master may have, and the most details of a batch, lines of a collection file and records of a contact file.
 pub const MAX_ROWS: usize = 65535;
 
-// At most so many records in a batch or a collection file.
+// A batch and a collection file have one record more.
 pub const MAX_RECORDS: usize = 65536;

@@ -2,9 +2,9 @@
 use crate::ebcdic;
 use crate::lists;
 use crate::lists::Subject;
-use layout::exclusions::Exclusions;
-use layout::exclusions::exclusion_columns;
-use layout::exclusions::read_exclusions;
+use exclusionsets::exclusions::Exclusions;
+use exclusionsets::exclusions::exclusion_columns;
+use exclusionsets::exclusions::read_exclusions;
 use vector_text::print;
 
 // What a field's words give.

@@ -5,6 +5,7 @@ use mathlib.Core.Bool.{true, false}
 use mathlib.Core.List.{List}
 use mathlib.Core.Option.{none, some}
 use borrow.Author.Tests.{ne-eqb}
+use Rattle.layout.specs.Limits.{maxRows}
 use Rattle.layout.specs.Key.{isSoundKey}
 use Rattle.casemaster.specs.Master.{rowsOf}
 use Rattle.casemaster.specs.Rows.{placeWith}
@@ -12,15 +13,15 @@ use Rattle.lookup.specs.Find.{place, refused, refusal14, findResult}
 use Rattle.casemaster.proofs.RefusalsLaws.{master-passed, master-refused}
 use Rattle.casemaster.specs.Refusals.{masterRefusal}
 
-module _ (master : List ℕ) (rows : ℕ) (key : List ℕ) (r : ℕ) (e : r ≡ masterRefusal master rows 0) where
+module _ (master : List ℕ) (rows : ℕ) (key : List ℕ) (r : ℕ) (e : r ≡ masterRefusal maxRows master rows 0) where
   pub find-refused : (r ≡ 0 → ⊥) → refused r ≡ findResult master rows key
   unfolding findResult
   find-refused n =
-      sym (rw (master-refused master rows (λ z. n (e ∙ z)), ← e, ne-eqb r 0 n))
+      sym (rw (master-refused maxRows master rows (λ z. n (e ∙ z)), ← e, ne-eqb r 0 n))
 
   module _ (z : r ≡ 0) where
-    passed : (behind : ℕ) → masterRefusal master rows behind ≡ behind
-    passed behind = master-passed master rows (sym e ∙ z) behind
+    passed : (behind : ℕ) → masterRefusal maxRows master rows behind ≡ behind
+    passed behind = master-passed maxRows master rows (sym e ∙ z) behind
 
     pub find-unsound : isSoundKey key ≡ false → refused 14 ≡ findResult master rows key
     unfolding findResult refusal14

@@ -4,6 +4,7 @@ use mathlib.Core.List.{List}
 use mathlib.Core.Bool.{Bool, not, cond}
 use mathlib.Core.Option.{Option, none, some}
 use lib.Dec.{eqb}
+use Rattle.layout.specs.Limits.{maxRows}
 use Rattle.layout.specs.Key.{isSoundKey}
 use Rattle.casemaster.specs.Master.{rowsOf}
 use Rattle.casemaster.specs.Rows.{placeWith}
@@ -36,4 +37,4 @@ unlessRefused refusal result = cond (eqb refusal 0) result (refused refusal)
 -- refused, in order: 3; 4; 14; 15; else the place of the key's row, deleted or not, the first being 0
 unfoldable pub findResult : List ℕ → ℕ → List ℕ → FindResult
 findResult master rows key =
-    unlessRefused (masterRefusal master rows (orElse (refusal14 key) 14 0)) (placeOr15 (placeWith key (rowsOf rows master)))
+    unlessRefused (masterRefusal maxRows master rows (orElse (refusal14 key) 14 0)) (placeOr15 (placeWith key (rowsOf rows master)))

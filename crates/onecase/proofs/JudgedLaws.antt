@@ -78,7 +78,7 @@ module _ (setting : Setting) (row : Option (List ℕ)) (rec : List ℕ) where
   unfolding warnings
   warnings-errors = simp (any-front, any-only)
 
-  rejected-is : isRejected (judgement setting row rec) ≡ not (isAccepted setting row rec)
+  pub rejected-is : isRejected (judgement setting row rec) ≡ not (isAccepted setting row rec)
   unfolding isRejected judgement codes isAccepted
   rejected-is = go (isAccepted setting row rec) refl
     where

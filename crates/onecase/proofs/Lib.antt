@@ -1,3 +1,5 @@
+pub mod CorrectionLaws
+pub mod OwnRecordLaws
 pub mod AcceptedLaws
 pub mod AppliedLaws
 pub mod ChangesLaws

@@ -10,7 +10,7 @@ use Rattle.layout.specs.Ssn.{wrongSsn}
 use Rattle.layout.specs.Name.{isNameByte, isNameRest, isName, hasLetter}
 use Rattle.layout.specs.Calendar.{isLeap, daysIn, isDay, isDate}
 use Rattle.layout.specs.ProcessYear.{inWindow}
-use Rattle.layout.specs.Exclusions.{exclusionNames, isSeparator, wordsFrom, readOnto, exclusionsOf}
+use Rattle.exclusionsets.specs.Exclusions.{exclusionNames, isSeparator, wordsFrom, readOnto, exclusionsOf}
 use Rattle.text.specs.Blocks.{blocks}
 use Rattle.layout.specs.Locals.{codesOfList, isListed}
 use Rattle.layout.specs.Key.{isCaseType, isSoundKey}

@@ -7,7 +7,7 @@ use mathlib.Core.Option.{Option, none, some}
 use lib.ListN.{replicate}
 use Rattle.text.specs.Characters.{zeroDigit, D}
 use Rattle.text.specs.Fields.{columns, placed, isBlank, isZero, spaces}
-use Rattle.layout.specs.Exclusions.{exclusionsOf}
+use Rattle.exclusionsets.specs.Exclusions.{exclusionsOf}
 use Rattle.layout.specs.Locals.{isListed}
 use Rattle.layout.specs.ChartA1.{localCode, caseId, lastName, firstName, arrearage, transferState, transferLocalCode, processYear, dateIssued, exclusions}
 use Rattle.layout.specs.Record.{recordKey}

@@ -12,7 +12,7 @@ use Rattle.layout.specs.Ssn.{wrongSsn}
 use Rattle.layout.specs.Name.{isName}
 use Rattle.layout.specs.Calendar.{isDate}
 use Rattle.layout.specs.ProcessYear.{inWindow}
-use Rattle.layout.specs.Exclusions.{exclusionsOf}
+use Rattle.exclusionsets.specs.Exclusions.{exclusionsOf}
 use Rattle.casemaster.specs.Row.{rowKey, rowArrearage, rowExclusions, rowStatus, isLive, isSoundRow}
 use Rattle.casemaster.specs.Rows.{rowWith}
 use Rattle.layout.specs.Record.{recordKey}

@@ -1,8 +1,8 @@
 // What a record without an error does to its row, type by type.
 use casemaster::row;
+use exclusionsets::exclusions;
+use exclusionsets::exclusions::Exclusions;
 use layout::chart_a1;
-use layout::exclusions;
-use layout::exclusions::Exclusions;
 use layout::locals;
 use layout::record;
 use text::fields;

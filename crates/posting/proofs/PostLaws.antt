@@ -20,12 +20,12 @@ use Rattle.posting.specs.declared.post.Posted.the-variants.{Done, Refuse
 
 -- ---- 3 and 4
 
-module _ (master : List ℕ) (rows : ℕ) (e : masterRefusal master rows 0 ≡ 0) where
+module _ (limit : ℕ) (master : List ℕ) (rows : ℕ) (e : masterRefusal limit master rows 0 ≡ 0) where
   pub rows-inside : rows * 200 ≤ length master
-  rows-inside = omega (arith, master-rows master rows e)
+  rows-inside = omega (arith, master-rows limit master rows e)
 
   pub rows-fit : Fit (rowsOf rows master)
-  rows-fit = fit-of rows master rows-inside (master-sound master rows e)
+  rows-fit = fit-of rows master rows-inside (master-sound limit master rows e)
 
 -- ---- the outcome
 

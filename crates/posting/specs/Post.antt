@@ -4,6 +4,7 @@ use mathlib.Core.List.{List}
 use mathlib.Core.Bool.{cond}
 use lib.Dec.{eqb}
 use lib.ListN.{length}
+use Rattle.layout.specs.Limits.{maxRows}
 use Rattle.text.specs.Blocks.{joined, over}
 use Rattle.casemaster.specs.Master.{rowsOf}
 use Rattle.casemaster.specs.Refusals.{masterRefusal}
@@ -18,12 +19,14 @@ pub record Call : Type 0 where
   pub rows : ℕ
   pub file : List ℕ
   pub lines : List ℕ
+  -- the most rows and lines, which refusals 3 and 22 take; nothing else does
+  pub limit : ℕ
 
 -- ---- refused, in order
 
 -- all follow 3 and 4
-abbrev pub postRefusal : List ℕ → ℕ → List ℕ → ℕ → ℕ
-postRefusal master rows file room = masterRefusal master rows (fileRefusal file room)
+abbrev pub postRefusal : ℕ → List ℕ → ℕ → List ℕ → ℕ → ℕ
+postRefusal limit master rows file room = masterRefusal limit master rows (fileRefusal limit file room)
 
 -- ---- the outcome
 
@@ -67,14 +70,14 @@ abbrev pub left : ℕ → Call → Outcome
 left n c = record { result = refused n; master = c .master; lines = c .lines }
 
 abbrev pub refusalOf : Call → ℕ
-refusalOf c = postRefusal (c .master) (c .rows) (c .file) (length (c .lines))
+refusalOf c = postRefusal (c .limit) (c .master) (c .rows) (c .file) (length (c .lines))
 
 unfoldable pub postOutcome : Call → Outcome
 postOutcome c = cond (eqb (refusalOf c) 0) (carriedOut c) (left (refusalOf c) c)
 
--- the call and the outcome, from what is lent and what is answered
+-- the call, from what is lent, with the limit that the code has, and the outcome from what is answered
 abbrev pub postCall : List ℕ → ℕ → List ℕ → List ℕ → Call
-postCall master rows file lines = record { master = master; rows = rows; file = file; lines = lines }
+postCall master rows file lines = record { master = master; rows = rows; file = file; lines = lines; limit = maxRows }
 
 abbrev pub postedAs : Posted → List ℕ → List ℕ → Outcome
 postedAs answer master lines = record { result = postedOf answer; master = master; lines = lines }

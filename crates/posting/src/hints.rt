@@ -36,7 +36,7 @@ fn back_of(file: &[u8], i: usize, count: usize) -> u64
 
 // The fronts of the keys of sixteen lines from line `from` on.
 fn fronts_of(file: &[u8], from: usize, count: usize) -> [u64; 16]
-    requires { ⌜ (count * 240 ≤ length (now file)) × (from < 65536) ⌝ }
+    requires { ⌜ (count * 240 ≤ length (now file)) × (from ≤ count) ⌝ }
 {
     let mut fronts = [0u64; 16];
     let mut k: usize = 0;
@@ -49,7 +49,7 @@ fn fronts_of(file: &[u8], from: usize, count: usize) -> [u64; 16]
 
 // The backs of the keys of sixteen lines from line `from` on.
 fn backs_of(file: &[u8], from: usize, count: usize) -> [u64; 16]
-    requires { ⌜ (count * 240 ≤ length (now file)) × (from < 65536) ⌝ }
+    requires { ⌜ (count * 240 ≤ length (now file)) × (from ≤ count) ⌝ }
 {
     let mut backs = [0u64; 16];
     let mut k: usize = 0;
@@ -109,7 +109,7 @@ fn look_for(m: &[u8], n: usize, fronts: &[u64; 16], backs: &[u64; 16], places: &
 
 // The hints for the lines from line i on, where sixteen start there; else those there are stay.
 pub fn renew(hints: &mut [usize; 16], m: &[u8], n: usize, file: &[u8], i: usize, count: usize)
-    requires { ⌜ (n * 200 ≤ length (now m)) × (count * 240 ≤ length (now file)) × (i < 65536) ⌝ }
+    requires { ⌜ (n * 200 ≤ length (now m)) × (count * 240 ≤ length (now file)) × (i ≤ count) ⌝ }
 {
     if i % 16 != 0 {
         return;

@@ -15,6 +15,7 @@ ghost use mathlib.Core.Bool.{true, cond};
 ghost use mathlib.Core.Option.{some};
 ghost use Prim.Native.Nat.{_+_, _*_, _≤_, _<_};
 ghost use lib.ListN.{length, take, drop, set};
+ghost use Rattle.layout.specs.Limits.{maxRows};
 ghost use Rattle.casemaster.specs.Master.{rowsOf, areSoundRows};
 ghost use Rattle.casemaster.specs.Row.{isSoundRow};
 ghost use Rattle.casemaster.specs.Rows.{placeWith};
@@ -82,7 +83,7 @@ fn post_near(m: &mut [u8], n: usize, line: &[u8], p: usize) -> bool
 
 // Writes the number of the line at place i behind k others, unless it is posted.
 fn note(lines: &mut [u16], k: usize, i: usize, posted: bool) -> usize
-    requires { ⌜ (k < length (now lines)) × (i < 65535) ⌝ }
+    requires { ⌜ (k < length (now lines)) × (i < maxRows) ⌝ }
     ensures { λ r. ⌜ (r ≡ cond posted k (k + 1)) × (now (lines .exit) ≡ cond posted (now (lines .entry)) (set (now (lines .entry)) k (i + 1))) ⌝ }
 {
     if posted {
@@ -94,7 +95,7 @@ fn note(lines: &mut [u16], k: usize, i: usize, posted: bool) -> usize
 
 // The first n rows through each of the first `count` lines.
 fn work(m: &mut [u8], n: usize, file: &[u8], count: usize, lines: &mut [u16]) -> usize
-    requires { ⌜ (n * 200 ≤ length (now m)) × (areSoundRows (rowsOf n (now m)) ≡ true) × (count * 240 ≤ length (now file)) × (count < 65536) × (count ≤ length (now lines)) ⌝ }
+    requires { ⌜ (n * 200 ≤ length (now m)) × (areSoundRows (rowsOf n (now m)) ≡ true) × (count * 240 ≤ length (now file)) × (count ≤ maxRows) × (count ≤ length (now lines)) ⌝ }
     ensures { λ r. ⌜ Worked (now (m .entry)) n (now (file .entry)) count (now (lines .entry)) (now (m .exit)) (now (lines .exit)) r ⌝ }
 {
     let mut hints = [0usize; 16];

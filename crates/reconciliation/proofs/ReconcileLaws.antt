@@ -10,7 +10,7 @@ use lib.Dec.{eqb, lit≤}
 use lib.ListN.{length, getD, take, drop, length-append, drop-of-length-le}
 use Rattle.text.specs.Characters.{A, N}
 use Rattle.text.specs.Fields.{columns, placed, digitField, spaces}
-use Rattle.layout.specs.Exclusions.{exclusionColumns}
+use Rattle.exclusionsets.specs.Exclusions.{exclusionColumns}
 use Rattle.text.specs.Blocks.{blocks, spliced, Holds}
 use Rattle.casemaster.specs.Master.{rowsOf}
 use Rattle.text.proofs.FieldsLaws.{one-column}

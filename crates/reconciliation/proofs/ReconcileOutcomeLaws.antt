@@ -6,6 +6,7 @@ use mathlib.Core.Bool.{true, false}
 use native.Mathlib.Omega.{arith}
 use borrow.Author.Tests.{ne-eqb, lt-ltb, le-ltb}
 use lib.ListN.{length}
+use Rattle.layout.specs.Limits.{maxRows}
 use Rattle.layout.specs.States.{isState}
 use Rattle.layout.specs.Calendar.{isDate}
 use Rattle.text.specs.Blocks.{joined, over}
@@ -30,26 +31,26 @@ module _ (master : List ℕ) (rows : ℕ) (state date out : List ℕ) where
   unfolding reconcileOutcome
   outcome-refused code e h = rw (e, ne-eqb code 0 h)
 
-  pub outcome-master : (code : ℕ) → code ≡ masterRefusal master rows 0 → (code ≡ 0 → ⊥) → reconciledAs (Refused code) out ≡ outcome
+  pub outcome-master : (code : ℕ) → code ≡ masterRefusal maxRows master rows 0 → (code ≡ 0 → ⊥) → reconciledAs (Refused code) out ≡ outcome
   unfolding reconcileRefusal
-  outcome-master code e h = outcome-refused code (master-refused master rows (λ z. h (e ∙ z)) _ ∙ sym e) h
+  outcome-master code e h = outcome-refused code (master-refused maxRows master rows (λ z. h (e ∙ z)) _ ∙ sym e) h
 
-  module _ (e : masterRefusal master rows 0 ≡ 0) where
+  module _ (e : masterRefusal maxRows master rows 0 ≡ 0) where
     pub outcome-12 : isState state ≡ false → reconciledAs (Refused 12) out ≡ outcome
     unfolding reconcileRefusal refusal12
-    outcome-12 s = outcome-refused 12 (master-passed master rows e _ ∙ rw s) (λ z. omega arith)
+    outcome-12 s = outcome-refused 12 (master-passed maxRows master rows e _ ∙ rw s) (λ z. omega arith)
 
     module _ (s : isState state ≡ true) where
       pub outcome-13 : isDate date ≡ false → reconciledAs (Refused 13) out ≡ outcome
       unfolding reconcileRefusal refusal12 refusal13
-      outcome-13 d = outcome-refused 13 (master-passed master rows e _ ∙ rw (s, d)) (λ z. omega arith)
+      outcome-13 d = outcome-refused 13 (master-passed maxRows master rows e _ ∙ rw (s, d)) (λ z. omega arith)
 
       module _ (d : isDate date ≡ true) where
         pub outcome-11 : length out / 245 ≤ length records → reconciledAs (Refused 11) out ≡ outcome
         unfolding reconcileRefusal refusal12 refusal13 refusalOfSpace
         outcome-11 l =
             let b = lt-ltb (length out) (245 * (length records + 1)) (omega arith) in
-            outcome-refused 11 (master-passed master rows e _ ∙ rw (s, d, b)) (λ z. omega arith)
+            outcome-refused 11 (master-passed maxRows master rows e _ ∙ rw (s, d, b)) (λ z. omega arith)
 
         pub outcome-done : (n : ℕ) (after : List ℕ) → length records < length out / 245 → n ≡ length records
             → after ≡ over (joined records ++ rctRecord state date (rowsOf rows master)) out
@@ -57,5 +58,5 @@ module _ (master : List ℕ) (rows : ℕ) (state date out : List ℕ) where
         unfolding reconcileOutcome reconcileRefusal refusal12 refusal13 refusalOfSpace
         outcome-done n after l en ea =
             let b = le-ltb (length out) (245 * (length records + 1)) (omega arith) in
-            let p : refusal ≡ 0 = master-passed master rows e _ ∙ rw (s, d, b) in
+            let p : refusal ≡ 0 = master-passed maxRows master rows e _ ∙ rw (s, d, b) in
             rw (p, en, ea)

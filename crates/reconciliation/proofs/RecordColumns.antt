@@ -8,7 +8,7 @@ use lib.Dec.{lit≤}
 use lib.ListN.{length, getD}
 use Rattle.text.specs.Characters.{A, N}
 use Rattle.text.specs.Fields.{columns, digitField, spaces}
-use Rattle.layout.specs.Exclusions.{exclusionColumns}
+use Rattle.exclusionsets.specs.Exclusions.{exclusionColumns}
 use Rattle.casemaster.specs.Row.{rowState, rowSsn, rowCaseType, rowLocalCode, rowCaseId, rowLastName, rowArrearage, rowDateIssued, rowExclusions}
 use Rattle.reconciliation.specs.Reconcile.{REC, RCT, recRecord, recRecords, reportedOf, rctRecord}
 use Rattle.reconciliation.specs.Columns.{IsRecRecord, IsRctRecord}
@@ -16,7 +16,7 @@ use Rattle.text.proofs.FieldsLaws.{length-columns}
 use Rattle.text.proofs.ColumnsLaws.{columns-of-columns}
 use Rattle.text.proofs.NumberLaws.{length-digits}
 use Rattle.text.proofs.PartsLaws.{columns-appended, length-appended}
-use Rattle.layout.proofs.ExclusionsLaws.{columns-length}
+use Rattle.exclusionsets.proofs.ExclusionsLaws.{columns-length}
 
 module _ (row : List ℕ) (wide : length row ≡ 200) where
   -- the fields behind the first

@@ -5,7 +5,7 @@ use mathlib.Core.List.{List}
 use lib.ListN.{length, getD}
 use Rattle.text.specs.Characters.{A, N}
 use Rattle.text.specs.Fields.{columns, digitField, spaces}
-use Rattle.layout.specs.Exclusions.{exclusionColumns}
+use Rattle.exclusionsets.specs.Exclusions.{exclusionColumns}
 use Rattle.layout.specs.Chart06.{recIdentifier, recState, recLocalCode, recSsn, recCaseId, recLastName, recFirstName, recArrearage, recCaseType, recNoticeDate, recNoticeHold, recPassportAction, recExclusions, recFiller}
 use Rattle.layout.specs.Chart07.{rctIdentifier, rctState, rctTanf, rctNonTanf, rctTotal, rctDate, rctFiller}
 use Rattle.casemaster.specs.Row.{rowState, rowSsn, rowCaseType, rowLocalCode, rowCaseId, rowLastName, rowFirstName, rowArrearage, rowDateIssued, rowExclusions}

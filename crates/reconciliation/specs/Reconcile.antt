@@ -4,11 +4,12 @@ use mathlib.Core.List.{List, [], _∷_, _++_}
 use mathlib.Core.Bool.{Bool, not, cond, _&&_}
 use lib.Dec.{eqb, ltb}
 use lib.ListN.{length, getD}
+use Rattle.layout.specs.Limits.{maxRows}
 use Rattle.text.specs.Characters.{A, C, E, N, R, T}
 use Rattle.text.specs.Fields.{columns, sameBytes, digitField, spaces}
 use Rattle.layout.specs.States.{isState}
 use Rattle.layout.specs.Calendar.{isDate}
-use Rattle.layout.specs.Exclusions.{exclusionColumns}
+use Rattle.exclusionsets.specs.Exclusions.{exclusionColumns}
 use Rattle.text.specs.Blocks.{joined, over}
 use Rattle.casemaster.specs.Row.{rowState, rowSsn, rowCaseType, rowLocalCode, rowCaseId, rowLastName, rowArrearage, rowDateIssued, rowExclusions, isLive}
 use Rattle.casemaster.specs.Master.{rowsOf}
@@ -64,7 +65,7 @@ refusalOfSpace state rows out = ltb (length out) (245 * (length (recRecords stat
 -- refused, in order: 3; 4; 12; 13; 11
 unfoldable pub reconcileRefusal : List ℕ → ℕ → List ℕ → List ℕ → List ℕ → ℕ
 reconcileRefusal master rows state date out =
-    masterRefusal master rows
+    masterRefusal maxRows master rows
     (orElse (refusal12 state) 12
     (orElse (refusal13 date) 13
     (orElse (refusalOfSpace state (rowsOf rows master) out) 11 0)))

@@ -2,10 +2,10 @@
 use casemaster::master::ROW_WIDTH;
 use casemaster::refusals;
 use casemaster::row;
+use exclusionsets::exclusions;
 use layout::calendar;
 use layout::chart_06;
 use layout::chart_07;
-use layout::exclusions;
 use layout::records::RECORD_WIDTH;
 use layout::states;
 use text::fields;

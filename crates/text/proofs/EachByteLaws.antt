@@ -1,4 +1,4 @@
--- Two tests that agree at every byte, by one test of them all, which is computed. Assumes nothing.
+-- A test of all numbers below another, which is computed, holds of each; so two tests agree at every byte. Assumes nothing.
 use Prim.Native.Nat.{ℕ, zero, suc, _<_}
 use mathlib.Core.Path.{_≡_, refl, sym}
 use mathlib.Core.Bool.{Bool, true, false, not, _&&_}
@@ -24,7 +24,8 @@ below-step : (f : ℕ → Bool) (n b : ℕ) → f n ≡ true → (b < n → f b 
 below-step f n b t behind h true e = rw (eqb-true n b e) at t
 below-step f n b t behind h false e = let d = eqb-false n b e in behind (omega arith)
 
-below : (f : ℕ → Bool) (n : ℕ) → everyBelow f n ≡ true → (b : ℕ) → b < n → f b ≡ true
+-- a test passed below n is passed by each below n
+pub below : (f : ℕ → Bool) (n : ℕ) → everyBelow f n ≡ true → (b : ℕ) → b < n → f b ≡ true
 below f zero t b h = absurd (omega arith)
 below f (suc n) t b h =
     below-step f n b (and-left (f n) (everyBelow f n) t) (below f n (and-right (f n) (everyBelow f n) t) b) h (eqb n b) refl

@@ -1,10 +1,10 @@
 -- Laws of parts written one behind the other: each part stands in its own columns, whatever the parts and their widths. Assumes nothing.
-use Prim.Native.Nat.{ℕ, zero, suc, _+_, _-_}
+use Prim.Native.Nat.{ℕ, zero, suc, _+_, _-_, _≤_, _<_}
 use mathlib.Core.Path.{_≡_, refl, sym, ap, _∙_}
 use mathlib.Core.List.{List, [], _∷_, _++_, map, append-assoc, append-nil}
 use native.Mathlib.Omega.{arith}
-use lib.ListN.{length, getD, take, drop, length-append}
-use lib.Seq.{drop-drop, drop-at}
+use lib.ListN.{length, getD, take, drop, length-append, length-drop}
+use lib.Seq.{drop-drop, drop-at, take-suc, getD-drop}
 use Rattle.text.specs.Fields.{columns}
 use Rattle.text.specs.Blocks.{joined}
 use Rattle.text.proofs.ColumnsLaws.{columns-between}
@@ -59,3 +59,12 @@ pub length-appended : (widths : List ℕ) (a : List ℕ) (bs : List (List ℕ)) 
     → length (appended a bs) ≡ columnsBefore (length widths) widths
 unfolding joined
 length-appended widths a bs e = rw (← e, appended-joined a bs) (length-joined (a ∷ bs))
+
+-- a part with one byte more at its end
+pub part-more : (s : List ℕ) (a i : ℕ) → a ≤ i → i < length s
+    → take (i - a) (drop a s) ++ getD s i 0 ∷ [] ≡ take (i + 1 - a) (drop a s)
+part-more s a i h k =
+    let w : i + 1 - a ≡ suc (i - a) = omega arith in
+    let l : i - a < length (drop a s) = rw (length-drop a s) (omega arith) in
+    let g : a + (i - a) ≡ i = omega arith in
+    rw (w, take-suc (drop a s) (i - a) 0 l, getD-drop a s (i - a) 0, g)

@@ -1,11 +1,12 @@
 -- Laws of bytes spliced in over others and of a part cut out. Assumes nothing.
-use mathlib.Core.Path.{_≡_, sym, ap, _∙_}
+use mathlib.Core.Path.{_≡_, refl, sym, ap, _∙_}
 use mathlib.Core.List.{List, [], _∷_, _++_, append-assoc, append-nil}
-use Prim.Native.Nat.{ℕ, zero, suc, _+_, _-_, _≤_}
+use Prim.Native.Nat.{ℕ, zero, suc, _+_, _-_, _≤_, _<_}
 use native.Mathlib.Nat.{suc-add, zero-add}
+use native.Mathlib.Numerals.{add-one}
 use native.Mathlib.Omega.{arith}
-use lib.ListN.{length, take, drop, length-append, length-take, length-drop, drop-of-length-le, take-append-drop}
-use lib.Seq.{paste, length-take-le, take-length, take-at, drop-at, take-nil, drop-drop}
+use lib.ListN.{length, take, drop, set, length-append, length-take, length-drop, drop-of-length-le, take-append-drop}
+use lib.Seq.{paste, length-take-le, take-length, take-at, drop-at, take-nil, drop-drop, take-suc-set, drop-set-lt, set-split}
 use Rattle.text.specs.Blocks.{spliced}
 
 module _ (d : List ℕ) (at : ℕ) (s : List ℕ) where
@@ -48,6 +49,35 @@ module _ (d : List ℕ) (at : ℕ) (s : List ℕ) where
 pub spliced-none : (d : List ℕ) (at : ℕ) → d ≡ spliced d at []
 unfolding spliced
 spliced-none d at = let z : at + 0 ≡ at = omega arith in rw z (sym (take-append-drop at d))
+
+-- a byte set, and bytes spliced in behind it
+pub spliced-cons : (d : List ℕ) (i x : ℕ) (s : List ℕ) → i < length d → spliced (set d i x) (i + 1) s ≡ spliced d i (x ∷ s)
+unfolding spliced
+spliced-cons d i x s h =
+    let e : i + suc (length s) ≡ suc i + length s = omega arith in
+    rw (add-one i, take-suc-set d i x h, e, drop-set-lt (suc i + length s) d i x (omega arith))
+    (append-assoc (take i d) (x ∷ []) (s ++ drop (suc i + length s) d))
+
+pub spliced-one : (d : List ℕ) (i x : ℕ) → i < length d → set d i x ≡ spliced d i (x ∷ [])
+unfolding spliced
+spliced-one d i x h = let e : i + 1 ≡ suc i = omega arith in rw e (set-split d i x h)
+
+-- bytes spliced in behind others that were
+spliced-is : (d : List ℕ) (n : ℕ) (s : List ℕ) → spliced d n s ≡ take n d ++ (s ++ drop (n + length s) d)
+unfolding spliced
+spliced-is d n s = refl
+
+pub spliced-then : (d : List ℕ) (at n : ℕ) (a b : List ℕ) → n ≡ at + length a → at + length a ≤ length d
+    → spliced (spliced d at a) n b ≡ spliced d at (a ++ b)
+spliced-then d at n a b e h =
+    let x : List ℕ = spliced d at a in
+    let l : n + length b ≡ at + length (a ++ b) = rw (length-append a b) (omega arith) in
+    spliced-is x n b
+    ∙ ap (λ (z : List ℕ). z ++ (b ++ drop (n + length b) x)) (take-through d at a n (omega arith) e)
+    ∙ ap (λ (z : List ℕ). (take at d ++ a) ++ (b ++ z)) (drop-spliced d at a (n + length b) (omega arith) (omega arith) ∙ ap (λ (z : ℕ). drop z d) l)
+    ∙ append-assoc (take at d) a (b ++ drop (at + length (a ++ b)) d)
+    ∙ ap (λ (z : List ℕ). take at d ++ z) (sym (append-assoc a b (drop (at + length (a ++ b)) d)))
+    ∙ sym (spliced-is d at (a ++ b))
 
 -- a part copied out whole, over all of d
 pub cut-out : (d m : List ℕ) (a e w : ℕ) → e ≡ a + w → e ≤ length m → length d ≡ w

@@ -5,7 +5,7 @@ use mathlib.Core.Bool.{Bool, true}
 use mathlib.Core.List.{List, [], _∷_, _++_, append-assoc}
 use native.Mathlib.Nat.{suc-mul}
 use native.Mathlib.Omega.{arith}
-use lib.ListN.{length, drop, length-drop}
+use lib.ListN.{length, take, drop, length-drop}
 use lib.Seq.{length-take-le, take-at, drop-at}
 use Rattle.text.specs.Blocks.{blocks, joined}
 use Rattle.text.proofs.FieldsLaws.{and-left, and-right}
@@ -20,6 +20,22 @@ All P (b ∷ bs) = P b × All P bs
 pub every-all : (f : List ℕ → Bool) (bs : List (List ℕ)) → every f bs ≡ true → All (λ (b : List ℕ). f b ≡ true) bs
 every-all f [] t = tt
 every-all f (b ∷ bs) t = (and-left (f b) (every f bs) t, every-all f bs (and-right (f b) (every f bs) t))
+
+-- of blocks behind blocks, of the first blocks and of the others
+module _ (P : List ℕ → Type 0) where
+  pub all-append : (bs cs : List (List ℕ)) → All P bs → All P cs → All P (bs ++ cs)
+  all-append [] cs a b = b
+  all-append (x ∷ bs) cs a b = (a .0, all-append bs cs (a .1) b)
+
+  pub all-take : (k : ℕ) (bs : List (List ℕ)) → All P bs → All P (take k bs)
+  all-take zero bs a = tt
+  all-take (suc k) [] a = tt
+  all-take (suc k) (x ∷ bs) a = (a .0, all-take k bs (a .1))
+
+  pub all-drop : (k : ℕ) (bs : List (List ℕ)) → All P bs → All P (drop k bs)
+  all-drop zero bs a = a
+  all-drop (suc k) [] a = tt
+  all-drop (suc k) (x ∷ bs) a = all-drop k bs (a .1)
 
 module _ (w : ℕ) where
   abbrev IsOf : List ℕ → Type 0

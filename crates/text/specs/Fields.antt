@@ -73,3 +73,8 @@ sameBytes (x ∷ xs) (y ∷ ys) = eqb x y && sameBytes xs ys
 unfoldable pub isOneOf : List ℕ → List (List ℕ) → Bool
 isOneOf s [] = false
 isOneOf s (t ∷ ts) = sameBytes s t || isOneOf s ts
+
+-- a word before others, unless it is empty
+abbrev pub unlessEmpty : List ℕ → List (List ℕ) → List (List ℕ)
+unlessEmpty [] words = words
+unlessEmpty (b ∷ word) words = (b ∷ word) ∷ words

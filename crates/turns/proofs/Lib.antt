@@ -2,3 +2,4 @@ pub mod TurnsLaws
 pub mod UnderLaws
 pub mod NewLaws
 pub mod AddLaws
+pub mod AppendLaws

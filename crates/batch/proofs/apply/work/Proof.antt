@@ -1,6 +1,7 @@
 -- `apply::work` meets its contract. Assumes nothing.
 use mathlib.Core.Path.{_∙_}
 use native.Mathlib.Omega.{arith}
+use Rattle.layout.proofs.LimitsLaws.{few-details}
 use Rattle.batch.proofs.PassedLaws.{passed}
 use Rattle.batch.proofs.KnownLaws.{known}
 use Rattle.batch.proofs.WorkedLaws.{ordered, alone, ordered-marked, rows-room, walk-ready, all-usable, noted, all-worked}
@@ -18,7 +19,7 @@ order-details-requires : tie.Need-order-details-requires
 order-details-requires c κs =
     let a = c .before .before .before .before .before .before .before .args in
     let k = known (callOf (a .m .now) (a .n) (a .batch .now) (a .list .now) (a .year) (a .verdicts .now) (a .rejects .now)) (passed _ (c .before .before .before .before .before .before .before .pre .0)) in
-    (omega (arith, k .batch-in), k .slots, k .few)
+    (omega (arith, k .batch-in), k .slots, omega (arith, k .batch-limit, few-details))
 
 mark-names-requires : tie.Need-mark-names-requires
 mark-names-requires c κs =

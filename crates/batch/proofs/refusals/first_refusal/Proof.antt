@@ -3,6 +3,7 @@ use mathlib.Core.Path.{sym, _∙_}
 use native.Mathlib.Omega.{arith}
 use borrow.Author.Needs.{needs}
 use Rattle.batch.proofs.ApplyLaws.{first-opening, first-master, first-batch, first-space}
+use Rattle.layout.specs.Limits.{maxRows}
 use Rattle.control.proofs.RefusalsLaws.{batch-known}
 use Rattle.casemaster.proofs.RefusalsLaws.{master-rows, master-sound}
 use Rattle.batch.proofs.refusals.first_refusal.Statement.{statement}
@@ -40,8 +41,8 @@ space-refusal-requires : tie.Need-space-refusal-requires
 space-refusal-requires c κs =
     let a = c .before .before .before .before .before .before .before .before .before .before .before .args in
     let z = sym (c .before .before .before .master-refusal .ensures) ∙ c .before .before .if2 .left in
-    let w = batch-known (a .batch .now) 0 (sym (c .before .batch-refusal .ensures) ∙ c .if3 .left) .0 .whole in
-    (omega (arith, master-rows (a .m .now) (a .n) z), master-sound (a .m .now) (a .n) z, omega (arith, w .one, w .whole))
+    let w = batch-known maxRows (a .batch .now) 0 (sym (c .before .batch-refusal .ensures) ∙ c .if3 .left) .0 .whole in
+    (omega (arith, master-rows maxRows (a .m .now) (a .n) z), master-sound maxRows (a .m .now) (a .n) z, omega (arith, w .one, w .whole))
 
 returns-4 : tie.Need-returns-4
 returns-4 c =

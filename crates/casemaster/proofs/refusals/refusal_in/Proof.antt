@@ -2,7 +2,7 @@
 use mathlib.Core.Path.{sym, _∙_}
 use borrow.Author.Needs.{needs}
 use borrow.Author.Tests.{eq-eqb, ne-eqb, lt-ltb, le-ltb}
-use Rattle.layout.specs.Limits.{maxRows}
+use Rattle.layout.proofs.LimitsLaws.{max-rows}
 use Rattle.casemaster.proofs.refusals.refusal_in.Statement.{statement}
 use Rattle.casemaster.proofs.refusals.refusal_in.Tie as tie
 use Rattle.casemaster.specs.Refusals.{refusal3}
@@ -17,19 +17,19 @@ unfolding refusalIn refusal3
 returns-2 c = rw (eq-eqb _ _ (c .before .if1 .left), lt-ltb _ _ (c .if2 .taken))
 
 returns-3 : tie.Need-returns-3
-unfolding refusalIn refusal3 maxRows
-returns-3 c = rw (eq-eqb _ _ (c .before .before .if1 .left), le-ltb _ _ (c .before .if2 .left), lt-ltb _ _ (c .if3 .taken))
+unfolding refusalIn refusal3
+returns-3 c = rw (max-rows, eq-eqb _ _ (c .before .before .if1 .left), le-ltb _ _ (c .before .if2 .left), lt-ltb _ _ (c .if3 .taken))
 
 are-sound-rows-requires : tie.Need-are-sound-rows-requires
 are-sound-rows-requires c κs = search needs
 
 returns-4 : tie.Need-returns-4
-unfolding refusalIn refusal3 maxRows
-returns-4 c = rw (eq-eqb _ _ (c .before .before .before .before .if1 .left), le-ltb _ _ (c .before .before .before .if2 .left), le-ltb _ _ (c .before .before .if3 .left), sym (c .before .are-sound-rows .ensures) ∙ c .if4 .taken)
+unfolding refusalIn refusal3
+returns-4 c = rw (max-rows, eq-eqb _ _ (c .before .before .before .before .if1 .left), le-ltb _ _ (c .before .before .before .if2 .left), le-ltb _ _ (c .before .before .if3 .left), sym (c .before .are-sound-rows .ensures) ∙ c .if4 .taken)
 
 returns-5 : tie.Need-returns-5
-unfolding refusalIn refusal3 maxRows
-returns-5 c = rw (eq-eqb _ _ (c .before .before .before .before .if1 .left), le-ltb _ _ (c .before .before .before .if2 .left), le-ltb _ _ (c .before .before .if3 .left), sym (c .before .are-sound-rows .ensures) ∙ c .if4 .left)
+unfolding refusalIn refusal3
+returns-5 c = rw (max-rows, eq-eqb _ _ (c .before .before .before .before .if1 .left), le-ltb _ _ (c .before .before .before .if2 .left), le-ltb _ _ (c .before .before .if3 .left), sym (c .before .are-sound-rows .ensures) ∙ c .if4 .left)
 
 pub refusal-in-spec : {M : Type 1} → statement M
 refusal-in-spec =

@@ -39,13 +39,13 @@ field-requires-2 : tie.Need-field-requires-2
 field-requires-2 c κs = search needs
 
 is-total-requires : tie.Need-is-total-requires
-is-total-requires c κs = rw (c .field2 .ensures) (last-width (now (c .before .before .before .before .before .before .before .args .file)) (c .before .before .before .before .before .before .before .args .count * 240) 35 49 (lit≤ tt) (lit≤ tt) (lit≤ tt) (c .before .before .before .before .before .before .before .pre .0))
+is-total-requires c κs = rw (c .field2 .ensures) (last-width (now (c .before .before .before .before .before .before .before .args .file)) (c .before .before .before .before .before .before .before .args .count * 240) 35 49 (lit≤ tt) (lit≤ tt) (lit≤ tt) (c .before .before .before .before .before .before .before .pre))
 
 field-requires-3 : tie.Need-field-requires-3
 field-requires-3 c κs = search needs
 
 is-total-requires-2 : tie.Need-is-total-requires-2
-is-total-requires-2 c κs = rw (c .field3 .ensures) (last-width (now (c .before .before .before .before .before .before .before .before .before .args .file)) (c .before .before .before .before .before .before .before .before .before .args .count * 240) 50 64 (lit≤ tt) (lit≤ tt) (lit≤ tt) (c .before .before .before .before .before .before .before .before .before .pre .0))
+is-total-requires-2 c κs = rw (c .field3 .ensures) (last-width (now (c .before .before .before .before .before .before .before .before .before .args .file)) (c .before .before .before .before .before .before .before .before .before .args .count * 240) 50 64 (lit≤ tt) (lit≤ tt) (lit≤ tt) (c .before .before .before .before .before .before .before .before .before .pre))
 
 returns : tie.Need-returns
 returns c =

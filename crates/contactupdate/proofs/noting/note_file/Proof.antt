@@ -1,4 +1,5 @@
 -- `note_file`: what is noted and listed so far, with what the records that are left bring, makes the whole (`Listing`). Assumes nothing.
+use Rattle.layout.proofs.LimitsLaws.{list-number}
 use Rattle.contactrecord.specs.Contact.{isFaulty}
 use Rattle.contacttable.proofs.TableLaws.{length-contact, contactAt}
 use Rattle.contactupdate.specs.Noting.{lastsFrom}
@@ -34,7 +35,7 @@ add-number : tie.Need-add-number Inv-loop μ-loop
 add-number c = search needs
 
 cast-number : tie.Need-cast-number Inv-loop μ-loop
-cast-number c = omega (arith, c .before .before .before .before .before .pre .1, c .loop-test .taken)
+cast-number c = omega (arith, list-number, c .before .before .before .before .before .pre .1, c .loop-test .taken)
 
 sub-note-record : tie.Need-sub-note-record Inv-loop μ-loop
 sub-note-record c = search needs

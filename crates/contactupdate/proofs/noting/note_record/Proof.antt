@@ -1,4 +1,5 @@
 -- `note_record` notes a good record or lists a faulty one; a good one has a sound key. Assumes nothing.
+use Rattle.layout.proofs.LimitsLaws.{list-number}
 use Rattle.contactrecord.proofs.ContactLaws.{good-key}
 use denote.Ref.{now}
 use mathlib.Core.Path.{sym, _∙_}
@@ -11,7 +12,7 @@ is-faulty-requires : tie.Need-is-faulty-requires
 is-faulty-requires c κs = search needs
 
 cast-faulty : tie.Need-cast-faulty
-cast-faulty c = search needs
+cast-faulty c = omega (arith, list-number, c .before .before .before .before .before .pre .1)
 
 mul-faulty : tie.Need-mul-faulty
 mul-faulty c = search needs

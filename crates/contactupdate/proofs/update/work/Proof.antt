@@ -2,7 +2,6 @@
 use Rattle.contactupdate.proofs.MarksLaws.{zeros-get, flag-small}
 use Rattle.contactupdate.proofs.ReadyLaws.{ready, new-count, new-table}
 use Rattle.contacttable.specs.Table.{contactsOf}
-use Rattle.contactupdate.specs.Update.{maxContacts}
 use lib.ListN.{replicate, length-replicate}
 use denote.Ref.{now}
 use mathlib.Core.Path.{sym, _∙_}
@@ -15,7 +14,6 @@ slice-aggregate-note-file : tie.Need-slice-aggregate-note-file
 slice-aggregate-note-file c = search needs
 
 note-file-requires : tie.Need-note-file-requires
-unfolding maxContacts
 note-file-requires c κs = search needs
 
 slice-aggregate-count-present : tie.Need-slice-aggregate-count-present

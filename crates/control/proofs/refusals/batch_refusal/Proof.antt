@@ -4,6 +4,7 @@ use mathlib.Core.Path.{sym, _∙_}
 use native.Mathlib.Omega.{arith}
 use borrow.Author.Needs.{needs}
 use borrow.Author.Tests.{not-true, not-false}
+use Rattle.layout.specs.Limits.{maxRows}
 use Rattle.control.proofs.RefusalsLaws.{whole-batch, summed-details, answer-5, answer-6, answer-20, answer-21, answer-7, answer-8, answer-0}
 use Rattle.control.proofs.refusals.batch_refusal.Statement.{statement}
 use Rattle.control.proofs.refusals.batch_refusal.Tie as tie
@@ -12,16 +13,16 @@ is-wrong-length-requires : tie.Need-is-wrong-length-requires
 is-wrong-length-requires c κs = search needs
 
 returns : tie.Need-returns
-returns c = answer-5 _ (sym (c .before .is-wrong-length .ensures) ∙ c .if1 .taken)
+returns c = answer-5 maxRows _ (sym (c .before .is-wrong-length .ensures) ∙ c .if1 .taken)
 
 sub-details : tie.Need-sub-details
 sub-details c =
-    let w = whole-batch (c .before .before .before .args .batch .now) (sym (c .before .is-wrong-length .ensures) ∙ c .if1 .left) in
+    let w = whole-batch maxRows (c .before .before .before .args .batch .now) (sym (c .before .is-wrong-length .ensures) ∙ c .if1 .left) in
     omega arith
 
 record-at-requires : tie.Need-record-at-requires
 record-at-requires c κs =
-    let w = whole-batch (c .before .before .before .args .batch .now) (sym (c .before .is-wrong-length .ensures) ∙ c .if1 .left) in
+    let w = whole-batch maxRows (c .before .before .before .args .batch .now) (sym (c .before .is-wrong-length .ensures) ∙ c .if1 .left) in
     omega arith
 
 has-ctl-requires : tie.Need-has-ctl-requires
@@ -31,7 +32,7 @@ returns-2 : tie.Need-returns-2
 returns-2 c =
     let k = c .before .before .before in
     let o = k .before .before in
-    answer-6 (o .before .before .args .batch .now) (k .record-at .result) (sym (o .is-wrong-length .ensures) ∙ k .before .if1 .left)
+    answer-6 maxRows (o .before .before .args .batch .now) (k .record-at .result) (sym (o .is-wrong-length .ensures) ∙ k .before .if1 .left)
     (k .record-at .ensures) (sym (c .before .has-ctl .ensures) ∙ not-true (c .before .has-ctl .result) (c .if2 .taken))
 
 has-state-requires : tie.Need-has-state-requires
@@ -42,7 +43,7 @@ returns-3 c =
     let h = c .before .before .before in
     let k = h .before .before .before in
     let o = k .before .before in
-    answer-20 (o .before .before .args .batch .now) (k .record-at .result) (sym (o .is-wrong-length .ensures) ∙ k .before .if1 .left)
+    answer-20 maxRows (o .before .before .args .batch .now) (k .record-at .result) (sym (o .is-wrong-length .ensures) ∙ k .before .if1 .left)
     (k .record-at .ensures) (sym (h .before .has-ctl .ensures) ∙ not-false (h .before .has-ctl .result) (h .if2 .left))
     (sym (c .before .has-state .ensures) ∙ not-true (c .before .has-state .result) (c .if3 .taken))
 
@@ -55,7 +56,7 @@ returns-4 c =
     let h = m .before .before .before in
     let k = h .before .before .before in
     let o = k .before .before in
-    answer-21 (o .before .before .args .batch .now) (k .record-at .result) (sym (o .is-wrong-length .ensures) ∙ k .before .if1 .left)
+    answer-21 maxRows (o .before .before .args .batch .now) (k .record-at .result) (sym (o .is-wrong-length .ensures) ∙ k .before .if1 .left)
     (k .record-at .ensures) (sym (h .before .has-ctl .ensures) ∙ not-false (h .before .has-ctl .result) (h .if2 .left))
     (sym (m .before .has-state .ensures) ∙ not-false (m .before .has-state .result) (m .if3 .left))
     (sym (c .before .has-totals .ensures) ∙ not-true (c .before .has-totals .result) (c .if4 .taken))
@@ -64,7 +65,7 @@ totals-of-requires : tie.Need-totals-of-requires
 totals-of-requires c κs =
     let k = c .before .before .before .before .before .before .before .before .before in
     let o = k .before .before in
-    let w = whole-batch (o .before .before .args .batch .now) (sym (o .is-wrong-length .ensures) ∙ k .before .if1 .left) in
+    let w = whole-batch maxRows (o .before .before .args .batch .now) (sym (o .is-wrong-length .ensures) ∙ k .before .if1 .left) in
     (omega arith, summed-details _ w)
 
 are-counts-right-requires : tie.Need-are-counts-right-requires
@@ -80,7 +81,7 @@ returns-5 c =
     let h = m .before .before .before in
     let k = h .before .before .before in
     let o = k .before .before in
-    answer-7 (o .before .before .args .batch .now) (k .record-at .result) (sym (o .is-wrong-length .ensures) ∙ k .before .if1 .left)
+    answer-7 maxRows (o .before .before .args .batch .now) (k .record-at .result) (sym (o .is-wrong-length .ensures) ∙ k .before .if1 .left)
     (k .record-at .ensures) (sym (h .before .has-ctl .ensures) ∙ not-false (h .before .has-ctl .result) (h .if2 .left))
     (sym (m .before .has-state .ensures) ∙ not-false (m .before .has-state .result) (m .if3 .left))
     (sym (s .before .has-totals .ensures) ∙ not-false (s .before .has-totals .result) (s .if4 .left))
@@ -101,7 +102,7 @@ returns-6 c =
     let h = m .before .before .before in
     let k = h .before .before .before in
     let o = k .before .before in
-    answer-8 (o .before .before .args .batch .now) (k .record-at .result) (sym (o .is-wrong-length .ensures) ∙ k .before .if1 .left)
+    answer-8 maxRows (o .before .before .args .batch .now) (k .record-at .result) (sym (o .is-wrong-length .ensures) ∙ k .before .if1 .left)
     (k .record-at .ensures) (sym (h .before .has-ctl .ensures) ∙ not-false (h .before .has-ctl .result) (h .if2 .left))
     (sym (m .before .has-state .ensures) ∙ not-false (m .before .has-state .result) (m .if3 .left))
     (sym (s .before .has-totals .ensures) ∙ not-false (s .before .has-totals .result) (s .if4 .left))
@@ -118,7 +119,7 @@ returns-7 c =
     let h = m .before .before .before in
     let k = h .before .before .before in
     let o = k .before .before in
-    answer-0 (o .before .before .args .batch .now) (k .record-at .result) (sym (o .is-wrong-length .ensures) ∙ k .before .if1 .left)
+    answer-0 maxRows (o .before .before .args .batch .now) (k .record-at .result) (sym (o .is-wrong-length .ensures) ∙ k .before .if1 .left)
     (k .record-at .ensures) (sym (h .before .has-ctl .ensures) ∙ not-false (h .before .has-ctl .result) (h .if2 .left))
     (sym (m .before .has-state .ensures) ∙ not-false (m .before .has-state .result) (m .if3 .left))
     (sym (s .before .has-totals .ensures) ∙ not-false (s .before .has-totals .result) (s .if4 .left))

@@ -1,7 +1,7 @@
 -- `errors::has_wrong_word` meets its contract: a word is wrong where reading fails. Assumes nothing.
 use mathlib.Core.Path.{sym, ap, _∙_}
 use borrow.Author.Needs.{needs}
-use Rattle.layout.specs.Exclusions.{exclusionsOf, setRead}
+use Rattle.exclusionsets.specs.Exclusions.{exclusionsOf, setRead}
 use Rattle.judging.specs.Errors.{isNone}
 use Rattle.judging.proofs.errors.has_wrong_word.Statement.{statement}
 use Rattle.judging.proofs.errors.has_wrong_word.Tie as tie

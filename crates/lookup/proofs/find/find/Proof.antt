@@ -4,6 +4,7 @@ use mathlib.Core.Path.{sym, _∙_, subst}
 use native.Mathlib.Omega.{arith}
 use borrow.Author.Needs.{needs}
 use borrow.Author.Tests.{not-true, not-false}
+use Rattle.layout.specs.Limits.{maxRows}
 use Rattle.casemaster.specs.Master.{rowsOf}
 use Rattle.casemaster.specs.Search.{IsPlace}
 use Rattle.casemaster.specs.declared.search.Place.{Place}
@@ -29,7 +30,7 @@ returns-2 c = find-unsound (c .before .before .before .before .before .before .a
 place-of-requires : tie.Need-place-of-requires
 place-of-requires c κs =
     let z = sym (c .before .before .before .master-refusal .ensures) ∙ c .before .before .if1 .left in
-    (omega (arith, master-rows (c .before .before .before .before .before .before .args .master .now) (c .before .before .before .before .before .before .args .rows) z), sound-length (c .before .before .before .before .before .before .args .key .now) (sym (c .before .is-sound-key .ensures) ∙ not-false _ (c .if2 .left)), rows-rise (rowsOf (c .before .before .before .before .before .before .args .rows) (c .before .before .before .before .before .before .args .master .now)) (master-sound (c .before .before .before .before .before .before .args .master .now) (c .before .before .before .before .before .before .args .rows) z))
+    (omega (arith, master-rows maxRows (c .before .before .before .before .before .before .args .master .now) (c .before .before .before .before .before .before .args .rows) z), sound-length (c .before .before .before .before .before .before .args .key .now) (sym (c .before .is-sound-key .ensures) ∙ not-false _ (c .if2 .left)), rows-rise (rowsOf (c .before .before .before .before .before .before .args .rows) (c .before .before .before .before .before .before .args .master .now)) (master-sound maxRows (c .before .before .before .before .before .before .args .master .now) (c .before .before .before .before .before .before .args .rows) z))
 
 enum-known-p : tie.Need-enum-known-p
 enum-known-p c = search needs

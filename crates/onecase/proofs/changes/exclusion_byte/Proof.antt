@@ -4,7 +4,7 @@ use mathlib.Core.Option.{Option}
 use mathlib.Core.Path.{sym, ap, _∙_}
 use Prim.Native.Nat.{ℕ}
 use borrow.Author.Needs.{needs}
-use Rattle.layout.specs.Exclusions.{exclusionsOf, setRead}
+use Rattle.exclusionsets.specs.Exclusions.{exclusionsOf, setRead}
 use Rattle.onecase.specs.Changes.{setByte, exclusionByte}
 use Rattle.onecase.proofs.changes.exclusion_byte.Statement.{statement}
 use Rattle.onecase.proofs.changes.exclusion_byte.Tie as tie

@@ -1,5 +1,7 @@
 -- `post::note` meets its contract: by cases. Assumes nothing.
 use borrow.Author.Needs.{needs}
+use native.Mathlib.Omega.{arith}
+use Rattle.layout.proofs.LimitsLaws.{list-number}
 use Rattle.posting.proofs.post.note.Statement.{statement}
 use Rattle.posting.proofs.post.note.Tie as tie
 
@@ -7,10 +9,10 @@ returns : tie.Need-returns
 returns c = search needs
 
 add-lines : tie.Need-add-lines
-add-lines c = search needs
+add-lines c = omega (arith, list-number, c .before .pre .1)
 
 cast-lines : tie.Need-cast-lines
-cast-lines c = search needs
+cast-lines c = omega (arith, list-number, c .before .pre .1)
 
 mul-lines : tie.Need-mul-lines
 mul-lines c = search needs

@@ -3,12 +3,12 @@ use mathlib.Core.Path.{sym, _∙_}
 use native.Mathlib.Omega.{arith}
 use denote.Ref.{now}
 use lib.ListN.{length}
+use Rattle.layout.specs.Limits.{maxRows}
 use Rattle.collections.specs.File.{fileRefusal}
 use Rattle.posting.specs.Post.{postCall}
 use Rattle.posting.proofs.PostLaws.{rows-inside, rows-fit, outcome-refused, outcome-done}
 use Rattle.casemaster.proofs.RefusalsLaws.{master-passed, master-refused}
 use Rattle.collections.proofs.FileLaws.{file-whole, file-room}
-use Rattle.layout.proofs.LimitsLaws.{max-records}
 use borrow.Author.Needs.{needs}
 use Rattle.posting.proofs.post.post.Statement.{statement}
 use Rattle.posting.proofs.post.post.Tie as tie
@@ -24,7 +24,7 @@ returns c =
     let a = c .before .before .before .before .before .before .args in
     let e = c .before .master-refusal .ensures in
     outcome-refused (postCall (now (a .master)) (a .rows) (now (a .file)) (now (a .lines))) _
-    (master-refused (now (a .master)) (a .rows) (λ z. c .if1 .taken (e ∙ z)) (fileRefusal (now (a .file)) (length (now (a .lines)))) ∙ sym e) (c .if1 .taken)
+    (master-refused maxRows (now (a .master)) (a .rows) (λ z. c .if1 .taken (e ∙ z)) (fileRefusal maxRows (now (a .file)) (length (now (a .lines)))) ∙ sym e) (c .if1 .taken)
 
 file-refusal-requires : tie.Need-file-refusal-requires
 file-refusal-requires c κs = search needs
@@ -37,14 +37,14 @@ returns-2 c =
     let a = c .before .before .before .before .before .before .before .before .args in
     let z = sym (c .before .before .before .master-refusal .ensures) ∙ c .before .before .if1 .left in
     outcome-refused (postCall (now (a .master)) (a .rows) (now (a .file)) (now (a .lines))) _
-    (master-passed (now (a .master)) (a .rows) z (fileRefusal (now (a .file)) (length (now (a .lines)))) ∙ sym (c .before .file-refusal .ensures)) (c .if2 .taken)
+    (master-passed maxRows (now (a .master)) (a .rows) z (fileRefusal maxRows (now (a .file)) (length (now (a .lines)))) ∙ sym (c .before .file-refusal .ensures)) (c .if2 .taken)
 
 sub-count : tie.Need-sub-count
 sub-count c =
     let a = c .before .before .before .before .before .before .before .before .args in
     let z = sym (c .before .before .before .master-refusal .ensures) ∙ c .before .before .if1 .left in
     let y = sym (c .before .file-refusal .ensures) ∙ c .if2 .left in
-    let w = file-whole (now (a .file)) (length (now (a .lines))) y in
+    let w = file-whole maxRows (now (a .file)) (length (now (a .lines))) y in
     omega (arith, w .0)
 
 work-requires : tie.Need-work-requires
@@ -52,12 +52,12 @@ work-requires c κs =
     let a = c .before .before .before .before .before .before .before .before .before .before .args in
     let z = sym (c .before .before .before .before .before .master-refusal .ensures) ∙ c .before .before .before .before .if1 .left in
     let y = sym (c .before .before .before .file-refusal .ensures) ∙ c .before .before .if2 .left in
-    let w = file-whole (now (a .file)) (length (now (a .lines))) y in (
-      rows-inside (now (a .master)) (a .rows) z,
-      rows-fit (now (a .master)) (a .rows) z .sound,
+    let w = file-whole maxRows (now (a .file)) (length (now (a .lines))) y in (
+      rows-inside maxRows (now (a .master)) (a .rows) z,
+      rows-fit maxRows (now (a .master)) (a .rows) z .sound,
       omega arith,
-      omega (arith, w .0, w .1, max-records),
-      file-room (now (a .file)) (length (now (a .lines))) y,
+      omega (arith, w .0, w .1),
+      file-room maxRows (now (a .file)) (length (now (a .lines))) y,
     )
 
 same-length-3 : tie.Need-same-length-3
@@ -71,10 +71,10 @@ returns-3 c =
     let a = c .before .before .before .before .before .before .before .before .before .before .before .before .before .before .before .args in
     let z = sym (c .before .before .before .before .before .before .before .before .before .before .master-refusal .ensures) ∙ c .before .before .before .before .before .before .before .before .before .if1 .left in
     let y = sym (c .before .before .before .before .before .before .before .before .file-refusal .ensures) ∙ c .before .before .before .before .before .before .before .if2 .left in
-    let w = file-whole (now (a .file)) (length (now (a .lines))) y in
+    let w = file-whole maxRows (now (a .file)) (length (now (a .lines))) y in
     outcome-done (postCall (now (a .master)) (a .rows) (now (a .file)) (now (a .lines))) _ _ _
-    (master-passed (now (a .master)) (a .rows) z (fileRefusal (now (a .file)) (length (now (a .lines)))) ∙ y)
-    (rows-inside (now (a .master)) (a .rows) z) (file-room (now (a .file)) (length (now (a .lines))) y) (c .before .before .before .before .work .ensures)
+    (master-passed maxRows (now (a .master)) (a .rows) z (fileRefusal maxRows (now (a .file)) (length (now (a .lines)))) ∙ y)
+    (rows-inside maxRows (now (a .master)) (a .rows) z) (file-room maxRows (now (a .file)) (length (now (a .lines))) y) (c .before .before .before .before .work .ensures)
 
 pub post-spec : {M : Type 1} → statement M
 post-spec =

@@ -8,6 +8,7 @@ use native.Mathlib.Omega.{arith}
 use lib.ListN.{length}
 use borrow.Author.Needs.{needs}
 use borrow.Author.Tests.{not-true, not-false}
+use Rattle.layout.specs.Limits.{maxRows}
 use Rattle.reconciliation.specs.Reconcile.{recRecords}
 use Rattle.text.specs.Blocks.{joined, over}
 use Rattle.layout.specs.Calendar.{isDate}
@@ -37,7 +38,7 @@ is-state-requires c κs = search needs
 returns-2 : tie.Need-returns-2
 returns-2 c =
     let a = c .before .before .before .before .before .before .before .before .args in
-    let e : masterRefusal (a .master .now) (a .rows) 0 ≡ 0 = sym (c .before .before .before .master-refusal .ensures) ∙ c .before .before .if1 .left in
+    let e : masterRefusal maxRows (a .master .now) (a .rows) 0 ≡ 0 = sym (c .before .before .before .master-refusal .ensures) ∙ c .before .before .if1 .left in
     outcome-12 (a .master .now) (a .rows) (a .state .now) (a .date .now) (a .out .now) e (sym (c .before .is-state .ensures) ∙ not-true _ (c .if2 .taken))
 
 is-date-requires : tie.Need-is-date-requires
@@ -46,19 +47,19 @@ is-date-requires c κs = search needs
 returns-3 : tie.Need-returns-3
 returns-3 c =
     let a = c .before .before .before .before .before .before .before .before .before .before .args in
-    let e : masterRefusal (a .master .now) (a .rows) 0 ≡ 0 = sym (c .before .before .before .before .before .master-refusal .ensures) ∙ c .before .before .before .before .if1 .left in
+    let e : masterRefusal maxRows (a .master .now) (a .rows) 0 ≡ 0 = sym (c .before .before .before .before .before .master-refusal .ensures) ∙ c .before .before .before .before .if1 .left in
     let s : isState (a .state .now) ≡ true = sym (c .before .before .before .is-state .ensures) ∙ not-false _ (c .before .before .if2 .left) in
     outcome-13 (a .master .now) (a .rows) (a .state .now) (a .date .now) (a .out .now) e s (sym (c .before .is-date .ensures) ∙ not-true _ (c .if3 .taken))
 
 count-cases-requires : tie.Need-count-cases-requires
 count-cases-requires c κs =
     let a = c .before .before .before .before .before .before .before .before .before .before .args in
-    omega (arith, master-rows (a .master .now) (a .rows) (sym (c .before .before .before .before .before .master-refusal .ensures) ∙ c .before .before .before .before .if1 .left))
+    omega (arith, master-rows maxRows (a .master .now) (a .rows) (sym (c .before .before .before .before .before .master-refusal .ensures) ∙ c .before .before .before .before .if1 .left))
 
 returns-4 : tie.Need-returns-4
 returns-4 c =
     let a = c .before .before .before .before .before .before .before .before .before .before .before .before .before .args in
-    let e : masterRefusal (a .master .now) (a .rows) 0 ≡ 0 = sym (c .before .before .before .before .before .before .before .before .master-refusal .ensures) ∙ c .before .before .before .before .before .before .before .if1 .left in
+    let e : masterRefusal maxRows (a .master .now) (a .rows) 0 ≡ 0 = sym (c .before .before .before .before .before .before .before .before .master-refusal .ensures) ∙ c .before .before .before .before .before .before .before .if1 .left in
     let s : isState (a .state .now) ≡ true = sym (c .before .before .before .before .before .before .is-state .ensures) ∙ not-false _ (c .before .before .before .before .before .if2 .left) in
     let d : isDate (a .date .now) ≡ true = sym (c .before .before .before .before .is-date .ensures) ∙ not-false _ (c .before .before .before .if3 .left) in
     outcome-11 (a .master .now) (a .rows) (a .state .now) (a .date .now) (a .out .now) e s d (omega (arith, c .before .before .count-cases .ensures .0, c .if4 .taken))
@@ -66,7 +67,7 @@ returns-4 c =
 put-records-requires : tie.Need-put-records-requires
 put-records-requires c κs =
     let a = c .before .before .before .before .before .before .before .before .before .before .before .before .before .before .args in (
-      omega (arith, master-rows (a .master .now) (a .rows) (sym (c .before .before .before .before .before .before .before .before .before .master-refusal .ensures) ∙ c .before .before .before .before .before .before .before .before .if1 .left)),
+      omega (arith, master-rows maxRows (a .master .now) (a .rows) (sym (c .before .before .before .before .before .before .before .before .before .master-refusal .ensures) ∙ c .before .before .before .before .before .before .before .before .if1 .left)),
       omega (arith, c .before .before .before .count-cases .ensures .0, c .before .if4 .left),
     )
 
@@ -94,7 +95,7 @@ same-length c = search needs
 returns-5 : tie.Need-returns-5
 returns-5 c =
     let a = c .before .before .before .before .before .before .before .before .before .before .before .before .before .before .before .before .before .before .before .before .before .before .before .args in
-    let e : masterRefusal (a .master .now) (a .rows) 0 ≡ 0 = sym (c .before .before .before .before .before .before .before .before .before .before .before .before .before .before .before .before .before .before .master-refusal .ensures) ∙ c .before .before .before .before .before .before .before .before .before .before .before .before .before .before .before .before .before .if1 .left in
+    let e : masterRefusal maxRows (a .master .now) (a .rows) 0 ≡ 0 = sym (c .before .before .before .before .before .before .before .before .before .before .before .before .before .before .before .before .before .before .master-refusal .ensures) ∙ c .before .before .before .before .before .before .before .before .before .before .before .before .before .before .before .before .before .if1 .left in
     let s : isState (a .state .now) ≡ true = sym (c .before .before .before .before .before .before .before .before .before .before .before .before .before .before .before .before .is-state .ensures) ∙ not-false _ (c .before .before .before .before .before .before .before .before .before .before .before .before .before .before .before .if2 .left) in
     let d : isDate (a .date .now) ≡ true = sym (c .before .before .before .before .before .before .before .before .before .before .before .before .before .before .is-date .ensures) ∙ not-false _ (c .before .before .before .before .before .before .before .before .before .before .before .before .before .if3 .left) in
     let k = c .before .before .before .before .before .before .before .before .before .before .before .before .count-cases .ensures in

@@ -1,0 +1,3 @@
+pub mod ExclusionsLaws
+pub mod ExclusionTextLaws
+pub mod WordsWrittenLaws
