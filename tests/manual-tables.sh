@@ -90,7 +90,7 @@ columns_of 'The TOTAL record of a collection file' 240 collections/specs/Chart05
 # names_of HEADING WIDTH KIND FRONT [FROM]: the table, from a column on, against what `show` lists of the last record of a file of that kind. The
 # file has two records of hyphens, the last with FRONT in front.
 names_of() {
-    local record listed options=(--list --from 2) from=${5:-1}
+    local record listed options=(--list --from 2 --all) from=${5:-1}
     printf -v record '%*s' "$2" ''
     record=${record// /-}
     printf '%s' "$record$4${record:${#4}}" >"$work/file"
@@ -113,6 +113,14 @@ if [ -x target/program/fantanolive ]; then
     names_of 'The TOTAL record of a collection file' 240 collections '-----TOTAL    '
 else
     echo 'skipped: the program is not built, so the names of fields are not compared with those it shows'
+fi
+
+# --- Statuses: those of the help.
+
+if [ -x target/program/fantanolive ]; then
+    shown=$(section '### For other programs' | sed -nE 's/^\| ([0-9]) \| (.*) \|$/\1  \2/p')
+    helped=$(target/program/fantanolive --help | sed -n '/^Exit status:$/,$p' | sed 1d | sed -E -e ':join' -e '$!N' -e 's/\n {5}/ /' -e 't join' -e 'P' -e 'D' | sed 's/^  //')
+    compare statuses "$shown" "$helped"
 fi
 
 # --- Names of definitions and theorems.

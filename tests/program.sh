@@ -40,30 +40,31 @@ make_contacts | ebcdic >"$work/inputs/contacts.bin"
 : >"$work/inputs/table.bin"
 printf '000123' | ebcdic >"$work/inputs/locals.bin"
 cp -r "$work/inputs" "$work/start"
-for file in rejects.bin rec.bin batch.txt; do printf 'the old %s' "$file" >"$work/start/$file"; done
 chmod 640 "$work/start/"*
 
-# A new folder $dir with the files, and old ones in the place of those that are written.
+# A new folder $dir with the files.
 fresh() {
     dir=$work/case
     rm -rf "$dir"
     cp -rp "$work/start" "$dir"
 }
 
-# choose NAME: a command: its arguments, the files that it replaces in their order, and the status of a clean run.
+# choose NAME: a command: its arguments, the files that it makes or replaces in their order, those of them that it makes, and the status of a clean run.
 choose() {
     name_of=$1
     clean=1
+    made=
     case $1 in
     apply)
         arguments=(apply master.bin batch.bin --locals locals.bin --year 2007 --rejects rejects.bin)
         outputs=(rejects.bin master.bin)
+        made=rejects.bin
         ;;
     post) arguments=(post master.bin weekly.bin) outputs=(master.bin) ;;
     add-cents) arguments=(add-cents old.bin) outputs=(old.bin) clean=0 ;;
-    contacts) arguments=(contacts table.bin contacts.bin) outputs=(table.bin) ;;
-    reconcile) arguments=(reconcile master.bin --state OH --date 20071231 --out rec.bin) outputs=(rec.bin) clean=0 ;;
-    to-ascii) arguments=(to-ascii batch.bin --out batch.txt) outputs=(batch.txt) clean=0 ;;
+    contacts) arguments=(contacts table.bin contacts.bin --new) outputs=(table.bin) ;;
+    reconcile) arguments=(reconcile master.bin --state OH --date 20071231 --out rec.bin) outputs=(rec.bin) made=rec.bin clean=0 ;;
+    to-ascii) arguments=(to-ascii batch.bin --out batch.txt) outputs=(batch.txt) made=batch.txt clean=0 ;;
     esac
     program=("$work/fantanolive" "${arguments[@]}")
 }
@@ -92,7 +93,7 @@ sum_of() {
     if [ -f "$1" ] && text=$(sha256sum <"$1" 2>/dev/null); then sum=${text%% *}; else sum=none; fi
 }
 
-# What each output is, in order: old, new, none or part.
+# What each output is, in order: old (or not there yet), new, none or part.
 states() {
     local file
     found=
@@ -148,10 +149,11 @@ want_done() {
     want_none_left .tmp .lock
 }
 
-# The run after: fresh inputs beside what the last run left.
+# The run after: fresh inputs beside what the last run left, but for a file that it made.
 want_next() {
     [ -n "$wrong" ] && return
     cp -p "$work/inputs/"* "$dir"
+    [ -z "$made" ] || rm -f "$dir/$made"
     run "${program[@]}"
     want_done
     [ -n "$wrong" ] && wrong="the next run: $wrong"
@@ -180,7 +182,7 @@ for each in $commands; do
     for file in "${outputs[@]}"; do
         sum_of "$dir/$file" && new_sum[$name_of/$file]=$sum
         want "$file" "$([ "$sum" = "${old_sum[$name_of/$file]}" ] && echo unchanged)" ''
-        want "mode of $file" "$(stat -c %a "$dir/$file")" 640
+        want "mode of $file" "$(stat -c %a "$dir/$file")" "$([ "$file" = "$made" ] && echo 600 || echo 640)"
     done
     want_done
     end
@@ -249,8 +251,10 @@ unprivileged() {
         chgrp 4711 "$dir/master.bin"
         chmod 664 "$dir/master.bin"
         run setpriv --reuid="$(id -u nobody)" --regid="$(id -g nobody)" --groups=4711 -- "${program[@]}"
-        want status "$status" 1
-        want 'group and mode' "$(stat -c '%g %a' "$dir/master.bin")" '4711 664'
+        want status "$status" 3
+        want_message "master.bin: can't be written: its owner can't be kept"
+        want_files old
+        want_none_left .tmp .lock .log
         end
     fi
     begin 'looking into a read-only folder'
@@ -378,7 +382,7 @@ start_waiting
 start=$(date +%s%N)
 not_written_once() {
     run "${program[@]}"
-    want status "$status" 3
+    want status "$status" 5
     want_message 'master.bin: another run is at work on it'
     want_files old
     want_none_left .tmp
@@ -386,7 +390,7 @@ not_written_once() {
 not_written_once
 want 'told at once' "$((($(date +%s%N) - start) / 1000000 < 1000))" 1
 run "$work/fantanolive" add-cents master.bin
-want status "$status" 3
+want status "$status" 5
 want_message 'another run is at work on it'
 cat "$work/inputs/batch.bin" >"$dir/pipe"
 wait "$waiting"
@@ -464,7 +468,7 @@ fi
 
 # --- System calls. A point is a call's name and its number among those of its name.
 
-calls='openat,read,write,fsync,fdatasync,?rename,renameat,renameat2,?unlink,unlinkat,flock,fchmod,fchown,statx'
+calls='openat,read,write,fsync,fdatasync,?rename,renameat,renameat2,?unlink,unlinkat,flock,fchmod,fchown,statx,flistxattr,fgetxattr'
 
 # Reads $work/trace from the first call that names one of the files on. points are all calls; changes their places that lock, make, write, sync, rename or
 # remove; place_of the place of each output's rename; said that of the report; order what is synced, renamed and printed.
@@ -483,7 +487,7 @@ read_trace() {
         [[ $text == *'.bin'* ]] && started=yes
         [ -n "$started" ] || continue
         case $call in
-        read | statx) ;;
+        read | statx | *xattr) ;;
         openat) [[ $text == *O_CREAT* || $text == *"$dir\""* ]] && changes+=("${#points[@]}") ;;
         *) changes+=("${#points[@]}") ;;
         esac
@@ -491,7 +495,7 @@ read_trace() {
         rename*)
             order+='rename '
             for file in "${outputs[@]}"; do
-                [[ $text == *"/$file\")"* ]] && place_of[$file]=${#points[@]}
+                [[ $text == *"/$file\""* ]] && place_of[$file]=${#points[@]}
             done
             ;;
         write) [[ $text == *'write(1, '* ]] && said=${#points[@]} && order+='report ' ;;
@@ -509,24 +513,16 @@ traced() {
 want_replaced() {
     local wanted= file
     for file in "${outputs[@]}"; do
-        if [ "${place_of[$file]}" -lt "$1" ]; then wanted+='new '; else wanted+="$before "; fi
+        if [ "${place_of[$file]}" -lt "$1" ]; then wanted+='new '; else wanted+='old '; fi
     done
     states
     want files "$found" "$wanted"
 }
 
-# fresh_with STATE: the first output as it was, or none.
-fresh_with() {
-    fresh
-    before=old
-    [ "$1" = old ] || rm "$dir/${outputs[0]}"
-    [ "$1" = old ] || before=none
-}
-
 # cut_off PLACE CALL NUMBER: killed before the call.
 cut_off() {
     begin "$name_of killed before $2 $3"
-    fresh_with old
+    fresh
     run traced -e trace="$2" -e inject="$2":signal=SIGKILL:when="$3"
     want status "$status" 137
     want_replaced "$1"
@@ -534,18 +530,19 @@ cut_off() {
     end
 }
 
-# failing PLACE CALL NUMBER ERROR: either the run is carried out all the same, or it says what failed and has replaced what stood before.
+# failing PLACE CALL NUMBER ERROR: either the run is carried out all the same, or it says what failed. Then with status 3 nothing is changed, with status 4 all
+# files are new.
 failing() {
     begin "$name_of, $2 $3 fails with $4"
-    fresh_with old
+    fresh
     run traced -e trace="$2" -e inject="$2":error="$4":when="$3"
-    want status "$status" "$clean" 3
+    want status "$status" "$clean" 3 4
+    [ "$status" = "$clean" ] || [ -s "$err" ] || want 'standard error' nothing 'a message'
     if [ "$status" = 3 ]; then
-        [ -s "$err" ] || want 'standard error' nothing 'a message'
-        want_replaced "$1"
-        [ "$1" -gt "${place_of[${outputs[-1]}]}" ] && [ "$1" != "$said" ] && want report "$(wc -l <"$out")" "$lines"
+        want_files old
     else
         want_files new
+        [ "$1" = "$said" ] || want report "$(wc -l <"$out")" "$lines"
     fi
     want_none_left .tmp
     # a lock file that could not be locked or removed may stay: without its lock it stops no run
@@ -560,13 +557,13 @@ failing() {
 # failing_on CALL NUMBER ERROR: this call and all later ones of its name, and each that removes a file.
 failing_on() {
     begin "$name_of, $1 from $2 on and each unlink fail with $3"
-    fresh_with old
+    fresh
     if [ "$1" = unlink ]; then
         run traced -e trace="$1" -e inject="$1":error="$3":when="$2"+
     else
         run traced -e trace="$1,unlink" -e inject="$1":error="$3":when="$2"+ -e inject=unlink:error="$3"
     fi
-    want status "$status" "$clean" 3
+    want status "$status" "$clean" 3 4
     states
     [[ $found == *part* || $found == *none* ]] && want files "$found" 'old or new'
     [ "$status" = 3 ] || want_files new
@@ -577,16 +574,16 @@ failing_on() {
 # trace_all ERROR..: every point of a command.
 trace_all() {
     local place call number error
-    fresh_with old
+    fresh
     run traced -e trace="$calls"
     lines=$(wc -l <"$out")
     read_trace
     begin "the trace of $name_of"
-    if [ "${#outputs[@]}" = 2 ]; then
-        want order "$order" 'sync sync rename rename sync report '
-    else
-        want order "$order" 'sync rename sync report '
-    fi
+    case $name_of in
+    apply) want order "$order" 'sync sync sync rename rename rename sync report ' ;;
+    post) want order "$order" 'sync sync rename rename sync report ' ;;
+    *) want order "$order" 'sync rename sync report ' ;;
+    esac
     want changes "$((${#changes[@]} > 8))" 1
     end
     for place in "${!points[@]}"; do
@@ -617,9 +614,10 @@ removed_lock() {
     wait "$waiting"
     rm "$dir/pipe"
     cp -p "$work/inputs/"* "$dir"
+    rm "$dir/rejects.bin"
     start_waiting
     wait "$late"
-    want 'status of the late run' "$?" 3
+    want 'status of the late run' "$?" 5
     want_message 'another run is at work on it'
     cat "$work/inputs/batch.bin" >"$dir/pipe"
     wait "$waiting"

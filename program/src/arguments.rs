@@ -4,9 +4,9 @@ use std::ffi::{OsStr, OsString};
 use std::os::unix::ffi::OsStrExt;
 use std::path::Path;
 
-use crate::failure::Failure;
+use crate::failure::{Failure, STANDARD};
 use crate::nearest::nearest;
-use crate::syntax::{command, Command, COMMANDS, HELP, JSON};
+use crate::syntax::{command, Command, COMMANDS, FULL, HELP, JSON};
 
 /// A command with what was given to it.
 pub struct Arguments {
@@ -46,6 +46,28 @@ impl Arguments {
         self.value(name).is_some()
     }
 
+    /// Whether a file is written to standard output, so that the report goes to standard error.
+    pub fn prints_file(&self) -> bool {
+        let made = self.command.made.iter();
+        let mut places = made.filter_map(|option| self.value(option));
+        places.any(|place| place == STANDARD)
+    }
+
+    /// The mode that --mode gives new files.
+    pub fn mode(&self) -> Result<Option<u32>, Failure> {
+        let Some(value) = self.value("--mode") else {
+            return Ok(None);
+        };
+        let text = value.to_str().filter(|text| text.len() == 3);
+        match text.and_then(|text| u32::from_str_radix(text, 8).ok()) {
+            Some(mode) => Ok(Some(mode)),
+            None => Err(self.wrong(format!(
+                "--mode wants three octal digits such as 640, not '{}'",
+                value.to_string_lossy()
+            ))),
+        }
+    }
+
     /// A message on an argument of this command.
     pub fn wrong(&self, message: impl Into<String>) -> Failure {
         wrong(Some(self.command), message)
@@ -74,17 +96,6 @@ fn wrong(command: Option<&'static Command>, message: impl Into<String>) -> Failu
         message: message.into(),
         command: command.map(|command| command.name),
     }
-}
-
-/// A text that may hold a key: nine digits that stand alone are masked as an SSN is.
-pub fn masked(text: &str) -> String {
-    let mut shown: Vec<char> = text.chars().collect();
-    for run in shown.chunk_by_mut(|one, next| one.is_ascii_digit() == next.is_ascii_digit()) {
-        if run.len() == 9 && run[0].is_ascii_digit() {
-            run[..5].fill('*');
-        }
-    }
-    shown.into_iter().collect()
 }
 
 /// `unknown WHAT 'GIVEN'`, and what may have been meant.
@@ -140,6 +151,11 @@ fn before_dashes(list: &[OsString]) -> impl Iterator<Item = &OsString> {
 /// Whether --help stands before a `--`.
 fn asks_for_help(list: &[OsString]) -> bool {
     before_dashes(list).any(|a| a == HELP.name || a == "-h")
+}
+
+/// Whether --full stands before a `--`.
+pub fn asks_for_full(list: &[OsString]) -> bool {
+    before_dashes(list).any(|a| a == FULL.name)
 }
 
 /// Whether --json stands before a `--`, so that a command line that can't be taken is told in JSON too.
@@ -208,14 +224,39 @@ fn complete(arguments: &Arguments) -> Result<(), Failure> {
         return Err(arguments.wrong(format!("{name} is missing")));
     }
     if let Some(extra) = arguments.operands.get(command.operands.len()) {
-        let shown = masked(&extra.to_string_lossy());
+        let shown = extra.to_string_lossy();
         return Err(arguments.wrong(format!("'{shown}' is one argument too many")));
     }
+    see_standard(arguments)?;
     for option in command.options.iter().filter(|option| option.required) {
         if arguments.value(option.name).is_none() {
             let value = option.value.unwrap_or("");
             return Err(arguments.wrong(format!("{} {value} is missing", option.name)));
         }
+    }
+    Ok(())
+}
+
+/// Sees that no master or table is to come from standard input, and no two inputs.
+fn see_standard(arguments: &Arguments) -> Result<(), Failure> {
+    let command = arguments.command;
+    let is_standard = |place: &&OsString| **place == STANDARD;
+    let operands = command.operands.iter().zip(&arguments.operands);
+    for (name, _) in operands.clone().filter(|(_, given)| is_standard(given)) {
+        if command.kept.contains(name) {
+            let what = format!("{name} can't be -: it is no file to be read or written once");
+            return Err(arguments.wrong(what));
+        }
+    }
+    let of_operands = operands.map(|(_, given)| given);
+    let reads = |(name, _): &&(&str, OsString)| command.read.contains(name);
+    let of_options = arguments
+        .options
+        .iter()
+        .filter(reads)
+        .map(|(_, given)| given);
+    if of_operands.chain(of_options).filter(is_standard).count() > 1 {
+        return Err(arguments.wrong("- is standard input, and can be one of the inputs alone"));
     }
     Ok(())
 }

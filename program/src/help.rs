@@ -2,6 +2,7 @@
 
 use fantanolive::VERSION;
 
+use crate::failure::{Status, STATUSES};
 use crate::syntax::{Command, Opt, COMMANDS, HELP};
 
 const WIDTH: usize = 80;
@@ -39,7 +40,9 @@ fn usage(command: &Command) -> String {
 
 /// The help of a command.
 pub fn of_command(command: &Command) -> String {
-    let mut text = format!("{}\n\n{}\n\noptions:\n", usage(command), command.help);
+    let mut text = format!("{}\n\n{}\n\n", usage(command), command.help);
+    text += &statuses(|status| command.statuses.contains(&status));
+    text += "\noptions:\n";
     for option in command.options.iter().chain([&HELP]) {
         let name = match option.value {
             Some(value) => format!("{} {value}", option.name),
@@ -64,13 +67,22 @@ pub fn of_program() -> String {
              prints the version.\n\n\
              Files are in EBCDIC, without line ends; --ascii is for files in ASCII, but a\n\
              master and a table of contact records are always in EBCDIC. SSNs are printed\n\
-             with their last four digits alone unless --full is given.\n\n\
-             Exit status: 0 carried out, nothing rejected; 1 carried out, with rejects;\n\
-             2 refused, no file changed; 3 a file or argument problem.\n";
+             with their last four digits alone unless --full is given. - is standard input\n\
+             or output in the place of any file but a master or a table that is kept.\n\n";
+    text += &statuses(|_| true);
     text
 }
 
 /// `fantanolive VERSION`.
 pub fn version() -> String {
     format!("fantanolive {VERSION}\n")
+}
+
+/// The table of statuses, or those of a command.
+fn statuses(is_shown: impl Fn(Status) -> bool) -> String {
+    let mut text = String::from("Exit status:\n");
+    for (status, words) in STATUSES.iter().filter(|(status, _)| is_shown(*status)) {
+        text += &format!("  {}  {words}\n", *status as u8);
+    }
+    text
 }

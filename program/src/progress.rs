@@ -5,6 +5,7 @@ use std::sync::{Arc, Condvar, Mutex};
 use std::thread::{self, JoinHandle};
 use std::time::{Duration, Instant};
 
+use crate::mask::masked;
 use crate::report::screen::printable;
 use crate::terminal;
 
@@ -91,6 +92,7 @@ fn watch(shared: &Shared, start: Instant, width: usize) {
         if now >= start && state.shown != state.doing {
             state.shown = state.doing.clone();
             let line = printable(&state.shown);
+            let line = masked(&line);
             let cut: String = line.chars().take(width.saturating_sub(1)).collect();
             show(&cut);
         }

@@ -8,13 +8,14 @@ use std::os::unix::ffi::OsStrExt;
 
 use common::*;
 
-const COMMANDS: [&str; 12] = [
+const COMMANDS: [&str; 13] = [
     "apply",
     "check",
     "find",
     "reconcile",
     "post",
     "add-cents",
+    "log",
     "contacts",
     "codes",
     "to-ebcdic",
@@ -158,7 +159,7 @@ fn help_of_every_command() {
         assert_eq!((help.status, help.err.as_str()), (0, ""), "{command}");
         let start = format!("usage: fantanolive {command} ");
         assert!(help.out.starts_with(&start), "{command}");
-        assert!(help.out.contains("Exit status: "), "{command}");
+        assert!(help.out.contains("\nExit status:\n  0  "), "{command}");
         assert!(
             help.out.lines().all(|line| line.chars().count() <= 80),
             "{command}"
@@ -214,7 +215,7 @@ fn a_report_into_a_file_that_is_written() {
     let file = File::create(folder.path("report.bin")).expect("it can be made");
     let mut arguments = APPLY;
     arguments[8] = "report.bin";
-    let mut command = folder.command(&arguments);
+    let mut command = folder.command(&with(&arguments, &["--force"]));
     let ran: Ran = command.stdout(file).output().expect("it can be run").into();
     assert_eq!(ran.status, 3, "{ran:?}");
     let message = "report.bin: can't be written: the report is printed to it";

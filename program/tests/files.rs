@@ -26,6 +26,11 @@ fn applied(folder: &Folder) {
     }
 }
 
+/// The arguments of apply over an empty master and an old reject file.
+fn forced() -> Vec<&'static str> {
+    with(&APPLY, &["--new", "--force"])
+}
+
 /// A folder with the example, an empty master and an old reject file.
 fn folder(name: &str) -> Folder {
     let folder = Folder::with_example(name);
@@ -37,14 +42,14 @@ fn folder(name: &str) -> Folder {
 #[test]
 fn modes_are_kept() {
     let folder = folder("files-modes");
-    for (master, rejects) in [(0o600, 0o640), (0o664, 0o604), (0o444, 0o400)] {
+    for (master, rejects) in [(0o600, 0o640), (0o664, 0o604), (0o600, 0o600)] {
         folder.write("new.bin", &[]);
         fs::rename(folder.path("new.bin"), folder.path("master.bin")).expect("renamed");
         for (name, bits) in [("master.bin", master), ("rejects.bin", rejects)] {
             let permissions = Permissions::from_mode(bits);
             fs::set_permissions(folder.path(name), permissions).expect("set");
         }
-        assert_eq!(folder.run(&APPLY).status, 1);
+        assert_eq!(folder.run(&forced()).status, 1);
         applied(&folder);
         assert_eq!(mode(&folder, "master.bin"), master);
         assert_eq!(mode(&folder, "rejects.bin"), rejects);
@@ -58,7 +63,7 @@ fn links_stay_links() {
     fs::rename(folder.path("master.bin"), folder.path("far/real.bin")).expect("renamed");
     symlink("real.bin", folder.path("far/link")).expect("linked");
     symlink("far/link", folder.path("master.bin")).expect("linked");
-    let ran = folder.run(&APPLY);
+    let ran = folder.run(&forced());
     assert_eq!(ran.status, 1, "{ran:?}");
     applied(&folder);
     assert_eq!(folder.read("far/real.bin"), paper_row());
@@ -71,7 +76,7 @@ fn links_stay_links() {
 fn files_in_other_folders() {
     let folder = folder("files-far");
     fs::create_dir(folder.path("far")).expect("made");
-    let mut apply = APPLY;
+    let mut apply = forced();
     apply[8] = "far/rejects.bin";
     assert_eq!(folder.run(&apply).status, 1);
     assert_eq!(folder.read("far/rejects.bin"), paper_rejects());
@@ -83,11 +88,12 @@ fn files_in_other_folders() {
 
 #[test]
 fn first_runs() {
-    let folder = folder("files-new");
+    let folder = Folder::with_example("files-new");
+    folder.write("master.bin", &paper_row());
     let ran = folder.run(&with(&APPLY, &["--new"]));
     assert_eq!(ran.status, 3);
     assert!(ran.err.contains("is there already"));
-    assert_eq!(folder.read("rejects.bin"), b"old");
+    assert!(!folder.has("rejects.bin"));
     fs::remove_file(folder.path("master.bin")).expect("removed");
     let ran = folder.run(&APPLY);
     assert_eq!(ran.status, 3);
@@ -101,11 +107,39 @@ fn first_runs() {
     assert_eq!(folder.run(&with(&APPLY, &["--new"])).status, 1);
     applied(&folder);
     assert_eq!(folder.read("far/real.bin"), paper_row());
+    assert!(folder.has("far/real.bin.log") && !folder.has("master.bin.log"));
     // links that lead nowhere
     symlink("round", folder.path("round")).expect("linked");
-    let mut apply = APPLY;
+    let mut apply = forced();
     apply[1] = "round";
     assert_eq!(folder.run(&apply).status, 3);
+}
+
+#[test]
+fn empty_files_are_no_master() {
+    let folder = folder("files-empty");
+    folder.write("weekly.bin", &weekly());
+    folder.write("contacts.bin", &contact_file());
+    let reconcile = ["reconcile", "master.bin", "--state", "OH", "--date"];
+    for arguments in [
+        with(&APPLY, &["--force"]),
+        CHECK.to_vec(),
+        vec!["find", "master.bin", "OH123456789N"],
+        with(&reconcile, &["20071231", "--out", "out.bin"]),
+        vec!["post", "master.bin", "weekly.bin"],
+        vec!["post", "master.bin", "weekly.bin", "--dry-run"],
+        vec!["add-cents", "master.bin"],
+        vec!["contacts", "master.bin", "contacts.bin"],
+    ] {
+        let ran = folder.run(&arguments);
+        assert_eq!(ran.status, 3, "{arguments:?}: {ran:?}");
+        let message = "master.bin: is empty: it may have been cut off";
+        assert!(ran.err.contains(message), "{arguments:?}: {}", ran.err);
+        assert_eq!(folder.read("master.bin"), b"");
+    }
+    assert_eq!(folder.run(&with(&CHECK, &["--new"])).status, 1);
+    assert_eq!(folder.run(&forced()).status, 1);
+    applied(&folder);
 }
 
 #[test]
@@ -115,7 +149,7 @@ fn leftovers_do_not_stop_a_run() {
         folder.write(&format!("{name}.tmp"), &[7; 5000]);
         folder.write(&format!("{name}.lock"), b"");
     }
-    assert_eq!(folder.run(&APPLY).status, 1);
+    assert_eq!(folder.run(&forced()).status, 1);
     applied(&folder);
 }
 
@@ -124,7 +158,7 @@ fn temporary_names_that_can_not_be_used() {
     for name in ["master.bin", "rejects.bin"] {
         let folder = folder("files-temporary");
         fs::create_dir(folder.path(&format!("{name}.tmp"))).expect("made");
-        let ran = folder.run(&APPLY);
+        let ran = folder.run(&forced());
         assert_eq!(ran.status, 3);
         assert!(
             ran.err.contains(&format!("{name}: can't be written")),
@@ -135,7 +169,7 @@ fn temporary_names_that_can_not_be_used() {
         assert_eq!(folder.read("rejects.bin"), b"old");
         assert_eq!(folder.read("master.bin"), b"");
         fs::remove_dir(folder.path(&format!("{name}.tmp"))).expect("removed");
-        assert_eq!(folder.run(&APPLY).status, 1);
+        assert_eq!(folder.run(&forced()).status, 1);
         applied(&folder);
     }
 }
@@ -145,7 +179,7 @@ fn lock_files_of_others_stay() {
     let folder = folder("files-other-locks");
     let lock = folder.path("master.bin.lock");
     let refused = |folder: &Folder| {
-        let ran = folder.run(&APPLY);
+        let ran = folder.run(&forced());
         assert_eq!(ran.status, 3, "{ran:?}");
         assert!(
             ran.err.contains("master.bin.lock can't be used"),
@@ -169,7 +203,7 @@ fn lock_files_of_others_stay() {
     assert!(made.is_ok_and(|status| status.success()));
     refused(&folder);
     fs::remove_file(&lock).expect("it is still there");
-    assert_eq!(folder.run(&APPLY).status, 1);
+    assert_eq!(folder.run(&forced()).status, 1);
     applied(&folder);
 }
 
@@ -190,10 +224,12 @@ fn one_file_is_not_two() {
         ("master.bin", "batch.bin", "locals.bin", "./locals.bin"),
         ("master.bin", "batch.bin", "locals.bin", "master.bin.tmp"),
         ("master.bin", "batch.bin", "locals.bin", "master.bin.lock"),
+        ("master.bin", "batch.bin", "locals.bin", "master.bin.log"),
         ("master.bin", "batch.bin.tmp", "locals.bin", "batch.bin"),
     ] {
         let lists = ["--locals", locals, "--year", "2007", "--rejects", rejects];
-        let ran = folder.run(&with(&["apply", master, batch], &lists));
+        let apply = with(&["apply", master, batch], &lists);
+        let ran = folder.run(&with(&apply, &["--force"]));
         assert_eq!(ran.status, 3, "{master} {batch} {rejects}: {ran:?}");
         assert!(
             ran.err.contains("can't be written: the run "),
@@ -221,20 +257,20 @@ fn two_runs_at_once() {
         let lock = folder.path(&format!("{name}.lock"));
         let file = File::create(&lock).expect("made");
         file.lock().expect("locked");
-        let ran = folder.run(&APPLY);
-        assert_eq!(ran.status, 3);
+        let ran = folder.run(&forced());
+        assert_eq!(ran.status, 5);
         let words = format!("{name}: another run is at work on it");
         assert!(ran.err.contains(&words), "{}", ran.err);
         assert_eq!(folder.read("master.bin"), b"");
         assert!(lock.exists());
         // looking is not kept apart
-        assert_eq!(folder.run(&CHECK).status, 1);
+        assert_eq!(folder.run(&with(&CHECK, &["--new"])).status, 1);
         assert_eq!(folder.run(&["show", "master", "master.bin"]).status, 0);
         // a child that another test starts may still hold the file for a moment, so it is not enough to drop it
         file.unlock().expect("unlocked");
         // the lock went with its run; its file may stay
         folder.write("master.bin", &[]);
-        assert_eq!(folder.run(&APPLY).status, 1);
+        assert_eq!(folder.run(&forced()).status, 1);
         applied(&folder);
         folder.write("master.bin", &[]);
     }
@@ -248,7 +284,7 @@ fn many_runs_at_once_leave_a_whole_master() {
     let file = [line("987654321", "A", none, "00000000100"), total(1, 0)];
     folder.write("weekly.bin", &file.concat());
     let spawn = |_| {
-        let mut command = folder.command(&["post", "two.bin", "weekly.bin"]);
+        let mut command = folder.command(&["post", "two.bin", "weekly.bin", "--again"]);
         command.stdout(Stdio::null()).stderr(Stdio::null());
         command.spawn().expect("it can be run")
     };
@@ -259,7 +295,7 @@ fn many_runs_at_once_leave_a_whole_master() {
     });
     let done = statuses.filter(|status| match status {
         0 => true,
-        3 => false,
+        5 => false,
         other => panic!("status {other}"),
     });
     // each run that was carried out, and no other, has added a dollar
@@ -299,29 +335,31 @@ fn outputs_that_are_not_read() {
 #[test]
 fn outputs_that_take_nothing() {
     let folder = folder("files-full");
+    let full = || {
+        let options = File::options().write(true).open("/dev/full");
+        options.expect("it is there")
+    };
     for form in [&[][..], &["--json"]] {
         folder.write("master.bin", &[]);
-        let full = File::options()
-            .write(true)
-            .open("/dev/full")
-            .expect("it is there");
-        let mut command = folder.command(&with(&APPLY, form));
-        let ran: Ran = command.stdout(full).output().expect("it can be run").into();
-        assert_eq!(ran.status, 3, "{ran:?}");
-        assert!(
-            ran.err.contains("standard output can't be written"),
-            "{}",
-            ran.err
-        );
+        let mut command = folder.command(&with(&forced(), form));
+        let ran: Ran = command.stdout(full()).output().expect("it runs").into();
+        // carried out and on the disk, which a script must be able to tell from nothing changed
+        assert_eq!(ran.status, 4, "{ran:?}");
+        assert!(ran.err.contains("standard output can't be written"));
+        assert!(ran.err.contains("don't run it again"), "{}", ran.err);
         applied(&folder);
     }
-    for arguments in [&["--help"][..], &["--version"], &["explain", "1"]] {
-        let full = File::options()
-            .write(true)
-            .open("/dev/full")
-            .expect("it is there");
+    for arguments in [
+        &["--help"][..],
+        &["--version"],
+        &["explain", "1"],
+        &["show", "master", "master.bin"],
+        &["log", "master.bin"],
+        &CHECK,
+    ] {
         let mut command = folder.command(arguments);
-        let ran: Ran = command.stdout(full).output().expect("it can be run").into();
+        let ran: Ran = command.stdout(full()).output().expect("it runs").into();
         assert_eq!(ran.status, 3, "{arguments:?}");
+        assert!(ran.err.contains("no file is changed"), "{}", ran.err);
     }
 }

@@ -30,7 +30,13 @@ fn paper_example_applied() {
     compare(&folder, &with(&APPLY, &["--new"]), 1, "apply.txt");
     assert_eq!(folder.read("master.bin"), paper_row());
     assert_eq!(folder.read("rejects.bin"), paper_rejects());
-    let names = ["batch.bin", "locals.bin", "master.bin", "rejects.bin"];
+    let names = [
+        "batch.bin",
+        "locals.bin",
+        "master.bin",
+        "master.bin.log",
+        "rejects.bin",
+    ];
     assert_eq!(folder.names(), names);
 }
 
@@ -99,7 +105,7 @@ fn found_and_reconciled() {
     assert_eq!(folder.read("rec.bin"), [rec, rct].concat());
     let show = ["show", "reconciliation", "rec.bin", "--list"];
     compare(&folder, &show, 0, "show-reconciliation.txt");
-    let ran = folder.run(&with(&reconcile, &["--ascii"]));
+    let ran = folder.run(&with(&reconcile, &["--ascii", "--force"]));
     assert_eq!(ran.status, 0);
     assert!(folder.read("rec.bin").starts_with(b"RECOH000123456789"));
 }
@@ -143,7 +149,7 @@ fn contacts_and_codes() {
     let codes = ["codes", "table.bin", "--state", "OH", "--out", "codes.bin"];
     compare(&folder, &codes, 0, "codes.txt");
     assert_eq!(folder.read("codes.bin"), ebcdic("001007"));
-    assert_eq!(folder.run(&with(&codes, &["--ascii"])).status, 0);
+    assert_eq!(folder.run(&with(&codes, &["--ascii", "--force"])).status, 0);
     assert_eq!(folder.read("codes.bin"), b"001007");
 }
 

@@ -72,14 +72,14 @@ fn folder(name: &str) -> Folder {
 fn every_command() {
     let folder = folder("json-commands");
     let reconcile = ["reconcile", "master.bin", "--state", "OH", "--date"];
-    let out = ["--out", "out.bin"];
+    let out = ["--out", "out.bin", "--force"];
     let codes = ["codes", "table.bin", "--state"];
     for (arguments, status, outcome) in [
         (APPLY.to_vec(), 1, "carried out"),
-        (CHECK.to_vec(), 1, "carried out"),
+        (CHECK.to_vec(), 1, "would be carried out"),
         (with(&APPLY, &["--new"]), 3, "failed"),
         (vec!["find", "master.bin", "OH123456789N"], 0, "carried out"),
-        (vec!["find", "master.bin", "OH123456789A"], 2, "refused"),
+        (vec!["find", "master.bin", "OH123456789A"], 6, "not found"),
         (vec!["find", "none", "OH123456789A"], 3, "failed"),
         (vec!["show", "master", "a\"b\\c.bin"], 0, "carried out"),
         (vec!["find", "a\"b\\c.bin", "OH1"], 2, "refused"),
@@ -90,7 +90,16 @@ fn every_command() {
             "carried out",
         ),
         (with(&reconcile, &with(&["20071331"], &out)), 2, "refused"),
+        (
+            vec!["post", "two.bin", "weekly.bin", "--dry-run"],
+            1,
+            "would be carried out",
+        ),
         (vec!["post", "two.bin", "weekly.bin"], 1, "carried out"),
+        (vec!["post", "two.bin", "weekly.bin"], 3, "failed"),
+        (vec!["log", "two.bin"], 0, "carried out"),
+        (vec!["log", "master.bin"], 0, "carried out"),
+        (vec!["log", "none"], 3, "failed"),
         (vec!["post", "two.bin", "batch.bin"], 2, "refused"),
         (vec!["add-cents", "old.bin"], 0, "carried out"),
         (vec!["add-cents", "old.bin"], 2, "refused"),

@@ -41,7 +41,7 @@ fn remainders() {
         text.contains("refused 3: ") && text.contains(whole),
         "{text}"
     );
-    folder.write("master.bin", &[]);
+    folder.write("master.bin", &paper_row());
     folder.write("locals.bin", &ebcdic("0010"));
     let text = message(&folder, &CHECK, 2);
     let whole = "locals.bin: 4 bytes: 1 code of 3 bytes and 1 byte over";
@@ -156,7 +156,7 @@ fn a_wrong_length_is_shown_and_told() {
     folder.write("batch.bin", &paper_batch()[..500]);
     let ran = folder.run(&["show", "batch", "batch.bin"]);
     assert_eq!(ran.status, 3);
-    assert_eq!(ran.out.lines().count(), 3);
+    assert_eq!(ran.out.lines().count(), 4);
     assert!(ran.err.contains("2 records of 245 bytes and 10 bytes over"));
     let ran = folder.run(&["show", "batch", "batch.bin", "--json"]);
     assert_eq!((ran.status, ran.err.as_str()), (3, ""));
@@ -165,7 +165,7 @@ fn a_wrong_length_is_shown_and_told() {
     let ran = folder.run(&["show", "batch", "batch.bin"]);
     assert_eq!(
         (ran.status, ran.out.as_str(), ran.err.as_str()),
-        (0, "", "")
+        (0, "no record: the file has none\n", "")
     );
 }
 

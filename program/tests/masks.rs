@@ -151,7 +151,7 @@ fn input_without_end_is_no_key() {
     for input in [&long[..], "OH123456789NN\n", "OH123456789N OH\n"] {
         let ran = folder.run_with_input(&["find", "master.bin", "-"], input);
         assert_eq!(ran.status, 2, "{ran:?}");
-        assert!(ran.err.contains("refused 14"));
+        assert!(ran.out.contains("refused 14") && ran.out.contains("  line     1\n"));
     }
 }
 
@@ -164,7 +164,7 @@ fn keys_from_standard_input() {
         assert!(ran.out.contains("OH*****6789N"));
     }
     let ran = folder.run_with_input(&["find", "master.bin", "-"], "");
-    assert_eq!(ran.status, 2);
+    assert_eq!(ran.status, 3);
 }
 
 #[test]
@@ -219,4 +219,107 @@ fn bytes_that_have_no_ascii() {
     assert!(!folder.has("out.bin"));
     let ran = folder.run(&with(&reconcile, &["--out", "out.bin"]));
     assert_eq!(ran.status, 0);
+}
+
+/// A batch whose only detail has an SSN in fields of other kinds.
+fn typed_elsewhere() -> Vec<u8> {
+    let detail = record(&[
+        (1, "OH"),
+        (6, "900000001"),
+        (15, "123456789"),
+        (30, "SMITH 123-45-6789"),
+        (50, "123456789JR"),
+        (65, "00000001"),
+        (73, "AN"),
+        (84, "C/O 1234567890"),
+        (171, "123456789"),
+    ]);
+    [detail, control(0, 1, 0, 1)].concat()
+}
+
+#[test]
+fn ssns_in_fields_of_other_kinds() {
+    let folder = folder("masks-typed");
+    folder.write("typed.bin", &typed_elsewhere());
+    let mut row = paper_row();
+    row[15..24].copy_from_slice(&ebcdic("123456789"));
+    row[90..101].copy_from_slice(&ebcdic("123-45-6789"));
+    row[2..11].copy_from_slice(&ebcdic("900000001"));
+    folder.write("typed-master.bin", &row);
+    let check = with(&["check", "master.bin", "typed.bin"], &LISTS);
+    for command in [
+        vec!["show", "batch", "typed.bin"],
+        vec!["show", "batch", "typed.bin", "--list"],
+        vec!["show", "master", "typed-master.bin", "--list"],
+        vec!["find", "typed-master.bin", "OH900000001N"],
+        check,
+    ] {
+        for form in [&[][..], &["--json"]] {
+            let ran = folder.run(&with(&command, form));
+            let told = ran.out + &ran.err;
+            assert!(told.contains("6789"), "{command:?}: {told}");
+            assert!(
+                !told.contains("12345") && !told.contains("123-45"),
+                "{told}"
+            );
+            let ran = folder.run(&with(&with(&command, form), &["--full"]));
+            assert!(ran.out.contains("12345") || ran.out.contains("123-45"));
+        }
+    }
+}
+
+#[test]
+fn ssns_in_arguments() {
+    let folder = folder("masks-arguments");
+    folder.write("123456789.bin", b"x");
+    for command in [
+        vec!["123456789"],
+        vec!["find", "123-45-6789.bin", "OH123456789N"],
+        vec!["show", "123456789", "batch.bin"],
+        vec!["show", "batch", "123456789.bin"],
+        vec!["show", "batch", "batch.bin", "--from", "123456789x"],
+        vec!["show", "batch", "batch.bin", "--123456789"],
+        vec!["explain", "123456789"],
+        vec!["explain", "OH123456789N"],
+        vec!["to-ascii", "123456789.bin", "--out", "123-45-6789.txt"],
+        vec!["to-ascii", "batch.bin", "--out", "123456789.bin"],
+        vec!["to-ascii", "batch.bin", "--out", "123-45-6789.txt"],
+        vec!["codes", "table.bin", "--state", "123456789", "--out", "x"],
+        vec!["log", "123456789.bin"],
+    ] {
+        for form in [&[][..], &["--json"]] {
+            let ran = folder.run(&with(&command, form));
+            let told = ran.out + &ran.err;
+            assert!(
+                !told.contains("12345") && !told.contains("123-45"),
+                "{told}"
+            );
+        }
+    }
+}
+
+#[test]
+fn wrong_ssns_are_told_by_their_kind() {
+    let folder = folder("masks-kind");
+    for (ssn, kind) in [
+        ("000456789", "area 000"),
+        ("666456789", "area 666"),
+        ("123450000", "serial 0000"),
+        ("123006789", "group 00"),
+        ("12345678 ", "not nine digits"),
+        ("000000000", "area 000, group 00, serial 0000"),
+    ] {
+        let detail = record(&[(1, "OH"), (6, ssn), (30, "SMITH"), (73, "DN")]);
+        folder.write("wrong.bin", &[detail, control(0, 1, 0, 0)].concat());
+        let check = with(&["check", "master.bin", "wrong.bin"], &LISTS);
+        let ran = folder.run(&check);
+        assert_eq!(ran.status, 1, "{ran:?}");
+        let line = format!("is never issued ({kind})\n");
+        assert!(ran.out.contains(&line), "{}", ran.out);
+        assert!(!ran.out.contains(&ssn[..6]), "{}", ran.out);
+        let ran = folder.run(&with(&check, &["--json"]));
+        let member = format!("\"ssn_fault\":\"{kind}\"");
+        assert!(ran.out.contains(&member), "{}", ran.out);
+        assert!(!ran.out.contains(&ssn[..6]), "{}", ran.out);
+    }
 }

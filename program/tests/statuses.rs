@@ -2,6 +2,9 @@
 
 mod common;
 
+use std::fs::File;
+use std::time::{Duration, Instant};
+
 use common::*;
 
 /// Every file of a folder with its bytes.
@@ -150,14 +153,14 @@ fn statuses_of_a_batch() {
     folder.write("batch.bin", &batch(&[warned], control(0, 1, 0, 100)));
     let ran = folder.run(&CHECK);
     assert_eq!(ran.status, 0);
-    assert!(ran.out.contains("Records accepted with a warning: 1\nrecord 1  OH*****6789N  type A  SMITH, JOHN\n    51 warning"));
+    assert!(ran.out.contains("1 record accepted with a warning\nrecord 1  OH*****6789N  type A  SMITH, JOHN\n    51 warning"));
     // a record of neither case type counts as rejected
     let neither = record(&[(1, "OH"), (6, "123456789"), (30, "SMITH"), (73, "MX")]);
     folder.write("batch.bin", &batch(&[neither], control(0, 0, 0, 0)));
     let ran = folder.run(&CHECK);
     assert_eq!(ran.status, 1);
-    assert!(ran.out.contains("  neither      1\n"));
-    assert!(ran.out.contains("Records with errors: 1\n"));
+    assert!(ran.out.contains("    of which neither   1\n"));
+    assert!(ran.out.contains("1 record with errors\n"));
     assert!(ran.out.contains("    04 ") && ran.out.contains("    07 "));
 }
 
@@ -167,7 +170,7 @@ fn a_last_record_alone() {
     folder.write("batch.bin", &control(0, 0, 0, 0));
     let ran = folder.run(&APPLY);
     assert_eq!(ran.status, 0, "{ran:?}");
-    assert!(ran.out.contains("  details      0\n"));
+    assert!(ran.out.contains("  details              0\n"));
     let counts = "0".repeat(54);
     let rejects = record(&[(1, "OHCTL"), (6, &counts)]);
     assert_eq!(folder.read("rejects.bin"), rejects);
@@ -214,7 +217,7 @@ fn refusals_change_nothing() {
     unchanged(&folder, &reconcile("oh", "20071231"), 2, "refused 12: ");
     unchanged(&folder, &reconcile("OH", "20070229"), 2, "refused 13: ");
     let find = |key| ["find", "master.bin", key];
-    unchanged(&folder, &find("OH123456789A"), 2, "refused 15: ");
+    unchanged(&folder, &find("OH123456789A"), 6, "refused 15: ");
     for key in [
         "",
         "OH123456789",
@@ -277,7 +280,7 @@ fn first_bad_row_code_and_record_are_told() {
         2,
         "row 1 of 9 is the first",
     );
-    folder.write("master.bin", &[]);
+    folder.write("master.bin", &paper_row());
     folder.write("locals.bin", &ebcdic("001002002003"));
     unchanged(&folder, &CHECK, 2, "code 3 of 4 is the first");
     let mut table = contact_table();
@@ -320,4 +323,131 @@ fn parts_of_the_control_record_are_shown() {
     let amount = with_control(&[(45, "6")]);
     assert!(amount.contains("refused 8: "));
     assert!(amount.contains("'00000000126' as Total Non-TANF Amount (35-45)"));
+}
+
+/// The commands that write, each with the file that it locks first, and its status.
+fn writers() -> Vec<(Vec<&'static str>, &'static str, i32)> {
+    let reconcile = ["reconcile", "master.bin", "--state", "OH", "--date"];
+    vec![
+        (APPLY.to_vec(), "master.bin", 1),
+        (vec!["post", "two.bin", "weekly.bin"], "two.bin", 1),
+        (vec!["add-cents", "old.bin"], "old.bin", 0),
+        (
+            vec!["contacts", "table.bin", "contacts.bin"],
+            "table.bin",
+            1,
+        ),
+        (
+            with(&reconcile, &["20071231", "--out", "out.bin"]),
+            "out.bin",
+            0,
+        ),
+        (
+            vec!["codes", "table.bin", "--state", "OH", "--out", "out.bin"],
+            "out.bin",
+            0,
+        ),
+        (
+            vec!["to-ebcdic", "text.txt", "--out", "out.bin"],
+            "out.bin",
+            0,
+        ),
+        (
+            vec!["to-ascii", "batch.bin", "--out", "out.bin"],
+            "out.bin",
+            0,
+        ),
+    ]
+}
+
+#[test]
+fn carried_out_but_not_reported() {
+    for (arguments, _, status) in writers() {
+        let plain = all_files("statuses-reported");
+        assert_eq!(plain.run(&arguments).status, status);
+        for form in [&[][..], &["--json"]] {
+            let folder = all_files("statuses-unreported");
+            let full = File::options().write(true).open("/dev/full");
+            let mut command = folder.command(&with(&arguments, form));
+            let command = command.stdout(full.expect("it is there"));
+            let ran: Ran = command.output().expect("it can be run").into();
+            assert_eq!(ran.status, 4, "{arguments:?}: {ran:?}");
+            assert!(ran.err.contains("don't run it again"), "{}", ran.err);
+            // but for the time in the log the files are those of a run that is reported
+            let files = |folder: &Folder| {
+                let mut files = contents(folder);
+                files.retain(|(name, _)| !name.ends_with(".log"));
+                files
+            };
+            assert!(files(&folder) == files(&plain), "{arguments:?}");
+        }
+    }
+}
+
+#[test]
+fn a_reader_that_goes_away_is_no_report() {
+    let folder = all_files("statuses-reader");
+    let (reader, writer) = std::io::pipe().expect("a pipe can be made");
+    drop(reader);
+    let mut command = folder.command(&["post", "two.bin", "weekly.bin"]);
+    let ran: Ran = command.stdout(writer).output().expect("it runs").into();
+    assert_eq!(ran.status, 4, "{ran:?}");
+    assert_eq!(folder.read("two.bin"), two_rows_posted());
+}
+
+#[test]
+fn busy_files_and_waiting() {
+    for (arguments, file, status) in writers() {
+        let folder = all_files("statuses-busy");
+        let before = contents(&folder);
+        let lock = File::create(folder.path(&format!("{file}.lock"))).expect("made");
+        lock.lock().expect("locked");
+        let ran = folder.run(&arguments);
+        assert_eq!(ran.status, 5, "{arguments:?}: {ran:?}");
+        assert!(ran.err.contains("another run is at work on it"));
+        assert!(ran.err.contains("--wait SECONDS"), "{}", ran.err);
+        let json = folder.run(&with(&arguments, &["--json"]));
+        assert!(json.out.contains("\"outcome\":\"busy\",\"status\":5,"));
+        if arguments[0] == "apply" {
+            let start = Instant::now();
+            let ran = folder.run(&with(&arguments, &["--wait", "1"]));
+            assert_eq!(ran.status, 5, "{arguments:?}: {ran:?}");
+            assert!(start.elapsed() >= Duration::from_secs(1));
+        }
+        let lock_name = format!("{file}.lock");
+        let mut now = contents(&folder);
+        now.retain(|(name, _)| *name != lock_name);
+        assert!(now == before, "{arguments:?} changed a file");
+        // the other run ends while this one waits
+        let child = folder.command(&with(&arguments, &["--wait", "60"])).spawn();
+        let mut child = child.expect("it can be run");
+        std::thread::sleep(Duration::from_millis(100));
+        assert!(child.try_wait().expect("it can be asked").is_none());
+        lock.unlock().expect("unlocked");
+        let ended = child.wait().expect("it ends").code();
+        assert_eq!(ended, Some(status), "{arguments:?}");
+    }
+}
+
+#[test]
+fn the_table_of_statuses_is_in_the_help() {
+    let folder = Folder::new("statuses-help");
+    let table =
+        "\nExit status:\n  0  carried out, nothing rejected\n  1  carried out, with rejects";
+    let overall = folder.run(&["--help"]).out;
+    assert!(overall.contains(table));
+    for status in 0..=6 {
+        assert!(overall.contains(&format!("\n  {status}  ")), "{status}");
+    }
+    for (arguments, _, status) in writers() {
+        let help = folder.run(&[arguments[0], "--help"]).out;
+        for status in [0, status, 2, 3, 4, 5] {
+            assert!(help.contains(&format!("\n  {status}  ")), "{arguments:?}");
+        }
+        assert!(!help.contains("\n  6  "), "{arguments:?}");
+    }
+    assert!(folder
+        .run(&["find", "--help"])
+        .out
+        .contains("\n  6  not found"));
 }

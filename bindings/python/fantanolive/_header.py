@@ -1,10 +1,10 @@
 """What the C headers say: the version, the numbers and the words. Written by ../generate; not to be edited."""
 
-VERSION = '1.8.0'
+VERSION = '1.9.0'
 
 # The constants of fantanolive.h, without FANTANOLIVE_ in front.
 VERSION_MAJOR = 1
-VERSION_MINOR = 8
+VERSION_MINOR = 9
 VERSION_PATCH = 0
 ROW = 200
 RECORD = 245

@@ -3,32 +3,37 @@
 use fantanolive::Refusal;
 
 use crate::arguments::Arguments;
-use crate::commands::master::{expect, read_master};
+use crate::commands::master::read_master;
 use crate::commands::output::print_summary;
 use crate::failure::{Failure, Status};
 use crate::files::length;
-use crate::files::lock::Lock;
+use crate::files::outputs::{Outputs, Wanted};
 use crate::files::read::Input;
-use crate::files::replace::replace;
-use crate::files::target::Target;
+use crate::log::record::Record;
 use crate::progress::Progress;
 use crate::report::notes;
 use crate::report::summary::Summary;
 
 pub fn run(arguments: &Arguments, progress: &Progress) -> Result<Status, Failure> {
-    let target = Target::of(arguments.path(0))?;
-    expect(&target, arguments)?;
-    let lock = Lock::take(&target)?;
+    let wanted = Wanted {
+        state: true,
+        made: &[],
+        inputs: &[],
+    };
+    let outputs = Outputs::open(arguments, &wanted)?;
     let mut master = read_master(arguments, 0, progress)?;
     let rows = master.records();
+    let record = Record::begin("add-cents", outputs.master(), &master, &[])?;
     progress.now("adding the cents");
     fantanolive::add_cents(&mut master.bytes, rows)
         .map_err(|refusal| notes::refused(refusal, notes_of(refusal, &master)))?;
-    let warning = replace(&target, lock, progress, &master.bytes)?;
-    let summary = Summary::new("add-cents", Status::Done)
-        .number("rows", rows as u64)
-        .written(&target.given)
-        .warning(warning);
+    let summary = Summary::new("add-cents", Status::Done).number("rows", rows as u64);
+    let log = record.finish(&summary, &master.bytes);
+    let staged = vec![
+        outputs.stage_log(progress, &log)?,
+        outputs.stage_state(progress, &master.bytes)?,
+    ];
+    let summary = summary.placed(outputs.put_in_place(staged)?);
     print_summary(arguments, progress, &summary)
 }
 

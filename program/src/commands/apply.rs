@@ -6,14 +6,14 @@ use fantanolive::{Counts, Refusal, ERRORS, MAX_ROWS, RECORD, ROW};
 
 use crate::arguments::Arguments;
 use crate::code_page::{convert, Charset};
-use crate::commands::master::{expect, read_master};
+use crate::commands::master::read_master;
 use crate::commands::output::{form_of, print};
 use crate::failure::{counted, Failure, Status};
 use crate::files::length;
-use crate::files::lock::Lock;
+use crate::files::outputs::{expect, Outputs, Wanted};
 use crate::files::read::{read, Input};
-use crate::files::replace::{put_in_place, stage_bytes};
-use crate::files::target::{apart, Target};
+use crate::files::target::Target;
+use crate::log::record::Record;
 use crate::progress::Progress;
 use crate::records::columns::control;
 use crate::records::field::{Form, Placeholder};
@@ -35,24 +35,27 @@ struct Judged {
 pub fn check(arguments: &Arguments, progress: &Progress) -> Result<Status, Failure> {
     let master = Target::of(arguments.path(0))?;
     expect(&master, arguments)?;
-    let judged = judge(arguments, progress)?;
-    let summary = judged
-        .summary("check")
-        .heading("would be carried out; nothing is written");
+    let files = Files::read(arguments, progress)?;
+    let record = Record::look("apply", &master, &files.master, &files.inputs())?;
+    let judged = files.judge(arguments, progress)?;
+    let mut summary = judged.summary("check").would_be();
+    if let Some(time) = record.as_ref().and_then(Record::taken_before) {
+        summary = summary.text("applied before", time);
+    }
     judged.report(arguments, progress, &summary, Charset::Ebcdic)
 }
 
 pub fn apply(arguments: &Arguments, progress: &Progress) -> Result<Status, Failure> {
-    let master = Target::of(arguments.path(0))?;
-    let rejects = Target::of(Path::new(arguments.needed("--rejects")))?;
-    let inputs = [arguments.path(1), Path::new(arguments.needed("--locals"))];
-    master.apart_from(&inputs)?;
-    rejects.apart_from(&inputs)?;
-    apart(&rejects, &master)?;
-    expect(&master, arguments)?;
-    let locks = [Lock::take(&master)?, Lock::take(&rejects)?];
-    expect(&master, arguments)?;
-    let mut judged = judge(arguments, progress)?;
+    let wanted = Wanted {
+        state: true,
+        made: &["--rejects"],
+        inputs: &[arguments.path(1), Path::new(arguments.needed("--locals"))],
+    };
+    let outputs = Outputs::open(arguments, &wanted)?;
+    let files = Files::read(arguments, progress)?;
+    let record = Record::begin("apply", outputs.master(), &files.master, &files.inputs())?;
+    record.see_not_taken(arguments, &files.batch)?;
+    let mut judged = files.judge(arguments, progress)?;
 
     let charset = Charset::of_flag(arguments.flag("--ascii"));
     if charset == Charset::Ascii {
@@ -62,28 +65,58 @@ pub fn apply(arguments: &Arguments, progress: &Progress) -> Result<Status, Failu
         })?;
     }
     let rows = &judged.master.bytes[..judged.counts.rows as usize * ROW];
-    let warning = put_in_place(vec![
-        stage_bytes(&rejects, progress, &judged.rejects)?,
-        stage_bytes(&master, progress, rows)?,
-    ])?;
-    drop(locks);
-    let summary = judged
-        .summary("apply")
-        .written(&rejects.given)
-        .written(&master.given)
-        .warning(warning);
+    let summary = judged.summary("apply");
+    let log = record.finish(&summary, rows);
+    let staged = vec![
+        outputs.stage_bytes("--rejects", progress, &judged.rejects)?,
+        outputs.stage_log(progress, &log)?,
+        outputs.stage_state(progress, rows)?,
+    ];
+    let summary = summary.placed(outputs.put_in_place(staged)?);
     judged.report(arguments, progress, &summary, charset)
 }
 
-/// Reads the files and applies the batch in memory.
-fn judge(arguments: &Arguments, progress: &Progress) -> Result<Judged, Failure> {
-    let charset = Charset::of_flag(arguments.flag("--ascii"));
+/// What a batch is judged by.
+struct Files {
+    batch: Input,
+    locals: Input,
+    master: Input,
+}
+
+impl Files {
+    fn read(arguments: &Arguments, progress: &Progress) -> Result<Files, Failure> {
+        arguments.number("--year")?;
+        let charset = Charset::of_flag(arguments.flag("--ascii"));
+        let locals_path = Path::new(arguments.needed("--locals"));
+        let batch = read(arguments.path(1), &BATCH, charset, progress)?.into_ebcdic()?;
+        let locals = read(locals_path, &LOCALS, charset, progress)?.into_ebcdic()?;
+        let details = batch.records().saturating_sub(1);
+        Ok(Files {
+            master: read_master(arguments, details, progress)?,
+            batch,
+            locals,
+        })
+    }
+
+    /// The inputs for the log; the batch is the one that is not to be applied twice.
+    fn inputs(&self) -> [&Input; 2] {
+        [&self.batch, &self.locals]
+    }
+
+    /// Applies the batch in memory.
+    fn judge(self, arguments: &Arguments, progress: &Progress) -> Result<Judged, Failure> {
+        judge(self, arguments, progress)
+    }
+}
+
+fn judge(files: Files, arguments: &Arguments, progress: &Progress) -> Result<Judged, Failure> {
+    let Files {
+        batch,
+        locals,
+        mut master,
+    } = files;
     let year = arguments.number("--year")?.unwrap_or_default();
-    let locals_path = Path::new(arguments.needed("--locals"));
-    let batch = read(arguments.path(1), &BATCH, charset, progress)?.into_ebcdic()?;
-    let locals = read(locals_path, &LOCALS, charset, progress)?.into_ebcdic()?;
     let details = batch.records().saturating_sub(1);
-    let mut master = read_master(arguments, details, progress)?;
     let rows_before = master.records();
     let mut verdicts = vec![0; details];
     let mut rejects = vec![0; RECORD * (details + 1)];
@@ -143,7 +176,7 @@ fn notes_of(
         Refusal::WrongAmount => of_control(&[control::TANF_AMOUNT, control::NON_TANF_AMOUNT]),
         Refusal::NoRoom => vec![format!(
             "{}: {}, and a master may have {}",
-            master.path.display(),
+            master.name(),
             counted(rows as u64, "row"),
             counted(MAX_ROWS as u64, "row")
         )],
@@ -159,10 +192,10 @@ impl Judged {
         Summary::new(command, Status::of_rejects(rejected))
             .text("state", form.field(&control::STATE, last))
             .number("details", self.verdicts.len() as u64)
-            .number("accepted", self.counts.accepted)
-            .number("rejected", self.counts.rejected)
-            .number("warned", self.counts.warned)
-            .number("neither", self.counts.neither)
+            .of_which("accepted", self.counts.accepted)
+            .of_those("warned", self.counts.warned)
+            .of_which("rejected", self.counts.rejected)
+            .of_which("neither", self.counts.neither)
             .number("rows before", self.rows_before as u64)
             .number("rows", self.counts.rows)
     }

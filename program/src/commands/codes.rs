@@ -1,7 +1,6 @@
 //! codes: the local codes of a state, as a list for apply.
 
 use std::os::unix::ffi::OsStrExt;
-use std::path::Path;
 
 use fantanolive::{Refusal, LOCAL_CODE};
 
@@ -9,19 +8,20 @@ use crate::arguments::Arguments;
 use crate::code_page::{argument, convert, Charset};
 use crate::commands::output::print_summary;
 use crate::failure::{Failure, Status};
-use crate::files::lock::Lock;
+use crate::files::outputs::{Outputs, Wanted};
 use crate::files::read::read;
-use crate::files::replace::replace;
-use crate::files::target::Target;
 use crate::progress::Progress;
 use crate::records::kinds::TABLE;
 use crate::report::notes;
 use crate::report::summary::Summary;
 
 pub fn run(arguments: &Arguments, progress: &Progress) -> Result<Status, Failure> {
-    let target = Target::of(Path::new(arguments.needed("--out")))?;
-    target.apart_from(&[arguments.path(0)])?;
-    let lock = Lock::take(&target)?;
+    let wanted = Wanted {
+        state: false,
+        made: &["--out"],
+        inputs: &[arguments.path(0)],
+    };
+    let outputs = Outputs::open(arguments, &wanted)?;
     let table = read(arguments.path(0), &TABLE, Charset::Ebcdic, progress)?;
     let records = table.records();
     let state = arguments.needed("--state");
@@ -38,12 +38,12 @@ pub fn run(arguments: &Arguments, progress: &Progress) -> Result<Status, Failure
         // the codes are digits
         let _ = convert(&mut out, Charset::Ascii);
     }
-    let warning = replace(&target, lock, progress, &out)?;
+    let staged = vec![outputs.stage_bytes("--out", progress, &out)?];
+    let placed = outputs.put_in_place(staged)?;
     let summary = Summary::new("codes", Status::Done)
         .text("state", state.to_string_lossy())
         .number("records", records as u64)
         .number("codes", codes)
-        .written(&target.given)
-        .warning(warning);
+        .placed(placed);
     print_summary(arguments, progress, &summary)
 }

@@ -4,14 +4,11 @@ use fantanolive::{Refusal, CONTACT};
 
 use crate::arguments::Arguments;
 use crate::code_page::Charset;
-use crate::commands::master::expect;
 use crate::commands::output::{form_of, print};
 use crate::failure::{counted, Failure, Status};
 use crate::files::length;
-use crate::files::lock::Lock;
+use crate::files::outputs::{Outputs, Wanted};
 use crate::files::read::{read, read_with_room, Input};
-use crate::files::replace::replace;
-use crate::files::target::Target;
 use crate::progress::Progress;
 use crate::records::columns::{contact, Field};
 use crate::records::field::Form;
@@ -34,11 +31,12 @@ const FIELDS: [(&str, Field); 3] = [
 ];
 
 pub fn run(arguments: &Arguments, progress: &Progress) -> Result<Status, Failure> {
-    let target = Target::of(arguments.path(0))?;
-    target.apart_from(&[arguments.path(1)])?;
-    expect(&target, arguments)?;
-    let lock = Lock::take(&target)?;
-    expect(&target, arguments)?;
+    let wanted = Wanted {
+        state: true,
+        made: &[],
+        inputs: &[arguments.path(1)],
+    };
+    let outputs = Outputs::open(arguments, &wanted)?;
     let charset = Charset::of_flag(arguments.flag("--ascii"));
     let file = read(arguments.path(1), &CONTACTS, charset, progress)?.into_ebcdic()?;
     let sent = file.records();
@@ -53,14 +51,15 @@ pub fn run(arguments: &Arguments, progress: &Progress) -> Result<Status, Failure
         .map_err(|refusal| notes::refused(refusal, notes_of(refusal, &table, &file)))?;
     list.truncate(counts.faulty as usize);
     let records = &table.bytes[..counts.contacts as usize * CONTACT];
-    let warning = replace(&target, lock, progress, records)?;
+    let staged = vec![outputs.stage_state(progress, records)?];
+    let placed = outputs.put_in_place(staged)?;
     let summary = Summary::new("contacts", Status::of_rejects(counts.faulty > 0))
         .number("records read", sent as u64)
-        .number("faulty", counts.faulty)
+        .of_which("good", sent as u64 - counts.faulty)
+        .of_which("faulty", counts.faulty)
         .number("table before", before as u64)
         .number("table", counts.contacts)
-        .written(&target.given)
-        .warning(warning);
+        .placed(placed);
     let listed = faulty(arguments, &list, &file);
     print(
         arguments,
@@ -106,7 +105,7 @@ fn faulty<'a>(arguments: &Arguments, numbers: &'a [u16], file: &'a Input) -> Lis
     let mut notes = length::of_file(file);
     notes.push(REASONS.to_string());
     Listed {
-        heading: "Faulty records",
+        heading: ("faulty record", "faulty records"),
         member: "faulty_records",
         numbers,
         file,

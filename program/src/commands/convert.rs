@@ -9,11 +9,11 @@ use fantanolive::{NotConverted, Refusal};
 use crate::arguments::Arguments;
 use crate::code_page::{conversion_to, looks_ascii, Charset, PART};
 use crate::commands::output::print_summary;
-use crate::failure::{words, Failure, Status};
+use crate::failure::{shown, words, Failure, Status};
 use crate::files::length::{byte_words, place_note};
-use crate::files::lock::Lock;
-use crate::files::replace::{put_in_place, stage, WriteFailure};
-use crate::files::target::Target;
+use crate::files::outputs::{Outputs, Wanted};
+use crate::files::read;
+use crate::files::replace::WriteFailure;
 use crate::progress::Progress;
 use crate::report::notes::refused;
 use crate::report::summary::Summary;
@@ -28,22 +28,23 @@ pub fn to_ascii(arguments: &Arguments, progress: &Progress) -> Result<Status, Fa
 
 fn run(arguments: &Arguments, progress: &Progress, to: Charset) -> Result<Status, Failure> {
     let path = arguments.path(0);
-    let target = Target::of(Path::new(arguments.needed("--out")))?;
-    target.apart_from(&[path])?;
+    let wanted = Wanted {
+        state: false,
+        made: &["--out"],
+        inputs: &[path],
+    };
     let mut input = open(path)?;
-    let lock = Lock::take(&target)?;
+    let outputs = Outputs::open(arguments, &wanted)?;
     let mut bytes = 0;
-    let staged = stage(&target, progress, |out| {
+    let staged = outputs.stage_made("--out", progress, |out| {
         bytes = convert(path, &mut input, out, to)?;
         Ok(())
     })?;
-    let warning = put_in_place(vec![staged])?;
-    drop(lock);
+    let placed = outputs.put_in_place(vec![staged])?;
     let summary = Summary::new(arguments.command.name, Status::Done)
         .heading("converted")
         .number("bytes", bytes)
-        .written(&target.given)
-        .warning(warning);
+        .placed(placed);
     print_summary(arguments, progress, &summary)
 }
 
@@ -52,7 +53,7 @@ fn unread(path: &Path, error: &io::Error) -> Failure {
 }
 
 fn open(path: &Path) -> Result<File, Failure> {
-    let file = File::open(path).map_err(|error| unread(path, &error))?;
+    let file = read::open(path).map_err(|error| unread(path, &error))?;
     match file.metadata() {
         Ok(about) if about.is_dir() => Err(Failure::file(path, "can't be read: it is a folder")),
         _ => Ok(file),
@@ -63,7 +64,7 @@ fn open(path: &Path) -> Result<File, Failure> {
 fn convert(
     path: &Path,
     input: &mut File,
-    out: &mut File,
+    out: &mut dyn Write,
     to: Charset,
 ) -> Result<u64, WriteFailure> {
     let mut part = Vec::with_capacity(PART);
@@ -105,7 +106,7 @@ fn note_of(path: &Path, before: u64, place: u64, part: &[u8], to: Charset) -> St
     };
     format!(
         "{}: {}{hint}",
-        path.display(),
+        shown(path),
         place_note(before + place, byte, None)
     )
 }

@@ -48,15 +48,28 @@ fn put_text<W: Write>(screen: &mut Screen<W>, found: Found) -> io::Result<()> {
     let known = found
         .into_iter()
         .filter_map(|(what, text)| Some((what, text?)));
+    let are_two = known.clone().count() > 1;
     for (at, (what, text)) in known.enumerate() {
         if at > 0 {
             screen.plain("")?;
+        }
+        if are_two {
+            screen.line(Style::Heading, &heading(what, text.number))?;
         }
         let start = format!("{what} {}: ", text.number);
         screen.wrapped(Style::Heading, &start, text.wrong, 2)?;
         put_words(screen, text)?;
     }
     Ok(())
+}
+
+/// What a number is that is both: `explain 17 --code` gives one of them alone.
+fn heading(what: &str, number: u32) -> String {
+    let of = match what {
+        "refusal" => "a refusal of a whole call",
+        _ => "a code of a record",
+    };
+    format!("{number} as {of} (--{what})")
 }
 
 fn put_json<W: Write>(json: &mut Json<W>, found: Found) -> io::Result<()> {

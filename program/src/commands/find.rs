@@ -1,73 +1,209 @@
-//! find: a case's row in a master.
+//! find: the rows of cases in a master.
 
-use std::ffi::OsStr;
-use std::io::{self, BufRead, Read};
-use std::os::unix::ffi::OsStrExt;
+use std::io::{self, Write};
 
-use fantanolive::ROW;
+use fantanolive::{Refusal, KEY, ROW};
 
-use crate::arguments::{masked, Arguments};
-use crate::code_page::{argument, Charset};
+use crate::arguments::Arguments;
+use crate::code_page::Charset;
+use crate::commands::keys::{keys_of, Key};
 use crate::commands::master::{notes_of, read_master};
-use crate::commands::output::{form_of, print};
-use crate::failure::{words, Failure, Status};
+use crate::commands::output::{form_of, print, printed};
+use crate::failure::{Failure, Status};
+use crate::files::read::Input;
 use crate::progress::Progress;
 use crate::records::columns::row;
+use crate::records::field::Form;
 use crate::report::fields::{put_json_fields, put_list};
+use crate::report::json::Json;
 use crate::report::notes;
+use crate::report::screen::{Screen, Style};
 use crate::report::summary::Summary;
 
-/// How much of a line on standard input is read: more than a key has, so that the call refuses a longer one.
-const LONGEST: u64 = 64;
-
-/// The key as it was given, or from the first line of standard input.
-fn key_of(given: &OsStr) -> Result<Vec<u8>, Failure> {
-    if given != "-" {
-        return Ok(argument(given.as_bytes()));
+pub fn run(arguments: &Arguments, progress: &Progress) -> Result<Status, Failure> {
+    let keys = keys_of(arguments.operand(1))?;
+    let mut master = read_master(arguments, 0, progress)?;
+    progress.now("finding the case");
+    let rows = master.records();
+    let mut answers = Vec::new();
+    for key in keys {
+        let place = match fantanolive::find(&master.bytes, rows, &key.bytes) {
+            Err(refusal) if key.line.is_none() || !is_of_key(refusal) => {
+                let notes = notes_of(refusal, &mut master, arguments.flag("--full"));
+                return Err(notes::refused(refusal, notes));
+            }
+            other => other,
+        };
+        answers.push(Answer { key, place });
     }
-    let mut line = Vec::new();
-    let mut front = io::stdin().lock().take(LONGEST);
-    front.read_until(b'\n', &mut line).map_err(|error| {
-        Failure::File(format!("standard input can't be read: {}", words(&error)))
-    })?;
-    let ends = line.iter().rev().take_while(|b| matches!(b, b'\n' | b'\r'));
-    let length = line.len() - ends.count();
-    Ok(argument(&line[..length]))
+    let found = Found {
+        master: &master,
+        answers: &answers,
+        form: form_of(arguments, Charset::Ebcdic),
+    };
+    match &answers[..] {
+        [answer] if answer.key.line.is_none() => found.report_one(arguments, progress, answer),
+        _ => found.report_all(arguments, progress),
+    }
 }
 
-pub fn run(arguments: &Arguments, progress: &Progress) -> Result<Status, Failure> {
-    let key = key_of(arguments.operand(1))?;
-    let full = arguments.flag("--full");
-    // The key may stand in the place of the master.
-    let mut master = read_master(arguments, 0, progress).map_err(|failure| match failure {
-        Failure::File(message) if !full => Failure::File(masked(&message)),
-        other => other,
-    })?;
-    let rows = master.records();
-    progress.now("finding the case");
-    let place = fantanolive::find(&master.bytes, rows, &key)
-        .map_err(|refusal| notes::refused(refusal, notes_of(refusal, &mut master, full)))?;
-    let found = &master.bytes[place as usize * ROW..][..ROW];
-    let form = form_of(arguments, Charset::Ebcdic);
-    let mut shown = String::new();
-    let key = [row::STATE, row::SSN, row::CASE_TYPE];
-    form.put_key(&key, found, &mut shown);
-    let summary = Summary::new("find", Status::Done)
-        .heading("found")
-        .text("key", shown)
-        .number("place", place)
-        .number("rows", rows as u64);
-    print(
-        arguments,
-        progress,
-        &summary,
-        |screen| {
-            screen.plain("")?;
-            put_list(screen, row::FIELDS, found, &form)
-        },
-        |json| {
-            json.name("fields")?;
-            put_json_fields(json, row::FIELDS, found, &form)
-        },
-    )
+/// Whether a refusal is about a key, not the master.
+fn is_of_key(refusal: Refusal) -> bool {
+    matches!(refusal, Refusal::UnsoundKey | Refusal::NoSuchRow)
+}
+
+/// What the call answered to a key.
+struct Answer {
+    key: Key,
+    place: Result<u64, Refusal>,
+}
+
+impl Answer {
+    fn status(&self) -> Status {
+        match self.place {
+            Ok(_) => Status::Done,
+            Err(Refusal::NoSuchRow) => Status::NotFound,
+            Err(_) => Status::Refused,
+        }
+    }
+
+    fn words(&self) -> String {
+        match self.place {
+            Ok(_) => "found".to_string(),
+            Err(Refusal::NoSuchRow) => "not found".to_string(),
+            Err(refusal) => refusal.to_string(),
+        }
+    }
+}
+
+struct Found<'a> {
+    master: &'a Input,
+    answers: &'a [Answer],
+    form: Form,
+}
+
+impl Found<'_> {
+    fn row(&self, place: u64) -> &[u8] {
+        &self.master.bytes[place as usize * ROW..][..ROW]
+    }
+
+    /// The key of an answer; none where it is no key.
+    fn key(&self, answer: &Answer) -> Option<String> {
+        let bytes = &answer.key.bytes;
+        let is_key = answer.place != Err(Refusal::UnsoundKey) && bytes.len() == KEY;
+        is_key.then(|| {
+            let mut shown = String::new();
+            let key = [row::STATE, row::SSN, row::CASE_TYPE];
+            self.form.put_key(&key, bytes, &mut shown);
+            shown
+        })
+    }
+
+    /// The front of an answer: the key, and the row by its number, the first being 1.
+    fn summary(&self, answer: &Answer) -> Summary {
+        let mut summary = Summary::new("find", answer.status());
+        if let Some(key) = self.key(answer) {
+            summary = summary.text("key", key);
+        }
+        if let Ok(place) = answer.place {
+            summary = summary
+                .heading("found")
+                .place("row", place + 1)
+                .number("rows", self.master.records() as u64);
+        }
+        summary
+    }
+
+    /// The answer to the one key that was given.
+    fn report_one(
+        &self,
+        arguments: &Arguments,
+        progress: &Progress,
+        answer: &Answer,
+    ) -> Result<Status, Failure> {
+        let row = self.row(answer.place.unwrap_or_default());
+        print(
+            arguments,
+            progress,
+            &self.summary(answer),
+            |screen| {
+                screen.plain("")?;
+                put_list(screen, row::FIELDS, row, &self.form)
+            },
+            |json| {
+                json.name("fields")?;
+                put_json_fields(json, row::FIELDS, row, &self.form)
+            },
+        )
+    }
+
+    /// The answers to all keys of standard input.
+    fn report_all(&self, arguments: &Arguments, progress: &Progress) -> Result<Status, Failure> {
+        let count = |status| {
+            let same = self.answers.iter().filter(|a| a.status() == status);
+            same.count() as u64
+        };
+        let (missing, refused) = (count(Status::NotFound), count(Status::Refused));
+        let status = match (refused, missing) {
+            (1.., _) => Status::Refused,
+            (0, 1..) => Status::NotFound,
+            _ => Status::Done,
+        };
+        let summary = Summary::new("find", status)
+            .number("keys", self.answers.len() as u64)
+            .of_which("found", count(Status::Done))
+            .of_which("not found", missing)
+            .of_which("refused", refused);
+        printed(
+            arguments,
+            progress,
+            |screen| self.put_text(screen),
+            |json| {
+                summary.put_json(json)?;
+                self.put_json(json)
+            },
+        )?;
+        Ok(status)
+    }
+
+    fn put_text<W: Write>(&self, screen: &mut Screen<W>) -> io::Result<()> {
+        for (number, answer) in self.answers.iter().enumerate() {
+            if number > 0 {
+                screen.plain("")?;
+            }
+            if let Ok(place) = answer.place {
+                self.summary(answer).put_text(screen)?;
+                screen.plain("")?;
+                put_list(screen, row::FIELDS, self.row(place), &self.form)?;
+                continue;
+            }
+            screen.line(Style::Error, &format!("find: {}", answer.words()))?;
+            match self.key(answer) {
+                Some(key) => screen.plain(&format!("  key      {key}"))?,
+                None => screen.plain(&format!("  line     {}", answer.key.line.unwrap_or(0)))?,
+            }
+        }
+        Ok(())
+    }
+
+    fn put_json<W: Write>(&self, json: &mut Json<W>) -> io::Result<()> {
+        json.name("answers")?;
+        json.begin_array()?;
+        for answer in self.answers {
+            json.begin_object()?;
+            json.number_of("line", answer.key.line.unwrap_or(0))?;
+            json.text_of("answer", &answer.words())?;
+            json.number_of("status", answer.status() as u64)?;
+            if let Some(key) = self.key(answer) {
+                json.text_of("key", &key)?;
+            }
+            if let Ok(place) = answer.place {
+                json.number_of("row", place + 1)?;
+                json.name("fields")?;
+                put_json_fields(json, row::FIELDS, self.row(place), &self.form)?;
+            }
+            json.end_object()?;
+        }
+        json.end_array()
+    }
 }

@@ -6,24 +6,12 @@ use crate::arguments::Arguments;
 use crate::code_page::Charset;
 use crate::failure::Failure;
 use crate::files::length;
+use crate::files::outputs::expect;
 use crate::files::read::{read_with_room, Input};
 use crate::files::target::Target;
 use crate::progress::Progress;
 use crate::records::kinds::MASTER;
 use crate::report::notes;
-
-/// Sees that a master or table is there, or with --new that it isn't.
-pub fn expect(target: &Target, arguments: &Arguments) -> Result<(), Failure> {
-    let what = match (target.exists(), arguments.flag("--new")) {
-        (true, true) => "is there already; --new is for a first run from no file",
-        (false, false) if arguments.command.option("--new").is_some() => {
-            "no such file; a first run from no file takes --new"
-        }
-        (false, false) => "no such file",
-        _ => return Ok(()),
-    };
-    Err(Failure::file(&target.given, what))
-}
 
 /// Reads the first operand, a master, with room for so many new rows; with --new there is none to read.
 pub fn read_master(
@@ -40,7 +28,11 @@ pub fn read_master(
     if arguments.flag("--new") {
         return Ok(Input::none(path, &MASTER, room(0)));
     }
-    read_with_room(path, &MASTER, Charset::Ebcdic, &room, progress)
+    let master = read_with_room(path, &MASTER, Charset::Ebcdic, &room, progress)?;
+    if master.length == 0 {
+        expect(&Target::of(path)?, arguments)?;
+    }
+    Ok(master)
 }
 
 /// What is known of a master that was refused; none for other refusals.

@@ -7,9 +7,11 @@ pub mod contacts;
 pub mod convert;
 pub mod explain;
 pub mod find;
+pub mod log;
 pub mod post;
 pub mod reconcile;
 pub mod show;
 
+mod keys;
 mod master;
 mod output;

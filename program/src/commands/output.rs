@@ -1,17 +1,18 @@
 //! A report printed as text or as JSON.
 
-use std::io::{self, BufWriter, StdoutLock, Write};
+use std::borrow::Cow;
+use std::io::{self, Write};
 
 use crate::arguments::Arguments;
 use crate::code_page::Charset;
 use crate::failure::{Failure, Status};
+use crate::files::replace::has_changed;
+use crate::mask::masked;
 use crate::progress::Progress;
 use crate::records::field::{Form, Placeholder};
 use crate::report::json::Json;
-use crate::report::screen::{printable, standard_output, Screen};
+use crate::report::screen::{printable, report_output, Output, Screen};
 use crate::report::summary::Summary;
-
-pub type Output = BufWriter<StdoutLock<'static>>;
 
 /// Prints a summary and what goes with it, as text or as members of one JSON object. The answer is the summary's status.
 pub fn print(
@@ -58,11 +59,16 @@ pub fn warn(arguments: &Arguments, summary: &Summary) {
     if let Some(warning) = summary.warned().filter(|_| !arguments.flag("--json")) {
         let command = summary.command();
         let warning = printable(warning);
+        let warning = match arguments.flag("--full") {
+            true => warning,
+            false => Cow::Owned(masked(&warning).into_owned()),
+        };
         let _ = writeln!(io::stderr(), "fantanolive: {command}: {warning}");
     }
 }
 
-/// Prints text, or one JSON object with the members given. A reader that went away has read what it wanted.
+/// Prints text, or one JSON object with the members given. A reader that went away has read what it wanted, but where a file was
+/// changed its list of rejects may be lost.
 pub fn printed(
     arguments: &Arguments,
     progress: &Progress,
@@ -70,24 +76,29 @@ pub fn printed(
     members: impl FnOnce(&mut Json<&mut Output>) -> io::Result<()>,
 ) -> Result<(), Failure> {
     progress.over();
+    let (full, to_error) = (arguments.flag("--full"), arguments.prints_file());
     let done = if arguments.flag("--json") {
-        let mut out = standard_output();
-        put_object(&mut out, members).and_then(|()| out.flush())
+        let mut out = report_output(to_error);
+        put_object(&mut out, full, members).and_then(|()| out.flush())
     } else {
-        let mut screen = Screen::standard();
+        let mut screen = Screen::of_report(to_error).full(full);
         text(&mut screen).and_then(|()| screen.flush())
     };
+    let changed = has_changed();
     match done {
-        Err(error) if error.kind() != io::ErrorKind::BrokenPipe => Err(Failure::Output(error)),
+        Err(error) if changed || error.kind() != io::ErrorKind::BrokenPipe => {
+            Err(Failure::Output { error, changed })
+        }
         _ => Ok(()),
     }
 }
 
 fn put_object(
     out: &mut Output,
+    full: bool,
     members: impl FnOnce(&mut Json<&mut Output>) -> io::Result<()>,
 ) -> io::Result<()> {
-    let mut json = Json::new(out);
+    let mut json = Json::new(out).full(full);
     json.begin_object()?;
     members(&mut json)?;
     json.end_object()?;

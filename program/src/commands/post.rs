@@ -4,14 +4,14 @@ use fantanolive::Refusal;
 
 use crate::arguments::Arguments;
 use crate::code_page::Charset;
-use crate::commands::master::{self, expect, read_master};
+use crate::commands::master::{self, read_master};
 use crate::commands::output::{form_of, print};
 use crate::failure::{counted, Failure, Status};
 use crate::files::length;
-use crate::files::lock::Lock;
+use crate::files::outputs::{expect, Outputs, Wanted};
 use crate::files::read::{read, Input};
-use crate::files::replace::replace;
 use crate::files::target::Target;
+use crate::log::record::Record;
 use crate::progress::Progress;
 use crate::records::columns::{line, total, Field};
 use crate::records::field::Form;
@@ -35,45 +35,112 @@ const FIELDS: [(&str, Field); 7] = [
     ("adjustment", line::ADJUSTMENT),
 ];
 
+/// A collection file that was posted in memory.
+struct Posted {
+    master: Input,
+    file: Input,
+    /// The numbers of the lines that are not posted.
+    listed: Vec<u16>,
+}
+
 pub fn run(arguments: &Arguments, progress: &Progress) -> Result<Status, Failure> {
+    if arguments.flag("--dry-run") {
+        return dry_run(arguments, progress);
+    }
+    let wanted = Wanted {
+        state: true,
+        made: &[],
+        inputs: &[arguments.path(1)],
+    };
+    let outputs = Outputs::open(arguments, &wanted)?;
+    let (master, file) = read_files(arguments, progress)?;
+    let record = Record::begin("post", outputs.master(), &master, &[&file])?;
+    record.see_not_taken(arguments, &file)?;
+    let posted = Posted::of(master, file, arguments, progress)?;
+    let summary = posted.summary();
+    let log = record.finish(&summary, &posted.master.bytes);
+    let staged = vec![
+        outputs.stage_log(progress, &log)?,
+        outputs.stage_state(progress, &posted.master.bytes)?,
+    ];
+    let summary = summary.placed(outputs.put_in_place(staged)?);
+    posted.report(arguments, progress, &summary)
+}
+
+/// Says what would be posted.
+fn dry_run(arguments: &Arguments, progress: &Progress) -> Result<Status, Failure> {
     let target = Target::of(arguments.path(0))?;
-    target.apart_from(&[arguments.path(1)])?;
     expect(&target, arguments)?;
-    let lock = Lock::take(&target)?;
+    let (master, file) = read_files(arguments, progress)?;
+    let record = Record::look("post", &target, &master, &[&file])?;
+    let posted = Posted::of(master, file, arguments, progress)?;
+    let mut summary = posted.summary().would_be();
+    if let Some(time) = record.as_ref().and_then(Record::taken_before) {
+        summary = summary.text("posted before", time);
+    }
+    posted.report(arguments, progress, &summary)
+}
+
+fn read_files(arguments: &Arguments, progress: &Progress) -> Result<(Input, Input), Failure> {
     let charset = Charset::of_flag(arguments.flag("--ascii"));
     let file = read(arguments.path(1), &COLLECTIONS, charset, progress)?.into_ebcdic()?;
-    let mut master = read_master(arguments, 0, progress)?;
-    let (rows, lines) = (master.records(), file.records().saturating_sub(1));
-    let mut list = vec![0; lines];
-    progress.now(format!("posting {}", counted(lines as u64, "line")));
-    let listed = fantanolive::post(&mut master.bytes, rows, &file.bytes, &mut list)
-        .map_err(|refusal| refused(refusal, &mut master, &file, arguments.flag("--full")))?;
-    list.truncate(listed as usize);
-    let warning = replace(&target, lock, progress, &master.bytes)?;
-    let summary = Summary::new("post", Status::of_rejects(listed > 0))
-        .number("rows", rows as u64)
-        .number("lines", lines as u64)
-        .number("posted", lines as u64 - listed)
-        .number("not posted", listed)
-        .written(&target.given)
-        .warning(warning);
-    let listed = Listed {
-        heading: "Lines not posted",
-        member: "listed",
-        numbers: &list,
-        file: &file,
-        form: form_of(arguments, Charset::Ebcdic),
-        put_line,
-        fields: &FIELDS,
-        notes: vec![REASONS.to_string()],
-    };
-    print(
-        arguments,
-        progress,
-        &summary,
-        |screen| listed.put_text(screen),
-        |json| listed.put_json(json),
-    )
+    Ok((read_master(arguments, 0, progress)?, file))
+}
+
+impl Posted {
+    fn of(
+        mut master: Input,
+        file: Input,
+        arguments: &Arguments,
+        progress: &Progress,
+    ) -> Result<Posted, Failure> {
+        let (rows, lines) = (master.records(), file.records().saturating_sub(1));
+        let mut list = vec![0; lines];
+        progress.now(format!("posting {}", counted(lines as u64, "line")));
+        let listed = fantanolive::post(&mut master.bytes, rows, &file.bytes, &mut list)
+            .map_err(|refusal| refused(refusal, &mut master, &file, arguments.flag("--full")))?;
+        list.truncate(listed as usize);
+        Ok(Posted {
+            master,
+            file,
+            listed: list,
+        })
+    }
+
+    fn summary(&self) -> Summary {
+        let lines = self.file.records().saturating_sub(1) as u64;
+        let listed = self.listed.len() as u64;
+        Summary::new("post", Status::of_rejects(listed > 0))
+            .number("rows", self.master.records() as u64)
+            .number("lines", lines)
+            .of_which("posted", lines - listed)
+            .of_which("not posted", listed)
+    }
+
+    fn report(
+        &self,
+        arguments: &Arguments,
+        progress: &Progress,
+        summary: &Summary,
+    ) -> Result<Status, Failure> {
+        let listed = Listed {
+            heading: ("line not posted", "lines not posted"),
+            member: "listed",
+            numbers: &self.listed,
+            file: &self.file,
+            form: form_of(arguments, Charset::Ebcdic),
+            put_line,
+            fields: &FIELDS,
+            notes: vec![REASONS.to_string()],
+        };
+        print(
+            arguments,
+            progress,
+            summary,
+            |screen| listed.put_text(screen),
+            |json| listed.put_json(json),
+        )
+    }
 }
 
 /// What is known of the files where posting is refused.

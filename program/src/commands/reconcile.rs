@@ -1,7 +1,6 @@
 //! reconcile: the reconciliation file of a state.
 
 use std::os::unix::ffi::OsStrExt;
-use std::path::Path;
 
 use fantanolive::{Refusal, RECORD};
 
@@ -11,9 +10,7 @@ use crate::commands::master::{notes_of, read_master};
 use crate::commands::output::print_summary;
 use crate::failure::{Failure, Status};
 use crate::files::length::place_note;
-use crate::files::lock::Lock;
-use crate::files::replace::replace;
-use crate::files::target::Target;
+use crate::files::outputs::{Outputs, Wanted};
 use crate::progress::Progress;
 use crate::records::columns::rct;
 use crate::records::field::{Form, Placeholder};
@@ -22,9 +19,12 @@ use crate::report::notes::refused;
 use crate::report::summary::Summary;
 
 pub fn run(arguments: &Arguments, progress: &Progress) -> Result<Status, Failure> {
-    let target = Target::of(Path::new(arguments.needed("--out")))?;
-    target.apart_from(&[arguments.path(0)])?;
-    let lock = Lock::take(&target)?;
+    let wanted = Wanted {
+        state: false,
+        made: &["--out"],
+        inputs: &[arguments.path(0)],
+    };
+    let outputs = Outputs::open(arguments, &wanted)?;
     let mut master = read_master(arguments, 0, progress)?;
     let rows = master.records();
     let (state, date) = (arguments.needed("--state"), arguments.needed("--date"));
@@ -40,15 +40,15 @@ pub fn run(arguments: &Arguments, progress: &Progress) -> Result<Status, Failure
     let summary = Summary::new("reconcile", Status::Done)
         .text("state", state.to_string_lossy())
         .text("date", date.to_string_lossy())
-        .number("TANF", number(&form.field(&rct::TANF, last)))
-        .number("Non-TANF", number(&form.field(&rct::NON_TANF, last)))
-        .number("records", records);
+        .number("records", records)
+        .of_which("TANF", number(&form.field(&rct::TANF, last)))
+        .of_which("Non-TANF", number(&form.field(&rct::NON_TANF, last)));
     if arguments.flag("--ascii") {
         let converted = convert(&mut out, Charset::Ascii);
         converted.map_err(|place| no_ascii(place, &out))?;
     }
-    let warning = replace(&target, lock, progress, &out)?;
-    let summary = summary.written(&target.given).warning(warning);
+    let staged = vec![outputs.stage_bytes("--out", progress, &out)?];
+    let summary = summary.placed(outputs.put_in_place(staged)?);
     print_summary(arguments, progress, &summary)
 }
 

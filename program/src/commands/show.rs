@@ -6,8 +6,9 @@ use std::ops::Range;
 use crate::arguments::Arguments;
 use crate::code_page::Charset;
 use crate::commands::output::{form_of, printed, warn};
-use crate::failure::{Failure, Status};
+use crate::failure::{counted, Failure, Status, STANDARD};
 use crate::files::length::{of_length, too_long};
+use crate::files::protect;
 use crate::files::read::{read, Input};
 use crate::nearest::nearest;
 use crate::progress::Progress;
@@ -64,11 +65,40 @@ fn of_kind(input: &Input, form: &Form) -> Option<String> {
     is_other.then(|| {
         format!(
             "{}: the last record has {} in columns {}: the file is of another kind",
-            input.path.display(),
+            input.name(),
             last.word,
             last.mark.columns()
         )
     })
+}
+
+/// What keeps a record from being one of its kind: the library takes a row for none, or a byte of another is no character.
+fn fault_of(input: &Input, number: usize, form: &Form) -> Option<String> {
+    let record = input.record(number);
+    let what = if input.kind.name == MASTER.name {
+        (!protect::is_master(record)).then(|| "it is not sound".to_string())?
+    } else {
+        let marked = input.kind.marked(record, form);
+        let fields = marked.map_or(input.kind.fields, |last| last.fields);
+        let place = form.no_character(fields, record)?;
+        let (column, byte) = (place + 1, record[place]);
+        format!("column {column} is hexadecimal {byte:02X}, no character")
+    };
+    let (name, kind, shown) = (input.name(), input.kind, number + 1);
+    Some(format!(
+        "{name}: {} {shown} can't be one of a file of this kind ({}): {what}; --all goes on",
+        kind.record, kind.name
+    ))
+}
+
+/// The records up to the first that can't be one, and what is wrong with that.
+fn cut_off(input: &Input, range: Range<usize>, form: &Form) -> (Range<usize>, Option<String>) {
+    for number in range.clone() {
+        if let Some(fault) = fault_of(input, number, form) {
+            return (range.start..number, Some(fault));
+        }
+    }
+    (range, None)
 }
 
 /// What is wrong with the length, or the kind; an empty file has nothing to show. Without --full digits are masked then.
@@ -83,25 +113,41 @@ fn warning_of(input: &Input, form: &Form) -> Option<String> {
     is_wrong.then(|| notes.join("; "))
 }
 
-pub fn run(arguments: &Arguments, progress: &Progress) -> Result<Status, Failure> {
+/// Reads the file; a master is in EBCDIC and is a file.
+fn read_file(arguments: &Arguments, progress: &Progress) -> Result<Input, Failure> {
     let kind = kind_of(arguments)?;
     let charset = Charset::of_flag(arguments.flag("--ascii"));
     if charset == Charset::Ascii && kind.name == MASTER.name {
         return Err(arguments.wrong("a master is always in EBCDIC; --ascii is for other files"));
     }
+    if kind.name == MASTER.name && arguments.operand(1) == STANDARD {
+        return Err(arguments.wrong("a master can't be -: it is no file to be read once"));
+    }
     let input = read(arguments.path(1), kind, charset, progress)?;
     if input.records() > kind.most {
         return Err(Failure::file(&input.path, too_long(input.length, kind)));
     }
-    let mut form = form_of(arguments, charset);
+    Ok(input)
+}
+
+pub fn run(arguments: &Arguments, progress: &Progress) -> Result<Status, Failure> {
+    let input = read_file(arguments, progress)?;
+    let mut form = form_of(arguments, input.charset);
     let warning = warning_of(&input, &form);
     form.digits_masked = warning.is_some() && !form.full;
+    let mut range = range_of(arguments, input.records())?;
+    let mut fault = None;
+    if !arguments.flag("--all") {
+        (range, fault) = cut_off(&input, range, &form);
+    }
+    let problem: Vec<String> = fault.into_iter().chain(warning).collect();
+    let problem = (!problem.is_empty()).then(|| problem.join("; "));
     let summary = Summary::new("show", Status::Done)
-        .text("kind", kind.name)
+        .text("kind", input.kind.name)
         .number("records", input.records() as u64)
-        .warning(warning);
+        .problem(problem);
     let shown = Shown {
-        range: range_of(arguments, input.records())?,
+        range,
         form,
         input: &input,
     };
@@ -129,7 +175,21 @@ impl Shown<'_> {
         self.range.contains(&last).then_some(marked.fields)
     }
 
+    /// `rows 3 to 5 of 9, the first being 1`, or that there is nothing to show.
+    fn caption(&self) -> String {
+        let (record, records) = (self.input.kind.record, self.input.records());
+        let (first, last) = (self.range.start + 1, self.range.end);
+        let all = counted(records as u64, record);
+        match (records, self.range.len()) {
+            (0, _) => format!("no {record}: the file has none"),
+            (_, 0) => format!("no {record} is shown of {all}"),
+            (_, 1) => format!("{record} {first} of {records}, the first being 1"),
+            _ => format!("{record}s {first} to {last} of {records}, the first being 1"),
+        }
+    }
+
     fn put_text<W: Write>(&self, screen: &mut Screen<W>, as_list: bool) -> io::Result<()> {
+        screen.plain(&self.caption())?;
         let last = self.last_fields();
         let end = self.range.end - usize::from(last.is_some());
         let mut table = Table::new(self.input.kind.fields);

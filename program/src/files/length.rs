@@ -44,7 +44,7 @@ fn is_ascii(input: &Input) -> bool {
 fn ascii_note(input: &Input) -> String {
     format!(
         "{}: likely cause: the file is in ASCII; use --ascii, or convert it with `fantanolive to-ebcdic`",
-        input.path.display()
+        input.name()
     )
 }
 
@@ -59,7 +59,7 @@ pub fn of_file(input: &Input) -> Vec<String> {
 
 /// Notes on a length that is wrong; none where it is right.
 pub fn of_length(input: &Input) -> Vec<String> {
-    let (path, kind) = (input.path.display(), input.kind);
+    let (path, kind) = (input.name(), input.kind);
     let over = input.length % kind.width as u64;
     let whole = input.length / kind.width as u64;
     if whole > kind.most as u64 {
@@ -145,7 +145,7 @@ pub fn of_place(input: &Input, place: u64, behind: Option<u8>) -> Vec<String> {
     let kind = (!has_line_ends).then_some(input.kind);
     vec![format!(
         "{}: {}{}",
-        input.path.display(),
+        input.name(),
         place_note(place, byte, kind),
         byte_words(byte)
     )]

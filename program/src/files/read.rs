@@ -2,10 +2,11 @@
 
 use std::fs::{File, Metadata};
 use std::io::{self, Read};
+use std::os::fd::AsFd;
 use std::path::{Path, PathBuf};
 
 use crate::code_page::{convert, Charset};
-use crate::failure::{words, Failure};
+use crate::failure::{shown, words, Failure, STANDARD};
 use crate::files::length;
 use crate::progress::Progress;
 use crate::records::kinds::FileKind;
@@ -35,6 +36,11 @@ impl Input {
             read: 0,
             length: 0,
         }
+    }
+
+    /// Its name in messages.
+    pub fn name(&self) -> String {
+        shown(&self.path)
     }
 
     /// How many whole records were read.
@@ -86,27 +92,25 @@ pub fn read_with_room(
     room: &dyn Fn(usize) -> usize,
     progress: &Progress,
 ) -> Result<Input, Failure> {
-    progress.now(format!("reading {}", path.display()));
+    progress.now(format!("reading {}", shown(path)));
     let failed =
         |error: io::Error| Failure::file(path, format!("can't be read: {}", words(&error)));
-    let mut file = File::open(path).map_err(failed)?;
+    let mut file = open(path).map_err(failed)?;
     let about = file.metadata().map_err(failed)?;
     if about.is_dir() {
         return Err(Failure::file(path, "can't be read: it is a folder"));
     }
     // One record more than the library takes shows that the file is longer.
     let most = (kind.most + 1) * kind.width;
-    let (bytes, read) = if about.is_file() {
+    // what was read of standard input before is gone
+    let has_length = about.is_file() && path != Path::new(STANDARD);
+    let (bytes, read) = if has_length {
         read_regular(&mut file, &about, most, room)
     } else {
         read_stream(&mut file, most, room)
     }
     .map_err(failed)?;
-    let length = if about.is_file() {
-        about.len()
-    } else {
-        read as u64
-    };
+    let length = if has_length { about.len() } else { read as u64 };
     Ok(Input {
         path: path.to_path_buf(),
         kind,
@@ -115,6 +119,15 @@ pub fn read_with_room(
         read,
         length,
     })
+}
+
+/// Opens a file to be read, or standard input.
+pub fn open(path: &Path) -> io::Result<File> {
+    if path == Path::new(STANDARD) {
+        let own = io::stdin().as_fd().try_clone_to_owned()?;
+        return Ok(File::from(own));
+    }
+    File::open(path)
 }
 
 /// Reads a regular file, or the front of a longer one.

@@ -1,97 +1,74 @@
-//! Files replaced whole. Each new file is written under a temporary name beside the old one and synced; only when all are
+//! Files made and replaced whole. Each new file is written under a temporary name beside its own and synced; only when all are
 //! there are they renamed, in the order given; then the folders are synced. Where something fails the temporary files go.
 
-use std::fs::{self, File, Metadata, OpenOptions, Permissions};
+use std::fs::{self, File, OpenOptions, Permissions};
 use std::io::{self, Write};
-use std::os::unix::fs::{fchown, MetadataExt, OpenOptionsExt, PermissionsExt};
+use std::os::unix::fs::{OpenOptionsExt, PermissionsExt};
 use std::path::{Path, PathBuf};
+use std::sync::atomic::{AtomicBool, Ordering};
 
-use crate::failure::{words, Failure};
-use crate::files::lock::Lock;
+use crate::failure::{shown, words, Failure, STANDARD};
+use crate::files::access::Access;
+use crate::files::leftovers::{self, Placing};
 use crate::files::target::Target;
 use crate::progress::Progress;
+use crate::system::rename_new;
 
-/// A new file under its temporary name, which is removed unless the file is put in place.
-pub struct Staged<'a> {
-    target: &'a Target,
-    temporary: PathBuf,
-    in_place: bool,
+/// The mode of a file that holds SSNs: its owner reads and writes it, and no one else.
+pub const OWNER_ALONE: u32 = 0o600;
+
+/// Flags of Linux: follow no link; don't wait for another end of a pipe.
+const NO_LINK: i32 = 0o400_000;
+const NO_WAIT: i32 = 0o4000;
+
+/// Whether the run has changed a file.
+static CHANGED: AtomicBool = AtomicBool::new(false);
+
+/// Whether files of this run are in place, so that it must not be run again.
+pub fn has_changed() -> bool {
+    CHANGED.load(Ordering::SeqCst)
 }
 
-impl Drop for Staged<'_> {
-    fn drop(&mut self) {
-        if !self.in_place {
-            let _ = fs::remove_file(&self.temporary);
+/// What a new file gets where there is no old one whose access it keeps.
+pub struct NewFile<'a> {
+    pub mode: u32,
+    /// The file whose owner and group it gets where that may be.
+    pub owner: Option<&'a Access>,
+}
+
+impl NewFile<'_> {
+    pub fn of_mode(mode: Option<u32>) -> NewFile<'static> {
+        NewFile {
+            mode: mode.unwrap_or(OWNER_ALONE),
+            owner: None,
         }
     }
 }
 
-fn not_written(target: &Target, error: &io::Error) -> Failure {
-    let what = format!("can't be written: {}; no file is changed", words(error));
-    Failure::file(&target.given, what)
+/// A new file under its temporary name, which is removed unless the file is put in place.
+pub struct StagedFile {
+    given: PathBuf,
+    path: PathBuf,
+    folder: PathBuf,
+    temporary: PathBuf,
+    /// Whether it takes the place of another.
+    replaces: bool,
+    in_place: bool,
 }
 
-/// Makes the temporary file of a target whose old file has this metadata. What a run that was cut off left under its name goes
-/// first. Where there is an old file the new one is the owner's alone until it has the old one's mode.
-fn create(temporary: &Path, old: Option<&Metadata>) -> io::Result<File> {
-    match fs::remove_file(temporary) {
-        Err(error) if error.kind() != io::ErrorKind::NotFound => return Err(error),
-        _ => {}
-    }
-    let mut options = OpenOptions::new();
-    options.write(true).create_new(true);
-    if old.is_some() {
-        options.mode(0o600);
-    }
-    options.open(temporary)
+/// What a run writes at its end.
+pub enum Staged {
+    File(StagedFile),
+    /// For standard output.
+    Standard(Vec<u8>),
 }
 
-/// The old file's metadata, where there is one.
-fn old_file(path: &Path) -> io::Result<Option<Metadata>> {
-    match fs::metadata(path) {
-        Ok(old) => Ok(Some(old)),
-        Err(error) if error.kind() == io::ErrorKind::NotFound => Ok(None),
-        Err(error) => Err(error),
+impl Drop for StagedFile {
+    fn drop(&mut self) {
+        if !self.in_place {
+            leftovers::remove(&self.temporary);
+        }
     }
-}
-
-/// Gives a new file the owner and mode of the old one.
-fn keep_mode(file: &File, old: &Metadata) -> io::Result<()> {
-    let own = file.metadata()?;
-    if (own.uid(), own.gid()) != (old.uid(), old.gid()) {
-        // Only root may give a file away; else it is the one's who runs the program, of the old one's group where that may be.
-        let _ = fchown(file, Some(old.uid()), Some(old.gid()))
-            .or_else(|_| fchown(file, None, Some(old.gid())));
-    }
-    file.set_permissions(Permissions::from_mode(old.mode() & 0o7777))
-}
-
-/// Writes a new file under its temporary name and has it on the disk.
-pub fn stage<'a>(
-    target: &'a Target,
-    progress: &Progress,
-    write: impl FnOnce(&mut File) -> Result<(), WriteFailure>,
-) -> Result<Staged<'a>, Failure> {
-    progress.now(format!("writing {}", target.given.display()));
-    let failed = |error: io::Error| not_written(target, &error);
-    let old = old_file(&target.path).map_err(failed)?;
-    let temporary = target.temporary();
-    let mut file = create(&temporary, old.as_ref()).map_err(failed)?;
-    let staged = Staged {
-        target,
-        temporary,
-        in_place: false,
-    };
-    if let Some(old) = &old {
-        keep_mode(&file, old).map_err(failed)?;
-    }
-    match write(&mut file) {
-        Ok(()) => {}
-        Err(WriteFailure::Write(error)) => return Err(failed(error)),
-        Err(WriteFailure::Other(failure)) => return Err(failure),
-    }
-    file.sync_all().map_err(failed)?;
-    Ok(staged)
 }
 
 /// Why the bytes of a new file were not written.
@@ -106,64 +83,193 @@ impl From<io::Error> for WriteFailure {
     }
 }
 
-/// Stages bytes.
-pub fn stage_bytes<'a>(
-    target: &'a Target,
-    progress: &Progress,
-    bytes: &[u8],
-) -> Result<Staged<'a>, Failure> {
-    stage(target, progress, |file| Ok(file.write_all(bytes)?))
+fn not_written(target: &Target, what: &str) -> Failure {
+    let what = format!("can't be written: {what}; no file is changed");
+    Failure::file(&target.given, what)
 }
 
-/// Replaces one file by bytes and gives its lock back; the answer is that of `put_in_place`.
-pub fn replace(
+/// The access to the old file, where there is one. One that may not be written to is not replaced either.
+fn old_access(target: &Target) -> Result<Option<Access>, Failure> {
+    let mut options = OpenOptions::new();
+    options.write(true).custom_flags(NO_LINK | NO_WAIT);
+    let old = match options.open(&target.path) {
+        Ok(old) => old,
+        Err(error) if error.kind() == io::ErrorKind::NotFound => return Ok(None),
+        Err(error) => return Err(not_written(target, &words(&error))),
+    };
+    let access = Access::of(&old).map_err(|what| not_written(target, &what))?;
+    if access.is_read_only() {
+        let what = "its owner made it read-only; `chmod u+w` lets it be replaced";
+        return Err(not_written(target, what));
+    }
+    Ok(Some(access))
+}
+
+/// Makes the temporary file, its owner's alone. What a run that was cut off left under its name goes first.
+fn create(temporary: &Path) -> io::Result<File> {
+    match fs::remove_file(temporary) {
+        Err(error) if error.kind() != io::ErrorKind::NotFound => return Err(error),
+        _ => {}
+    }
+    leftovers::made(temporary, || {
+        OpenOptions::new()
+            .write(true)
+            .create_new(true)
+            .mode(OWNER_ALONE)
+            .open(temporary)
+    })
+}
+
+/// Gives a file its mode when it is written, so that no one reads a part of it. The mask of the process has no say.
+fn finish(file: &File, new: &NewFile) -> io::Result<()> {
+    if let Some(access) = new.owner {
+        access.share_owner(file);
+    }
+    file.set_permissions(Permissions::from_mode(new.mode))
+}
+
+/// Writes a new file under its temporary name and has it on the disk, with the access of the old one.
+pub fn stage(
     target: &Target,
-    lock: Lock,
+    new: &NewFile,
     progress: &Progress,
-    bytes: &[u8],
-) -> Result<Option<String>, Failure> {
-    let warning = put_in_place(vec![stage_bytes(target, progress, bytes)?])?;
-    drop(lock);
-    Ok(warning)
+    write: impl FnOnce(&mut dyn Write) -> Result<(), WriteFailure>,
+) -> Result<Staged, Failure> {
+    progress.now(format!("writing {}", target.given.display()));
+    let failed = |error: io::Error| not_written(target, &words(&error));
+    let old = old_access(target)?;
+    let temporary = target.temporary();
+    let mut file = create(&temporary).map_err(failed)?;
+    let staged = StagedFile {
+        given: target.given.clone(),
+        path: target.path.clone(),
+        folder: target.folder.clone(),
+        temporary,
+        replaces: old.is_some(),
+        in_place: false,
+    };
+    if let Some(old) = &old {
+        let kept = old.keep(&file);
+        kept.map_err(|what| not_written(target, &what))?;
+    }
+    match write(&mut file) {
+        Ok(()) => {}
+        Err(WriteFailure::Write(error)) => return Err(failed(error)),
+        Err(WriteFailure::Other(failure)) => return Err(failure),
+    }
+    if old.is_none() {
+        finish(&file, new).map_err(failed)?;
+    }
+    file.sync_all().map_err(failed)?;
+    Ok(Staged::File(staged))
 }
 
-/// Says which files are new where one can't be put in place.
-fn not_placed(staged: &Staged, placed: &[String], error: &io::Error) -> Failure {
-    let state = if placed.is_empty() {
-        "no file is changed".to_string()
-    } else {
-        format!(
+/// What was written, for the report.
+#[derive(Default)]
+pub struct Placed {
+    pub written: Vec<PathBuf>,
+    /// Where the files are in place, but a crash of the system may bring the old ones back.
+    pub warning: Option<String>,
+}
+
+impl StagedFile {
+    fn rename(&mut self, placing: &mut Placing) -> io::Result<()> {
+        if self.replaces {
+            fs::rename(&self.temporary, &self.path)?;
+        } else {
+            rename_new(&self.temporary, &self.path)?;
+        }
+        self.in_place = true;
+        placing.is_placed(&self.temporary);
+        Ok(())
+    }
+}
+
+/// Takes back what was put in place before a file that can't be: new files go. The answer names those that stay.
+fn take_back(placed: &[StagedFile]) -> Vec<String> {
+    let mut stay = Vec::new();
+    for file in placed {
+        if file.replaces || fs::remove_file(&file.path).is_err() {
+            stay.push(shown(&file.given));
+        }
+    }
+    stay
+}
+
+fn not_placed(file: &StagedFile, placed: &[StagedFile], error: &io::Error) -> Failure {
+    let stay = take_back(placed);
+    let state = match &stay[..] {
+        [] => "no file is changed".to_string(),
+        stay => format!(
             "{} is new already, this file is the old one",
-            placed.join(", ")
-        )
+            stay.join(", ")
+        ),
     };
     let what = format!("can't be replaced: {}; {state}", words(error));
-    Failure::file(&staged.target.given, what)
+    Failure::file(&file.given, what)
 }
 
-/// Puts the staged files in place, in order, and syncs their folders. The answer is a warning where that last step failed: the
-/// files are in place, but a crash of the system may bring the old ones back.
-pub fn put_in_place(files: Vec<Staged>) -> Result<Option<String>, Failure> {
-    let mut folders: Vec<PathBuf> = Vec::new();
-    let mut placed = Vec::new();
-    for mut staged in files {
-        fs::rename(&staged.temporary, &staged.target.path)
-            .map_err(|error| not_placed(&staged, &placed, &error))?;
-        staged.in_place = true;
-        placed.push(staged.target.given.display().to_string());
-        if !folders.contains(&staged.target.folder) {
-            folders.push(staged.target.folder.clone());
+/// Writes what is for standard output; nothing is in place yet.
+fn print_standard(files: &[Staged]) -> Result<(), Failure> {
+    for staged in files {
+        if let Staged::Standard(bytes) = staged {
+            let mut out = io::stdout().lock();
+            let printed = out.write_all(bytes).and_then(|()| out.flush());
+            printed.map_err(|error| Failure::Output {
+                error,
+                changed: false,
+            })?;
         }
     }
-    for folder in folders {
-        if let Err(error) = File::open(&folder).and_then(|file| file.sync_all()) {
-            let shown = folder.display();
-            return Ok(Some(format!(
-                "{}: in place, but the folder {shown} can't be synced: {}",
-                placed.join(", "),
-                words(&error)
-            )));
+    Ok(())
+}
+
+/// Renames the staged files in order.
+fn rename_all(files: Vec<Staged>) -> Result<Vec<StagedFile>, Failure> {
+    let mut placing = Placing::begin();
+    let mut placed: Vec<StagedFile> = Vec::new();
+    let mut waiting = files.into_iter();
+    while let Some(staged) = waiting.next() {
+        let Staged::File(mut file) = staged else {
+            continue;
+        };
+        if let Err(error) = file.rename(&mut placing) {
+            let failure = not_placed(&file, &placed, &error);
+            drop(placing);
+            drop((file, waiting));
+            return Err(failure);
+        }
+        placed.push(file);
+    }
+    CHANGED.store(!placed.is_empty(), Ordering::SeqCst);
+    Ok(placed)
+}
+
+/// Writes the staged files in order, standard output before the others, and syncs their folders.
+pub fn put_in_place(files: Vec<Staged>) -> Result<Placed, Failure> {
+    print_standard(&files)?;
+    let printed = files
+        .iter()
+        .filter(|staged| matches!(staged, Staged::Standard(_)))
+        .map(|_| PathBuf::from(STANDARD));
+    let mut written: Vec<PathBuf> = printed.collect();
+    let placed = rename_all(files)?;
+    written.extend(placed.iter().map(|file| file.given.clone()));
+    let mut folders: Vec<&Path> = Vec::new();
+    for file in &placed {
+        if !folders.contains(&&*file.folder) {
+            folders.push(&file.folder);
         }
     }
-    Ok(None)
+    let names: Vec<String> = placed.iter().map(|file| shown(&file.given)).collect();
+    let warning = folders.iter().find_map(|folder| {
+        let error = File::open(folder).and_then(|file| file.sync_all()).err()?;
+        Some(format!(
+            "{}: in place, but the folder {} can't be synced: {}",
+            names.join(", "),
+            folder.display(),
+            words(&error)
+        ))
+    });
+    Ok(Placed { written, warning })
 }

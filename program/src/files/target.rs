@@ -7,6 +7,7 @@ use std::os::unix::fs::MetadataExt;
 use std::path::{Path, PathBuf};
 
 use crate::failure::{words, Failure};
+use crate::files::access::Access;
 
 /// How many symbolic links are followed, as the system does.
 const MOST_LINKS: usize = 40;
@@ -17,6 +18,8 @@ pub struct Target {
     /// The file itself: links are followed, so that a link stays a link.
     pub path: PathBuf,
     pub folder: PathBuf,
+    /// Whether a log is kept beside it.
+    pub is_logged: bool,
 }
 
 /// The file that a path leads to, there or not.
@@ -70,6 +73,7 @@ impl Target {
             given: given.to_path_buf(),
             path: folder.join(name),
             folder,
+            is_logged: false,
         };
         match fs::metadata(given) {
             Ok(about) if about.is_dir() => Err(Failure::file(given, "it is a folder")),
@@ -104,11 +108,40 @@ impl Target {
         self.beside(".lock")
     }
 
+    /// The log of the runs on a master.
+    pub fn log(&self) -> PathBuf {
+        self.beside(".log")
+    }
+
+    /// The same as a file to be written, named as the master is given where it lies beside that name.
+    pub fn log_target(&self) -> Result<Target, Failure> {
+        let mut given = self.given.clone().into_os_string();
+        given.push(".log");
+        let log = Target::of(Path::new(&given))?;
+        if log.path == self.log() {
+            return Ok(log);
+        }
+        Target::of(&self.log())
+    }
+
+    /// Every name under which something is written for this file.
+    fn names(&self) -> Vec<PathBuf> {
+        let mut names = vec![self.path.clone(), self.temporary(), self.lock()];
+        if self.is_logged {
+            names.extend([".log", ".log.tmp"].map(|ending| self.beside(ending)));
+        }
+        names
+    }
+
+    /// The access to the file that is there.
+    pub fn access(&self) -> Option<Access> {
+        Access::of(&fs::File::open(&self.path).ok()?).ok()
+    }
+
     /// Sees that the file, and what is written beside it, is none of the inputs.
     pub fn apart_from(&self, inputs: &[&Path]) -> Result<(), Failure> {
         for input in inputs {
-            let names = [self.path.clone(), self.temporary(), self.lock()];
-            if names.iter().any(|name| is_same(name, input)) {
+            if self.names().iter().any(|name| is_same(name, input)) {
                 let shown = input.display();
                 let what = format!("can't be written: the run reads {shown}, which is this file or one that is written beside it");
                 return Err(Failure::file(&self.given, what));
@@ -120,8 +153,7 @@ impl Target {
 
 /// Sees that two targets, and what is written beside them, are different files.
 pub fn apart(one: &Target, other: &Target) -> Result<(), Failure> {
-    let names = |target: &Target| [target.path.clone(), target.temporary(), target.lock()];
-    let shared = names(one).iter().any(|name| names(other).contains(name));
+    let shared = one.names().iter().any(|name| other.names().contains(name));
     if shared || is_same(&one.path, &other.path) {
         let shown = other.given.display();
         let what =

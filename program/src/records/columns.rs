@@ -4,7 +4,10 @@
 /// How the bytes of a field are shown.
 #[derive(Clone, Copy, Debug, PartialEq, Eq)]
 pub enum Kind {
+    /// What someone typed: a number of nine digits or more in it is masked as an SSN is.
     Text,
+    /// A count or a total, in digits.
+    Number,
     /// Nine digits of which the first five are masked.
     Ssn,
     /// Digits with two decimal places assumed, whose last may carry a positive sign.
@@ -36,6 +39,10 @@ const fn field(name: &'static str, first: usize, last: usize, kind: Kind) -> Fie
 
 const fn text(name: &'static str, first: usize, last: usize) -> Field {
     field(name, first, last, Kind::Text)
+}
+
+const fn number(name: &'static str, first: usize, last: usize) -> Field {
+    field(name, first, last, Kind::Number)
 }
 
 const fn ssn(first: usize, last: usize) -> Field {
@@ -124,10 +131,10 @@ pub mod control {
 
     pub const STATE: Field = text("Submitting State Code", 1, 2);
     pub const MARK: Field = text("Control", 3, 5);
-    pub const TANF_RECORDS: Field = text("Total TANF Records", 6, 14);
-    pub const NON_TANF_RECORDS: Field = text("Total Non-TANF Records", 15, 23);
-    pub const TANF_AMOUNT: Field = text("Total TANF Amount", 24, 34);
-    pub const NON_TANF_AMOUNT: Field = text("Total Non-TANF Amount", 35, 45);
+    pub const TANF_RECORDS: Field = number("Total TANF Records", 6, 14);
+    pub const NON_TANF_RECORDS: Field = number("Total Non-TANF Records", 15, 23);
+    pub const TANF_AMOUNT: Field = number("Total TANF Amount", 24, 34);
+    pub const NON_TANF_AMOUNT: Field = number("Total Non-TANF Amount", 35, 45);
     pub const FIELDS: Layout = &[
         STATE,
         MARK,
@@ -179,12 +186,12 @@ pub mod reject_control {
     pub const FIELDS: Layout = &[
         text("Submitting State Code", 1, 2),
         MARK,
-        text("TANF Accepted", 6, 14),
-        text("TANF Rejected", 15, 23),
-        text("Non-TANF Accepted", 24, 32),
-        text("Non-TANF Rejected", 33, 41),
-        text("TANF Warning", 42, 50),
-        text("Non-TANF Warning", 51, 59),
+        number("TANF Accepted", 6, 14),
+        number("TANF Rejected", 15, 23),
+        number("Non-TANF Accepted", 24, 32),
+        number("Non-TANF Rejected", 33, 41),
+        number("TANF Warning", 42, 50),
+        number("Non-TANF Warning", 51, 59),
         filler(60, 245),
     ];
 }
@@ -234,8 +241,8 @@ pub mod total {
     use super::*;
 
     pub const MARK: Field = text("Total Control", 6, 14);
-    pub const ADJUSTMENTS: Field = text("Total Adjustments", 35, 49);
-    pub const COLLECTIONS: Field = text("Total Collections", 50, 64);
+    pub const ADJUSTMENTS: Field = number("Total Adjustments", 35, 49);
+    pub const COLLECTIONS: Field = number("Total Collections", 50, 64);
     pub const FIELDS: Layout = &[
         text("Submitting State Code", 1, 2),
         filler(3, 5),
@@ -289,14 +296,14 @@ pub mod rct {
     use super::*;
 
     pub const MARK: Field = text("Record Identifier", 1, 3);
-    pub const TANF: Field = text("TANF Cases Returned", 6, 14);
-    pub const NON_TANF: Field = text("Non-TANF Cases Returned", 15, 23);
+    pub const TANF: Field = number("TANF Cases Returned", 6, 14);
+    pub const NON_TANF: Field = number("Non-TANF Cases Returned", 15, 23);
     pub const FIELDS: Layout = &[
         MARK,
         text("Submitting State Code", 4, 5),
         TANF,
         NON_TANF,
-        text("Total Cases Returned", 24, 32),
+        number("Total Cases Returned", 24, 32),
         text("Extract Date", 33, 40),
         filler(41, 245),
     ];

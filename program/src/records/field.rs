@@ -1,7 +1,10 @@
 //! Fields as text.
 
-use super::columns::{Field, Kind};
+use std::borrow::Cow;
+
+use super::columns::{Field, Kind, Layout};
 use crate::code_page::{Charset, Decoder};
+use crate::mask::masked_typed;
 
 /// What stands for a byte that is no character.
 #[derive(Clone, Copy, Debug, PartialEq, Eq)]
@@ -75,6 +78,15 @@ impl Form {
         }
     }
 
+    /// The same without SSNs that were typed into a field of another kind.
+    fn put_typed(&self, bytes: &[u8], out: &mut String) {
+        let start = out.len();
+        self.put_text(bytes, out);
+        if let (false, Cow::Owned(masked)) = (self.full, masked_typed(&out[start..])) {
+            out.replace_range(start.., &masked);
+        }
+    }
+
     /// Writes an SSN: its last four characters, the others masked.
     fn put_ssn(&self, bytes: &[u8], out: &mut String) {
         let masked = if self.full { 0 } else { MASKED };
@@ -88,7 +100,7 @@ impl Form {
     fn put_amount(&self, bytes: &[u8], out: &mut String) {
         let digits: Option<Vec<u8>> = self.amount_digits(bytes);
         let Some(digits) = digits.filter(|_| !self.digits_masked) else {
-            return self.put_text(bytes, out);
+            return self.put_typed(bytes, out);
         };
         let whole = &digits[..digits.len() - 2];
         let zeros = whole.iter().take_while(|&&digit| digit == b'0').count();
@@ -116,11 +128,28 @@ impl Form {
         }
     }
 
+    /// The place of the first byte of a record that is no character; the last of an amount may have a sign.
+    pub fn no_character(&self, fields: Layout, record: &[u8]) -> Option<usize> {
+        let may_stand = |field: &Field, place: usize| {
+            let byte = record[place];
+            let is_signed = field.kind == Kind::Amount
+                && place + 1 == field.last
+                && self.signed_digit(byte).is_some();
+            is_signed || self.decoder.character(byte).is_some()
+        };
+        let places = |field: &Field| {
+            let wrong = (field.first - 1..field.last).find(|&place| !may_stand(field, place));
+            wrong.filter(|_| field.kind != Kind::Set)
+        };
+        fields.iter().find_map(places)
+    }
+
     /// Writes a field of a record.
     pub fn put(&self, field: &Field, record: &[u8], out: &mut String) {
         let bytes = field.of(record);
         match field.kind {
-            Kind::Text | Kind::Filler => self.put_text(bytes, out),
+            Kind::Number => self.put_text(bytes, out),
+            Kind::Text | Kind::Filler => self.put_typed(bytes, out),
             Kind::Ssn => self.put_ssn(bytes, out),
             Kind::Amount => self.put_amount(bytes, out),
             Kind::Set => out.push_str(&exclusions(bytes[0]).join(",")),

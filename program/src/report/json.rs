@@ -2,6 +2,8 @@
 
 use std::io::{self, Write};
 
+use crate::mask::masked;
+
 /// A writer of one JSON value. Commas are set by it; that names and values alternate in an object is the caller's part.
 pub struct Json<W: Write> {
     out: W,
@@ -9,6 +11,8 @@ pub struct Json<W: Write> {
     open: Vec<bool>,
     /// Whether a name was just written, whose value comes next.
     named: bool,
+    /// Whether SSNs in texts are written whole.
+    full: bool,
 }
 
 impl<W: Write> Json<W> {
@@ -17,7 +21,14 @@ impl<W: Write> Json<W> {
             out,
             open: Vec::new(),
             named: false,
+            full: false,
         }
+    }
+
+    /// The same with SSNs whole, where they are asked for.
+    pub fn full(mut self, full: bool) -> Json<W> {
+        self.full = full;
+        self
     }
 
     /// The comma before a value or name.
@@ -72,7 +83,11 @@ impl<W: Write> Json<W> {
 
     pub fn text(&mut self, text: &str) -> io::Result<()> {
         self.separate()?;
-        self.quoted(text)
+        if self.full {
+            self.quoted(text)
+        } else {
+            self.quoted(&masked(text))
+        }
     }
 
     pub fn number(&mut self, number: u64) -> io::Result<()> {
@@ -89,6 +104,15 @@ impl<W: Write> Json<W> {
     pub fn text_of(&mut self, name: &str, text: &str) -> io::Result<()> {
         self.name(name)?;
         self.text(text)
+    }
+
+    /// A name with a text, or with null.
+    pub fn maybe_text_of(&mut self, name: &str, text: Option<&str>) -> io::Result<()> {
+        self.name(name)?;
+        match text {
+            Some(text) => self.text(text),
+            None => self.null(),
+        }
     }
 
     /// A name with a number.

@@ -2,6 +2,7 @@
 
 use std::io::{self, Write};
 
+use crate::failure::headed;
 use crate::files::read::Input;
 use crate::records::columns::Field;
 use crate::records::field::Form;
@@ -9,8 +10,8 @@ use crate::report::json::Json;
 use crate::report::screen::{Screen, Style};
 
 pub struct Listed<'a> {
-    /// What the records are, and the name of their JSON array.
-    pub heading: &'static str,
+    /// What one record is and what several are, and the name of their JSON array.
+    pub heading: (&'static str, &'static str),
     pub member: &'static str,
     /// Their numbers, the first record being 1.
     pub numbers: &'a [u16],
@@ -36,7 +37,7 @@ impl Listed<'_> {
             return Ok(());
         }
         screen.plain("")?;
-        let heading = format!("{}: {}", self.heading, self.numbers.len());
+        let heading = headed(self.numbers.len() as u64, self.heading);
         screen.line(Style::Heading, &heading)?;
         let mut text = String::new();
         for (number, record) in self.records() {

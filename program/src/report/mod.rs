@@ -6,6 +6,7 @@ pub mod listed;
 pub mod notes;
 pub mod problem;
 pub mod screen;
+pub mod ssn_fault;
 pub mod summary;
 pub mod verdicts;
 pub mod wrap;

@@ -37,7 +37,7 @@ fn first_at(most: usize, mut holds: impl FnMut(usize) -> bool) -> usize {
 /// Notes on a master that was refused by 4: the first row at which the library refuses the rows up to it, or that they are
 /// from before the cents. The master may be changed here.
 pub fn of_rows(master: &mut Input, rows: usize, full: bool) -> Vec<String> {
-    let path = master.path.display().to_string();
+    let path = master.name();
     if add_cents(&mut master.bytes[..rows * ROW], rows).is_ok() {
         return vec![format!(
             "{path}: the rows are from before the cents: run `fantanolive add-cents` once"
@@ -51,7 +51,7 @@ pub fn of_rows(master: &mut Input, rows: usize, full: bool) -> Vec<String> {
 /// Notes on a master that add-cents refused by 4.
 pub fn of_old_rows(master: &Input, rows: usize) -> Vec<String> {
     if find(&master.bytes, rows, &[]) != Err(Refusal::UnsoundRow) {
-        let path = master.path.display();
+        let path = master.name();
         return vec![format!("{path}: the rows have their cents already")];
     }
     let mut copy = Vec::new();
@@ -71,7 +71,7 @@ fn row_note(master: &Input, number: usize, full: bool) -> String {
     form(full).put_key(&[row::STATE, row::SSN, row::CASE_TYPE], record, &mut key);
     format!(
         "{}: row {number} of {} is the first that is not sound, or whose key is not above the one before: key {key}",
-        master.path.display(),
+        master.name(),
         master.length / ROW as u64,
     )
 }
@@ -92,7 +92,7 @@ pub fn of_locals(locals: &Input) -> Vec<String> {
     form(true).put_text(locals.record(number - 1), &mut code);
     vec![format!(
         "{}: code {number} of {} is the first that is not three digits, or not above the one before: '{code}'",
-        locals.path.display(),
+        locals.name(),
         locals.records(),
     )]
 }
@@ -114,7 +114,7 @@ pub fn of_table(table: &Input) -> Vec<String> {
     form(false).put_text(&record[..5], &mut key);
     vec![format!(
         "{}: record {number} of {} is the first that is faulty, or whose key is not above the one before: key {key}",
-        table.path.display(),
+        table.name(),
         table.records(),
     )]
 }
@@ -127,7 +127,7 @@ pub fn of_last_record(input: &Input, fields: &[Field]) -> Vec<String> {
     let form = form(false);
     let start = format!(
         "{}: the last of {}",
-        input.path.display(),
+        input.name(),
         counted(input.records() as u64, "record"),
     );
     if input.kind.marked(record, &form).is_none() {

@@ -4,17 +4,26 @@ use std::io::{self, Write};
 
 use fantanolive::{Text, VERSION};
 
-use crate::failure::{words, Failure};
+use crate::failure::{words, Failure, Status};
 use crate::report::json::Json;
-use crate::report::screen::{standard_output, Screen, Style};
+use crate::report::screen::{report_output, Screen, Style};
 use crate::terminal;
 
+/// How a problem is told: as JSON, with SSNs whole.
+#[derive(Clone, Copy, Default)]
+pub struct Form {
+    pub as_json: bool,
+    pub full: bool,
+    /// Whether standard output is a file's.
+    pub to_error: bool,
+}
+
 /// Prints what is wrong. An error here has no place to go.
-pub fn print(command: &str, failure: &Failure, as_json: bool) {
-    let _ = if as_json {
-        print_json(command, failure)
+pub fn print(command: &str, failure: &Failure, form: Form) {
+    let _ = if form.as_json {
+        print_json(command, failure, form)
     } else {
-        print_text(command, failure)
+        print_text(command, failure, form.full)
     };
 }
 
@@ -31,10 +40,10 @@ pub fn put_json_words<W: Write>(json: &mut Json<W>, text: &Text) -> io::Result<(
     json.text_of("mend", text.mend)
 }
 
-fn print_text(command: &str, failure: &Failure) -> io::Result<()> {
+fn print_text(command: &str, failure: &Failure, full: bool) -> io::Result<()> {
     let width = terminal::error_width();
     let colours = width.is_some() && terminal::takes_colours();
-    let mut screen = Screen::new(io::stderr().lock(), width, colours);
+    let mut screen = Screen::new(io::stderr().lock(), width, colours).full(full);
     let start = match command {
         "" => "fantanolive: ".to_string(),
         command => format!("fantanolive: {command}: "),
@@ -57,24 +66,32 @@ fn print_text(command: &str, failure: &Failure) -> io::Result<()> {
 /// What is wrong, in a sentence.
 fn message(failure: &Failure) -> String {
     match failure {
-        Failure::Argument { message, .. } | Failure::File(message) => message.clone(),
+        Failure::Argument { message, .. } | Failure::File(message) | Failure::Busy(message) => {
+            message.clone()
+        }
         Failure::Refused { refusal, .. } => refusal.to_string(),
-        Failure::Output(error) => format!(
-            "standard output can't be written: {}; the files are as the command leaves them",
-            words(error)
-        ),
+        Failure::Output { error, changed } => {
+            let files = match changed {
+                true => "the run was carried out and is on the disk: don't run it again",
+                false => "no file is changed",
+            };
+            format!(
+                "standard output can't be written: {}; {files}",
+                words(error)
+            )
+        }
     }
 }
 
-fn print_json(command: &str, failure: &Failure) -> io::Result<()> {
-    let mut out = standard_output();
-    let mut json = Json::new(&mut out);
+fn print_json(command: &str, failure: &Failure, form: Form) -> io::Result<()> {
+    let mut out = report_output(form.to_error);
+    let mut json = Json::new(&mut out).full(form.full);
     json.begin_object()?;
     json.text_of("command", command)?;
     json.text_of("version", VERSION)?;
     match failure {
         Failure::Refused { refusal, notes } => {
-            json.text_of("outcome", "refused")?;
+            json.text_of("outcome", outcome(failure.status()))?;
             json.number_of("status", failure.status() as u64)?;
             json.number_of("refusal", refusal.number())?;
             put_json_words(&mut json, refusal.text())?;
@@ -86,7 +103,7 @@ fn print_json(command: &str, failure: &Failure) -> io::Result<()> {
             json.end_array()?;
         }
         other => {
-            json.text_of("outcome", "failed")?;
+            json.text_of("outcome", outcome(failure.status()))?;
             json.number_of("status", failure.status() as u64)?;
             json.text_of("message", &message(other))?;
         }
@@ -94,4 +111,14 @@ fn print_json(command: &str, failure: &Failure) -> io::Result<()> {
     json.end_object()?;
     json.finish()?;
     out.flush()
+}
+
+/// What became of a run that was not carried out, in a word.
+fn outcome(status: Status) -> &'static str {
+    match status {
+        Status::Refused => "refused",
+        Status::NotFound => "not found",
+        Status::Busy => "busy",
+        _ => "failed",
+    }
 }

@@ -1,8 +1,9 @@
 //! Lines of text on standard output: cut at the width of a terminal, with colours there.
 
 use std::borrow::Cow;
-use std::io::{self, BufWriter, StdoutLock, Write};
+use std::io::{self, BufWriter, Write};
 
+use crate::mask::masked;
 use crate::report::wrap::wrapped;
 use crate::terminal;
 
@@ -39,21 +40,31 @@ pub struct Screen<W: Write> {
     /// The width of the terminal; none where there is none.
     width: Option<usize>,
     colours: bool,
+    /// Whether SSNs are printed whole.
+    full: bool,
 }
 
-/// Standard output with a large buffer.
-pub fn standard_output() -> BufWriter<StdoutLock<'static>> {
-    BufWriter::with_capacity(1 << 16, io::stdout().lock())
+/// Where a report goes, with a large buffer.
+pub type Output = BufWriter<Box<dyn Write>>;
+
+/// The stream of reports: standard output, or standard error where a file goes to standard output.
+pub fn report_output(to_error: bool) -> Output {
+    let stream: Box<dyn Write> = if to_error {
+        Box::new(io::stderr().lock())
+    } else {
+        Box::new(io::stdout().lock())
+    };
+    BufWriter::with_capacity(1 << 16, stream)
 }
 
-impl Screen<BufWriter<StdoutLock<'static>>> {
-    pub fn standard() -> Self {
-        let width = terminal::output_width();
-        Screen::new(
-            standard_output(),
-            width,
-            width.is_some() && terminal::takes_colours(),
-        )
+impl Screen<Output> {
+    pub fn of_report(to_error: bool) -> Self {
+        let width = match to_error {
+            true => terminal::error_width(),
+            false => terminal::output_width(),
+        };
+        let colours = width.is_some() && terminal::takes_colours();
+        Screen::new(report_output(to_error), width, colours)
     }
 }
 
@@ -63,12 +74,21 @@ impl<W: Write> Screen<W> {
             out,
             width,
             colours,
+            full: false,
         }
+    }
+
+    /// The same with SSNs whole, where they are asked for.
+    pub fn full(mut self, full: bool) -> Screen<W> {
+        self.full = full;
+        self
     }
 
     /// A line, cut where the terminal is narrower.
     pub fn line(&mut self, style: Style, text: &str) -> io::Result<()> {
-        let text = &*printable(text);
+        let plain = printable(text);
+        let without_ssns = masked(&plain);
+        let text = if self.full { &plain } else { &without_ssns };
         let coloured = self.colours && style != Style::Plain;
         if coloured {
             self.out.write_all(style.start().as_bytes())?;

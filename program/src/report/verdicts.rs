@@ -4,15 +4,17 @@ use std::io::{self, Write};
 
 use fantanolive::{code_text, codes, has_code, ERRORS, RECORD, WARNINGS};
 
-use crate::failure::counted;
+use crate::failure::{counted, headed};
 use crate::records::columns::{detail, reject, Field};
 use crate::records::field::Form;
 use crate::report::json::Json;
 use crate::report::problem::{put_json_words, put_words};
 use crate::report::screen::{Screen, Style};
+use crate::report::ssn_fault;
 
-/// The code with which the stored name goes.
+/// The code with which the stored name goes, and the one with what is wrong with the SSN.
 const NAME_DIFFERS: u32 = 17;
+const WRONG_SSN: u32 = 2;
 
 /// The members of a record in JSON.
 const FIELDS: [(&str, Field); 6] = [
@@ -75,13 +77,13 @@ impl Verdicts<'_> {
     }
 
     pub fn put_text<W: Write>(&self, screen: &mut Screen<W>) -> io::Result<()> {
-        self.put_list(screen, "Records with errors", ERRORS, Style::Error)?;
-        self.put_list(
-            screen,
-            "Records accepted with a warning",
-            WARNINGS,
-            Style::Warning,
-        )?;
+        let with_errors = ("record with errors", "records with errors");
+        self.put_list(screen, with_errors, ERRORS, Style::Error)?;
+        let warned = (
+            "record accepted with a warning",
+            "records accepted with a warning",
+        );
+        self.put_list(screen, warned, WARNINGS, Style::Warning)?;
         let counts = self.counts();
         if !counts.is_empty() {
             screen.plain("")?;
@@ -97,7 +99,7 @@ impl Verdicts<'_> {
     fn put_list<W: Write>(
         &self,
         screen: &mut Screen<W>,
-        heading: &str,
+        heading: (&str, &str),
         set: u64,
         style: Style,
     ) -> io::Result<()> {
@@ -106,7 +108,7 @@ impl Verdicts<'_> {
             return Ok(());
         }
         screen.plain("")?;
-        screen.line(Style::Heading, &format!("{heading}: {count}"))?;
+        screen.line(Style::Heading, &headed(count as u64, heading))?;
         let lines = code_lines();
         let mut text = String::new();
         for coded in self.coded(set) {
@@ -118,6 +120,9 @@ impl Verdicts<'_> {
                 text.push_str(&lines[code as usize]);
                 if code == NAME_DIFFERS {
                     put_stored(&self.of_rejects, &coded, &mut text);
+                }
+                if let (WRONG_SSN, Some(fault)) = (code, coded.ssn_fault()) {
+                    text.push_str(&format!(" ({fault})"));
                 }
                 screen.plain(&text)?;
             }
@@ -167,7 +172,16 @@ impl Verdicts<'_> {
             let stored = self.of_rejects.field(&reject::STORED_NAME, coded.reject);
             json.text_of("stored_name", &stored)?;
         }
+        if let (true, Some(fault)) = (has_code(coded.verdict, WRONG_SSN), coded.ssn_fault()) {
+            json.text_of("ssn_fault", &fault)?;
+        }
         json.end_object()
+    }
+}
+
+impl Coded<'_> {
+    fn ssn_fault(&self) -> Option<String> {
+        ssn_fault::of_ssn(detail::SSN.of(self.detail))
     }
 }
 

@@ -220,7 +220,7 @@ fn over_the_master(files: &Files, folder: &Path) -> Vec<Case> {
     let key = files.master[..12].to_vec();
     find.call = timed(|| library::find(&files.master, MOST, &key, &mut 0)).0;
     find.changed = restored();
-    find.listed = ("  place", 1);
+    find.listed = ("  row ", 1);
 
     let words = "reconcile master.bin --state OH --date 20071231 --out rec.bin";
     let mut reconcile = Case::new("reconcile", words, 0);

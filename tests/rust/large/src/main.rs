@@ -25,6 +25,9 @@ const BESIDE: u64 = 8 << 20;
 /// What starting a program and a busy machine may take, in seconds.
 const START: f64 = 0.1;
 
+/// What the fingerprints of the log may take, in seconds a byte, on a processor without instructions for them.
+const FINGERPRINT: f64 = 6e-9;
+
 /// How often a command is measured; the least time counts.
 const TIMES: usize = 3;
 
@@ -37,8 +40,12 @@ impl Drop for Folder {
     }
 }
 
-/// Puts the files back as they are before a command.
+/// Puts the files back as they are before a command; those that it makes are not there.
 fn reset(case: &Case, folder: &Path) {
+    for (name, _) in &case.written {
+        let _ = fs::remove_file(folder.join(name));
+        let _ = fs::remove_file(folder.join(format!("{name}.log")));
+    }
     for (name, bytes) in &case.changed {
         match bytes {
             Some(bytes) => fs::write(folder.join(name), bytes).expect("the folder takes files"),
@@ -77,7 +84,8 @@ fn fault(case: &Case, folder: &Path, measured: &Measured) -> Option<String> {
             measured.memory
         ));
     }
-    let allowed = 3.0 * (case.call + case.files) + START;
+    let prints = FINGERPRINT * case.memory() as f64;
+    let allowed = 3.0 * (case.call + case.files) + prints + START;
     if case.call > 0.0 && measured.seconds > allowed {
         return Some(format!("{:.3} s, not {allowed:.3}", measured.seconds));
     }

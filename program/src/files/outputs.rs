@@ -1,0 +1,202 @@
+//! What a run writes. Every file that a command writes goes through here: the state that it replaces (a master or a table of
+//! contact records) and the files that it makes. They are told apart from the inputs and from each other, nothing is
+//! overwritten by a slip, each is locked, and all are put in place together.
+
+use std::io::Write;
+use std::path::{Path, PathBuf};
+use std::time::Duration;
+
+use crate::arguments::Arguments;
+use crate::failure::{shown, Failure, STANDARD};
+use crate::files::lock::Lock;
+use crate::files::protect::may_be_made;
+use crate::files::replace::{self, stage, NewFile, Placed, Staged, WriteFailure, OWNER_ALONE};
+use crate::files::target::{apart, Target};
+use crate::progress::Progress;
+
+/// Where a file that is made goes.
+enum Place {
+    File(Target),
+    Standard,
+}
+
+pub struct Outputs {
+    /// The first operand, where the run replaces it.
+    state: Option<Target>,
+    /// The files that options name, by the option.
+    made: Vec<(&'static str, Place)>,
+    mode: Option<u32>,
+    _locks: Vec<Lock>,
+}
+
+/// What a command writes.
+pub struct Wanted<'a> {
+    /// Whether the first operand is replaced.
+    pub state: bool,
+    /// The options that name files to be made.
+    pub made: &'static [&'static str],
+    pub inputs: &'a [&'a Path],
+}
+
+/// Sees that a state is there, or with --new that it isn't; an empty one may be what is left of one.
+pub fn expect(target: &Target, arguments: &Arguments) -> Result<(), Failure> {
+    let length = std::fs::metadata(&target.path).map(|about| about.len());
+    let may_be_new = arguments.command.option("--new").is_some();
+    let what = match (length, arguments.flag("--new")) {
+        (Ok(1..), true) => "is there already; --new is for a first run from no file",
+        (Err(_), false) if may_be_new => "no such file; a first run from no file takes --new",
+        (Err(_), false) if !target.exists() => "no such file",
+        (Ok(0), false) if may_be_new => {
+            "is empty: it may have been cut off; --new takes it for a new one"
+        }
+        (Ok(0), false) => "is empty: it may have been cut off",
+        _ => return Ok(()),
+    };
+    Err(Failure::file(&target.given, what))
+}
+
+/// The place that an option names.
+fn place_of(arguments: &Arguments, option: &str) -> Result<Place, Failure> {
+    let given = arguments.needed(option);
+    if given == STANDARD {
+        return Ok(Place::Standard);
+    }
+    Ok(Place::File(Target::of(Path::new(given))?))
+}
+
+impl Outputs {
+    /// Sees that all that is wanted may be written, and locks it. Nothing is changed by that.
+    pub fn open(arguments: &Arguments, wanted: &Wanted) -> Result<Outputs, Failure> {
+        let mode = arguments.mode()?;
+        let wait = Duration::from_secs(arguments.number("--wait")?.unwrap_or(0));
+        let mut outputs = Outputs {
+            state: None,
+            made: Vec::new(),
+            mode,
+            _locks: Vec::new(),
+        };
+        if wanted.state {
+            let state = Target::of(arguments.path(0))?;
+            outputs.state = Some(Target {
+                is_logged: true,
+                ..state
+            });
+        }
+        for &option in wanted.made {
+            outputs.made.push((option, place_of(arguments, option)?));
+        }
+        outputs.see_apart(wanted.inputs)?;
+        outputs.see_allowed(arguments)?;
+        let locks = outputs.targets().map(|target| Lock::take(target, wait));
+        let locks = locks.collect::<Result<_, _>>()?;
+        outputs._locks = locks;
+        // another run may have been at work before the lock was taken
+        outputs.see_allowed(arguments)?;
+        Ok(outputs)
+    }
+
+    /// The master or table that the command replaces.
+    pub fn master(&self) -> &Target {
+        self.state.as_ref().expect("the command replaces it")
+    }
+
+    fn targets(&self) -> impl Iterator<Item = &Target> {
+        self.state.iter().chain(self.made_files())
+    }
+
+    fn made_files(&self) -> impl Iterator<Item = &Target> {
+        self.made.iter().filter_map(|(_, place)| match place {
+            Place::File(target) => Some(target),
+            Place::Standard => None,
+        })
+    }
+
+    fn see_apart(&self, inputs: &[&Path]) -> Result<(), Failure> {
+        let targets: Vec<&Target> = self.targets().collect();
+        for (at, target) in targets.iter().enumerate() {
+            target.apart_from(inputs)?;
+            for other in &targets[..at] {
+                apart(target, other)?;
+            }
+        }
+        Ok(())
+    }
+
+    fn see_allowed(&self, arguments: &Arguments) -> Result<(), Failure> {
+        if let Some(target) = &self.state {
+            expect(target, arguments)?;
+        }
+        let force = arguments.flag("--force");
+        self.made_files()
+            .try_for_each(|target| may_be_made(target, force))
+    }
+
+    /// Writes a file that an option names under its temporary name.
+    pub fn stage_made(
+        &self,
+        option: &str,
+        progress: &Progress,
+        write: impl FnOnce(&mut dyn Write) -> Result<(), WriteFailure>,
+    ) -> Result<Staged, Failure> {
+        let place = self.made.iter().find(|(name, _)| *name == option);
+        match place {
+            Some((_, Place::File(target))) => {
+                stage(target, &NewFile::of_mode(self.mode), progress, write)
+            }
+            _ => {
+                let mut bytes = Vec::new();
+                match write(&mut bytes) {
+                    Ok(()) => Ok(Staged::Standard(bytes)),
+                    Err(WriteFailure::Other(failure)) => Err(failure),
+                    Err(WriteFailure::Write(error)) => Err(Failure::Output {
+                        error,
+                        changed: false,
+                    }),
+                }
+            }
+        }
+    }
+
+    /// The same from bytes.
+    pub fn stage_bytes(
+        &self,
+        option: &str,
+        progress: &Progress,
+        bytes: &[u8],
+    ) -> Result<Staged, Failure> {
+        self.stage_made(option, progress, |out| Ok(out.write_all(bytes)?))
+    }
+
+    /// Writes the new state under its temporary name.
+    pub fn stage_state(&self, progress: &Progress, bytes: &[u8]) -> Result<Staged, Failure> {
+        let new = NewFile::of_mode(self.mode);
+        stage(self.master(), &new, progress, |out| {
+            Ok(out.write_all(bytes)?)
+        })
+    }
+
+    /// Writes the log of the state under its temporary name. It is its owner's alone, and the owner is that of the state.
+    pub fn stage_log(&self, progress: &Progress, bytes: &[u8]) -> Result<Staged, Failure> {
+        let access = self.master().access();
+        let new = NewFile {
+            mode: OWNER_ALONE,
+            owner: access.as_ref(),
+        };
+        let log = self.master().log_target()?;
+        stage(&log, &new, progress, |out| Ok(out.write_all(bytes)?))
+    }
+
+    /// Puts what was staged in place, in this order, and gives the locks back.
+    pub fn put_in_place(self, files: Vec<Staged>) -> Result<Placed, Failure> {
+        replace::put_in_place(files)
+    }
+}
+
+/// The files of a report by name.
+pub fn names(written: &[PathBuf]) -> Vec<String> {
+    let name = |path: &PathBuf| match path.as_os_str() == STANDARD {
+        true => "standard output".to_string(),
+        false => shown(path),
+    };
+    written.iter().map(name).collect()
+}
