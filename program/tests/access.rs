@@ -193,6 +193,31 @@ fn a_group_that_can_not_be_kept_is_refused() {
 }
 
 #[test]
+fn a_label_that_can_not_be_kept_is_refused() {
+    let folder = folder("access-label");
+    let path = folder.path("two.bin");
+    set_mode(&folder, ".", 0o777);
+    set_mode(&folder, "weekly.bin", 0o644);
+    let given = chown(&path, Some(65_534), Some(65_534)).is_ok();
+    if !given || !set(&path, "security.label", b"secret") {
+        println!("skipped: the disk takes no security label");
+        return;
+    }
+    let mut command = folder.command(&POST);
+    command.uid(65_534).gid(65_534);
+    let Ok(output) = command.output() else {
+        println!("skipped: no other user can run the program");
+        return;
+    };
+    let ran: Ran = output.into();
+    assert_eq!(ran.status, 3, "{ran:?}");
+    let message = "its security label security.label can't be kept";
+    assert!(ran.err.contains(message), "{}", ran.err);
+    assert_eq!(folder.read("two.bin"), two_rows("00"));
+    assert_eq!(folder.names(), ["two.bin", "weekly.bin"]);
+}
+
+#[test]
 fn read_only_files_are_refused() {
     let folder = folder("access-read-only");
     set_mode(&folder, "two.bin", 0o444);
