@@ -12,6 +12,7 @@ use lib.ListN.{length, getD, drop, drop-of-length-le}
 use lib.Seq.{drop-cons}
 use Rattle.text.specs.Characters.{isLetter, space}
 use Rattle.text.specs.Fields.{isBlank}
+use Rattle.text.proofs.FieldsLaws.{and-left, and-right}
 use Rattle.layout.specs.Name.{isNameByte, isNameRest, isName, hasLetter}
 
 pub name-none : (s : List ℕ) → length s ≡ 0 → isName s ≡ false
@@ -102,3 +103,32 @@ four-letter (a ∷ b ∷ []) l = absurd (let x : 2 ≡ 4 = l in omega arith)
 four-letter (a ∷ b ∷ c ∷ []) l = absurd (let x : 3 ≡ 4 = l in omega arith)
 four-letter (a ∷ b ∷ c ∷ d ∷ []) l = rw (or-false (isLetter d))
 four-letter (a ∷ b ∷ c ∷ d ∷ e ∷ s) l = absurd (let x : suc (suc (suc (suc (suc (length s))))) ≡ 4 = l in omega arith)
+
+-- four letters are a name
+pub letters-name : (s : List ℕ) → length s ≡ 4
+    → (isLetter (getD s 0 0) && isLetter (getD s 1 0) && isLetter (getD s 2 0) && isLetter (getD s 3 0)) ≡ true → isName s ≡ true
+unfolding isName isNameRest isNameByte
+letters-name [] l t = absurd (let x : 0 ≡ 4 = l in omega arith)
+letters-name (a ∷ []) l t = absurd (let x : 1 ≡ 4 = l in omega arith)
+letters-name (a ∷ b ∷ []) l t = absurd (let x : 2 ≡ 4 = l in omega arith)
+letters-name (a ∷ b ∷ c ∷ []) l t = absurd (let x : 3 ≡ 4 = l in omega arith)
+letters-name (a ∷ b ∷ c ∷ d ∷ []) l t =
+    let u = and-left (isLetter a && isLetter b && isLetter c) (isLetter d) t in
+    let v = and-left (isLetter a && isLetter b) (isLetter c) u in
+    rw (
+      and-left (isLetter a) (isLetter b) v,
+      and-right (isLetter a) (isLetter b) v,
+      and-right (isLetter a && isLetter b) (isLetter c) u,
+      and-right (isLetter a && isLetter b && isLetter c) (isLetter d) t,
+    )
+letters-name (a ∷ b ∷ c ∷ d ∷ e ∷ s) l t = absurd (let x : suc (suc (suc (suc (suc (length s))))) ≡ 4 = l in omega arith)
+
+-- and have one
+pub letters-letter : (s : List ℕ)
+    → (isLetter (getD s 0 0) && isLetter (getD s 1 0) && isLetter (getD s 2 0) && isLetter (getD s 3 0)) ≡ true → hasLetter s ≡ true
+unfolding hasLetter isLetter
+letters-letter [] t = cc
+letters-letter (a ∷ s) t =
+    let u = and-left (isLetter a && isLetter (getD s 0 0) && isLetter (getD s 1 0)) (isLetter (getD s 2 0)) t in
+    let v = and-left (isLetter a && isLetter (getD s 0 0)) (isLetter (getD s 1 0)) u in
+    rw (and-left (isLetter a) (isLetter (getD s 0 0)) v)

@@ -3,7 +3,8 @@ use text::characters;
 use text::fields;
 ghost use mathlib.Core.Path.{_≡_};
 ghost use mathlib.Core.Bool.{_&&_};
-ghost use lib.ListN.{length};
+ghost use lib.ListN.{length, getD};
+ghost use Rattle.text.specs.Characters.{isLetter};
 ghost use Rattle.layout.specs.Name.{isNameByte, isName, hasLetter};
 
 // Whether a byte is a letter or a hyphen.
@@ -13,8 +14,20 @@ pub fn is_name_byte(b: u8) -> bool
     characters::is_letter(b) | (b == 0x60)
 }
 
-// Whether four bytes are one or more letters or hyphens with only spaces behind. No branch: names of less than four letters come between
-// others in no order.
+// Whether four bytes are letters, as most names have them.
+fn are_four_letters(s: &[u8]) -> bool
+    requires { ⌜ length (now s) ≡ 4 ⌝ }
+    ensures { λ r. ⌜ r ≡ (isLetter (getD (now (s .entry)) 0 0) && isLetter (getD (now (s .entry)) 1 0)
+        && isLetter (getD (now (s .entry)) 2 0) && isLetter (getD (now (s .entry)) 3 0)) ⌝ }
+{
+    let a = characters::is_letter(s[0]);
+    let b = characters::is_letter(s[1]);
+    let c = characters::is_letter(s[2]);
+    let d = characters::is_letter(s[3]);
+    a & b & c & d
+}
+
+// Whether four bytes are one or more letters or hyphens with only spaces behind, with no branch.
 fn is_four_name(s: &[u8]) -> bool
     requires { ⌜ length (now s) ≡ 4 ⌝ }
     ensures { λ r. ⌜ r ≡ isName (now (s .entry)) ⌝ }
@@ -61,12 +74,15 @@ fn is_name_by_byte(s: &[u8]) -> bool
     true
 }
 
-// The same; four bytes are seen at once.
+// The same; four bytes are seen at once, four letters first.
 pub fn is_name(s: &[u8]) -> bool
     ensures { λ r. ⌜ r ≡ isName (now (s .entry)) ⌝ }
 {
     if s.len() != 4 {
         return is_name_by_byte(s);
+    }
+    if are_four_letters(s) {
+        return true;
     }
     is_four_name(s)
 }
@@ -76,6 +92,9 @@ pub fn is_lettered_name(s: &[u8]) -> bool
     requires { ⌜ length (now s) ≡ 4 ⌝ }
     ensures { λ r. ⌜ r ≡ (isName (now (s .entry)) && hasLetter (now (s .entry))) ⌝ }
 {
+    if are_four_letters(s) {
+        return true;
+    }
     is_four_name(s) & has_letter_in_four(s)
 }
 
