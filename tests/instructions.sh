@@ -1,6 +1,7 @@
 #!/usr/bin/env bash
 # Counts the instructions of one call with callgrind, case by case, of the library and of the speed engine, and prints them in
-# millions. Cases can be named; without any all are counted. It wants bin/build-library before it, and valgrind.
+# millions. Cases can be named; without any all are counted. It wants bin/build-library before it, or another library in
+# FANTANOLIVE_LIB_DIR, and valgrind.
 set -u
 root=$(dirname -- "$(dirname -- "$(readlink -f -- "$0")")")
 cd -- "$root" || exit 2
@@ -8,7 +9,7 @@ if ! command -v valgrind >/dev/null; then
     echo "instructions: no valgrind, nothing is counted"
     exit 0
 fi
-export CARGO_TARGET_DIR="$root/target/rust" FANTANOLIVE_LIB_DIR="$root/target/staticlib"
+export CARGO_TARGET_DIR="$root/target/rust" FANTANOLIVE_LIB_DIR="${FANTANOLIVE_LIB_DIR:-$root/target/staticlib}"
 cargo build --quiet --release --offline --manifest-path tests/rust/Cargo.toml -p benchmark || exit 1
 said=$(mktemp) || exit 2
 trap 'rm -f -- "$said"' EXIT
@@ -23,13 +24,9 @@ count() {
     awk '/Collected/ { printf "%.1f", $4 / 1e6 }' "$said"
 }
 
-both="find reconcile 100-changes 8192-changes 16384-changes 32768-changes 65535-changes 65535-adds 19660-adds mixed one-key"
-[ "$#" -gt 0 ] || set -- $both post contacts
-printf '%-16s%10s%10s\n' "case" library speed
+[ "$#" -gt 0 ] || set -- find find-10-names find-100-names reconcile 100-changes 8192-changes 16384-changes 32768-changes 65535-changes \
+    in-order-changes 65535-adds 1000-codes 19660-adds mixed half-known-adds one-key post post-in-order post-one-row contacts to-ebcdic to-ascii
+printf '%-18s%10s%10s\n' "case" library speed
 for name in "$@"; do
-    case " $both " in
-    *" $name "*) speed=$(count "$name" speed) ;;
-    *) speed=- ;;
-    esac
-    printf '%-16s%10s%10s\n' "$name" "$(count "$name" library)" "$speed"
+    printf '%-18s%10s%10s\n' "$name" "$(count "$name" library)" "$(count "$name" speed)"
 done

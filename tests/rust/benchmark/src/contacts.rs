@@ -7,7 +7,7 @@ use generator::contacts::{numbered, Contact, CONTACT};
 use generator::rng::Rng;
 
 use crate::clock::seconds;
-use crate::{cell, median, print_beside, Line};
+use crate::{median, print_beside, print_lines, Line, ENGINES};
 
 /// As many as there are states and codes.
 const MOST: usize = 54_000;
@@ -53,15 +53,18 @@ pub fn updating(repetitions: usize) -> Updates {
     }
 }
 
-/// The times of one file: the library, the reference.
+/// The times of one file.
 fn line(name: String, records: &[Contact], repetitions: usize) -> Line {
     let file = records.concat();
-    let (mut one, mut two) = (vec![0; file.len()], vec![0; file.len()]);
-    let (mut first, mut second) = (vec![0; records.len()], vec![0; records.len()]);
-    let mut times = [Vec::new(), Vec::new()];
+    let mut one = vec![0; file.len()];
+    let (mut two, mut three) = (one.clone(), one.clone());
+    let mut first = vec![0; records.len()];
+    let (mut second, mut third) = (first.clone(), first.clone());
+    let mut times: [Vec<f64>; ENGINES] = Default::default();
     for _ in 0..repetitions {
         one.fill(1);
         two.fill(1);
+        three.fill(1);
         let (mut answer, mut result, mut done) = (1, [0; 2], Err(0));
         times[0].push(seconds(|| {
             answer = library::contacts_update(
@@ -77,12 +80,15 @@ fn line(name: String, records: &[Contact], repetitions: usize) -> Line {
         }));
         assert_eq!(answer, 0, "{name} was refused");
         assert!(done == Ok(result) && one == two, "{name} differs");
+        times[2].push(seconds(|| {
+            done = speed::update(black_box(&mut three), 0, &file, &mut third);
+        }));
+        assert!(done == Ok(result) && one == three, "{name} differs");
     }
     assert_eq!(one.len(), records.len() * CONTACT);
-    let [library, reference] = times.map(|series| Some(median(&series)));
     Line {
         name,
-        times: [library, reference, None],
+        times: times.map(|series| Some(median(&series))),
     }
 }
 
@@ -93,29 +99,23 @@ impl Updates {
             MOST * CONTACT,
             self.copy * 1e3
         );
-        println!(
-            "{:<40}{:>22}{:>22}",
-            "into an empty table", "library", "reference"
-        );
-        for line in &self.orders {
-            let [library, reference, _] = line.times.map(|time| cell(time, self.copy));
-            println!("{:<40}{library:>22}{reference:>22}", line.name);
-        }
+        print_lines("into an empty table", &self.orders, self.copy);
         println!();
         println!(
-            "{:<40}{:>22}{:>22}",
-            "beside rising", "library", "reference"
+            "{:<40}{:>22}{:>22}{:>22}",
+            "beside rising", "library", "reference", "speed engine"
         );
         for line in &self.orders[1..] {
-            print_beside(line, Some(&self.orders[0]), 2);
+            print_beside(line, Some(&self.orders[0]), ENGINES);
         }
         println!();
         println!(
-            "{:<40}{:>22}{:>22}",
-            "doubling: n contacts falling", "library", "reference"
+            "{:<40}{:>22}{:>22}{:>22}",
+            "doubling: n contacts falling", "library", "reference", "speed engine"
         );
         for (at, line) in self.doubled.iter().enumerate() {
-            print_beside(line, at.checked_sub(1).map(|at| &self.doubled[at]), 2);
+            let before = at.checked_sub(1).map(|at| &self.doubled[at]);
+            print_beside(line, before, ENGINES);
         }
     }
 }

@@ -6,15 +6,15 @@ use generator::files::{accepted, Direction};
 use generator::rng::Rng;
 
 use crate::clock::seconds;
-use crate::{cell, median};
+use crate::{median, print_lines, Line, ENGINES};
 
-const BYTES: usize = 16 * 1024 * 1024;
+pub const BYTES: usize = 16 * 1024 * 1024;
 
 /// Medians, in seconds.
 pub struct Conversions {
     copy: f64,
-    /// By direction: the library, the reference.
-    times: [[f64; 2]; 2],
+    /// By direction.
+    lines: [Line; 2],
 }
 
 pub fn converting(repetitions: usize) -> Conversions {
@@ -22,7 +22,7 @@ pub fn converting(repetitions: usize) -> Conversions {
     let mut copy = vec![1; BYTES];
     let (mut ebcdic, mut ascii) = (copy.clone(), copy.clone());
     let (mut other, mut copies) = (copy.clone(), Vec::new());
-    let mut times: [[Vec<f64>; 2]; 2] = Default::default();
+    let mut times: [[Vec<f64>; ENGINES]; 2] = Default::default();
     for _ in 0..repetitions {
         let (mut place, mut answers) = (0, [1; 2]);
         copies.push(seconds(|| {
@@ -36,6 +36,15 @@ pub fn converting(repetitions: usize) -> Conversions {
         }));
         assert_eq!(answers, [0; 2], "converting was refused");
         assert!(ascii == file, "there and back differs");
+        let mut done = [Ok(()); 2];
+        times[0][2].push(seconds(|| {
+            done[0] = speed::to_ebcdic(black_box(&file), black_box(&mut other));
+        }));
+        assert!(other == ebcdic, "to_ebcdic differs");
+        times[1][2].push(seconds(|| {
+            done[1] = speed::to_ascii(black_box(&ebcdic), black_box(&mut other));
+        }));
+        assert!(done == [Ok(()); 2] && other == ascii, "to_ascii differs");
     }
     // The reference is slow: once is enough.
     let mut done = Ok(());
@@ -43,9 +52,16 @@ pub fn converting(repetitions: usize) -> Conversions {
     assert!(done.is_ok() && other == ebcdic, "to_ebcdic differs");
     times[1][1].push(seconds(|| done = reference::to_ascii(&ebcdic, &mut other)));
     assert!(done.is_ok() && other == ascii, "to_ascii differs");
+    let line = |name: &str, engines: &[Vec<f64>; ENGINES]| Line {
+        name: name.to_string(),
+        times: [0, 1, 2].map(|engine| Some(median(&engines[engine]))),
+    };
     Conversions {
         copy: median(&copies),
-        times: times.map(|engines| engines.map(|series| median(&series))),
+        lines: [
+            line("to EBCDIC", &times[0]),
+            line("and back to ASCII", &times[1]),
+        ],
     }
 }
 
@@ -55,10 +71,6 @@ impl Conversions {
             "one memcpy of {BYTES} bytes: {:.2} ms; below, x counts such copies",
             self.copy * 1e3
         );
-        println!("{:<40}{:>22}{:>22}", "16 MB", "library", "reference");
-        for (name, times) in ["to EBCDIC", "and back to ASCII"].iter().zip(self.times) {
-            let [library, reference] = times.map(|time| cell(Some(time), self.copy));
-            println!("{name:<40}{library:>22}{reference:>22}");
-        }
+        print_lines("16 MB", &self.lines, self.copy);
     }
 }

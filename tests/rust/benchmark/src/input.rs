@@ -7,7 +7,7 @@ use generator::text::text;
 
 pub const MOST: usize = 65_535;
 pub const STATE: [u8; 2] = [0xD6, 0xC8];
-const TYPES: &[u8] = b"MCBLRZST";
+pub const TYPES: &[u8] = b"MCBLRZST";
 
 /// What apply gets.
 pub struct Input {
@@ -21,7 +21,7 @@ pub struct Input {
     pub moved: f64,
 }
 
-fn input(name: &str, rows: usize, room: usize, details: &[Record], moved: f64) -> Input {
+pub fn input(name: &str, rows: usize, room: usize, details: &[Record], moved: f64) -> Input {
     let mut master = bulk::rows(STATE, rows, 2);
     master.resize(room * 200, 0xA5);
     let mut batch = details.concat();

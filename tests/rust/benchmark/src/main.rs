@@ -3,6 +3,7 @@
 //! as multiples of one memcpy of the file or master. `--quick` leaves out what is predicted to take
 //! more than two seconds; `--once CASE ENGINE` makes one call and measures nothing.
 
+mod cases;
 mod clock;
 mod contacts;
 mod convert;
@@ -114,12 +115,20 @@ fn measure(quick: bool) {
     applied.push(bench.line(&adds(name, 45_875, 19_660, false)));
     let name = "45875 rows, 65535 details, 19660 adds";
     applied.push(bench.line(&adds(name, 45_875, 19_660, true)));
+    for input in cases::FURTHER {
+        applied.push(bench.line(&input()));
+    }
     let mut doubled = Vec::new();
     for count in [8192, 16_384, 32_768, 65_535] {
         doubled.push(bench.line(&changes(&format!("{count}"), count, count)));
     }
     let crowded = bench.crowded();
-    let looked = [bench.finding(), bench.reconciling()];
+    let looked = [
+        bench.finding(0),
+        bench.finding(10),
+        bench.finding(100),
+        bench.reconciling(),
+    ];
     let converted = converting(bench.repetitions);
     let updated = updating(bench.repetitions);
     let posted = posting(bench.repetitions);
@@ -233,9 +242,10 @@ impl Bench {
         lines
     }
 
-    /// Finding, per call.
-    fn finding(&mut self) -> Line {
-        let (master, keys, _) = lookup(if self.quick { 100 } else { 1000 });
+    /// Finding, per call, with a share of other names.
+    fn finding(&mut self, share: usize) -> Line {
+        let (mut master, keys, _) = lookup(if self.quick { 100 } else { 1000 });
+        cases::rename(&mut master, share);
         let mut times = [Vec::new(), Vec::new(), Vec::new()];
         for (at, key) in keys.iter().enumerate() {
             let (mut place, mut answer) = (0, 0);
@@ -258,7 +268,7 @@ impl Bench {
             }
         }
         Line {
-            name: format!("find, one call ({} keys)", keys.len()),
+            name: format!("find ({} keys), {share} % other names", keys.len()),
             times: times.map(|times| Some(median(&times))),
         }
     }
@@ -321,13 +331,7 @@ fn print(bench: &Bench, applied: &[Line], doubled: &[Line], crowded: &[Line], lo
         copy * 1e3
     );
     println!();
-    println!(
-        "{:<40}{:>22}{:>22}{:>22}{:>11}",
-        "apply", "library", "reference", "speed engine", "lib/speed"
-    );
-    for line in applied {
-        print_engines(line, copy);
-    }
+    print_lines("apply", applied, copy);
     println!();
     println!(
         "{:<40}{:>22}{:>22}{:>22}",
@@ -345,11 +349,16 @@ fn print(bench: &Bench, applied: &[Line], doubled: &[Line], crowded: &[Line], lo
         print_beside(line, (at > 0).then_some(&crowded[0]), ENGINES);
     }
     println!();
+    print_lines("65535 rows", looked, copy);
+}
+
+/// Lines of all engines under a heading.
+fn print_lines(heading: &str, lines: &[Line], copy: f64) {
     println!(
-        "{:<40}{:>22}{:>22}{:>22}{:>11}",
-        "65535 rows", "library", "reference", "speed engine", "lib/speed"
+        "{heading:<40}{:>22}{:>22}{:>22}{:>11}",
+        "library", "reference", "speed engine", "lib/speed"
     );
-    for line in looked {
+    for line in lines {
         print_engines(line, copy);
     }
 }

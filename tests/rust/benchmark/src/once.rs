@@ -3,9 +3,12 @@
 
 use generator::bulk;
 use generator::contacts::{numbered as contact, Contact};
+use generator::files::{accepted, Direction};
 use generator::posting::{numbered as collection, total, Line as Collection};
 use generator::rng::Rng;
 
+use crate::cases::{coded, half_known, in_order, rename};
+use crate::convert::BYTES;
 use crate::input::{adds, changes, falling, lookup, renames, scattered, Input, MOST, STATE};
 use crate::{run, Buffers};
 
@@ -27,15 +30,24 @@ pub fn once(case: &str, engine: &str) {
         _ => panic!("no such engine: {engine}"),
     };
     match case {
-        "find" => find(speed),
+        "find" => find(0, speed),
+        "find-10-names" => find(10, speed),
+        "find-100-names" => find(100, speed),
         "reconcile" => reconcile(speed),
-        "post" => post(),
-        "contacts" => contacts(),
+        "post" => post(scattered(&mut Rng::new(23), MOST), speed),
+        "post-in-order" => post((0..MOST).collect(), speed),
+        "post-one-row" => post(vec![MOST / 2; MOST], speed),
+        "contacts" => contacts(speed),
+        "to-ebcdic" => convert(Direction::ToEbcdic, speed),
+        "to-ascii" => convert(Direction::ToAscii, speed),
         "100-changes" => apply(&changes(case, MOST, 100), speed),
         "65535-changes" => apply(&changes(case, MOST, MOST), speed),
         "32768-changes" => apply(&changes(case, 32_768, 32_768), speed),
         "16384-changes" => apply(&changes(case, 16_384, 16_384), speed),
         "8192-changes" => apply(&changes(case, 8192, 8192), speed),
+        "in-order-changes" => apply(&in_order(case), speed),
+        "half-known-adds" => apply(&half_known(case), speed),
+        "1000-codes" => apply(&coded(case), speed),
         "65535-adds" => apply(&falling(case, MOST), speed),
         "19660-adds" => apply(&adds(case, 45_875, 19_660, false), speed),
         "mixed" => apply(&adds(case, 45_875, 19_660, true), speed),
@@ -50,8 +62,9 @@ fn apply(input: &Input, speed: bool) {
     measured_call(&mut || run(engine, input, &mut buffers));
 }
 
-fn find(speed: bool) {
-    let (master, keys, _) = lookup(1);
+fn find(share: usize, speed: bool) {
+    let (mut master, keys, _) = lookup(1);
+    rename(&mut master, share);
     let mut place = 0;
     measured_call(&mut || {
         if speed {
@@ -78,11 +91,10 @@ fn reconcile(speed: bool) {
     });
 }
 
-/// Lines on all rows in scattered order; the library alone.
-fn post() {
+/// Lines on the rows given by their places.
+fn post(places: Vec<usize>, speed: bool) {
     let mut master = bulk::rows(STATE, MOST, 2);
     let mut rng = Rng::new(19);
-    let places = scattered(&mut rng, MOST);
     let lines: Vec<Collection> = places
         .iter()
         .map(|place| collection(&mut rng, STATE, 2 * place))
@@ -91,19 +103,50 @@ fn post() {
     file.extend_from_slice(&total(&lines));
     let (mut list, mut listed) = (vec![0; MOST], 0);
     measured_call(&mut || {
-        let answer = library::post(&mut master, MOST, &file, &mut list, &mut listed);
-        assert_eq!(answer, 0);
+        if speed {
+            let done = speed::post(&mut master, MOST, &file, &mut list);
+            listed = done.expect("the file is right");
+        } else {
+            let answer = library::post(&mut master, MOST, &file, &mut list, &mut listed);
+            assert_eq!(answer, 0);
+        }
     });
 }
 
-/// Contacts in falling order into an empty table; the library alone.
-fn contacts() {
+/// Contacts in falling order into an empty table.
+fn contacts(speed: bool) {
     let records: Vec<Contact> = (0..CONTACTS).rev().map(contact).collect();
     let file = records.concat();
     let mut table = vec![0; file.len()];
     let (mut faulty, mut result) = (vec![0; CONTACTS], [0; 2]);
     measured_call(&mut || {
-        let answer = library::contacts_update(&mut table, 0, &file, &mut faulty, &mut result);
-        assert_eq!(answer, 0);
+        if speed {
+            let done = speed::update(&mut table, 0, &file, &mut faulty);
+            result = done.expect("there is room");
+        } else {
+            let answer = library::contacts_update(&mut table, 0, &file, &mut faulty, &mut result);
+            assert_eq!(answer, 0);
+        }
+    });
+}
+
+/// 16 MB of accepted bytes.
+fn convert(direction: Direction, speed: bool) {
+    let file = accepted(&mut Rng::new(1), direction, BYTES);
+    let (mut out, mut place) = (vec![0; BYTES], 0);
+    measured_call(&mut || {
+        if speed {
+            let done = match direction {
+                Direction::ToEbcdic => speed::to_ebcdic(&file, &mut out),
+                Direction::ToAscii => speed::to_ascii(&file, &mut out),
+            };
+            assert!(done.is_ok());
+        } else {
+            let answer = match direction {
+                Direction::ToEbcdic => library::to_ebcdic(&file, &mut out, &mut place),
+                Direction::ToAscii => library::to_ascii(&file, &mut out, &mut place),
+            };
+            assert_eq!(answer, 0);
+        }
     });
 }

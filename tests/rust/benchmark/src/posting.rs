@@ -8,7 +8,7 @@ use generator::rng::Rng;
 
 use crate::clock::seconds;
 use crate::input::MOST;
-use crate::{cell, median, print_beside, Line};
+use crate::{median, print_beside, print_lines, Line, ENGINES};
 
 const STATE: [u8; 2] = [0xD6, 0xC8];
 
@@ -58,7 +58,7 @@ pub fn posting(repetitions: usize) -> Postings {
     }
 }
 
-/// The times of one file, the library's and the reference's; those of the copies go to a list.
+/// The times of one file; those of the copies go to a list.
 fn line(
     name: String,
     rows: usize,
@@ -69,15 +69,18 @@ fn line(
     let master = bulk::rows(STATE, rows, 2);
     let mut file = lines.concat();
     file.extend_from_slice(&total(lines));
-    let (mut one, mut two) = (master.clone(), master.clone());
-    let (mut first, mut second) = (vec![0; lines.len()], vec![0; lines.len()]);
-    let mut times = [Vec::new(), Vec::new()];
+    let mut one = master.clone();
+    let (mut two, mut three) = (one.clone(), one.clone());
+    let mut first = vec![0; lines.len()];
+    let (mut second, mut third) = (first.clone(), first.clone());
+    let mut times: [Vec<f64>; ENGINES] = Default::default();
     for _ in 0..repetitions {
         let copy = seconds(|| black_box(&mut one[..]).copy_from_slice(black_box(&master)));
         if rows == MOST {
             copies.push(copy);
         }
         two.copy_from_slice(&master);
+        three.copy_from_slice(&master);
         let (mut answer, mut listed, mut done) = (1, 0, Err(0));
         times[0].push(seconds(|| {
             answer = library::post(
@@ -96,11 +99,17 @@ fn line(
             done == Ok(listed) && one == two && first == second,
             "{name} differs"
         );
+        times[2].push(seconds(|| {
+            done = speed::post(black_box(&mut three), rows, &file, &mut third);
+        }));
+        assert!(
+            done == Ok(listed) && one == three && first == third,
+            "{name} differs"
+        );
     }
-    let [library, reference] = times.map(|series| Some(median(&series)));
     Line {
         name,
-        times: [library, reference, None],
+        times: times.map(|series| Some(median(&series))),
     }
 }
 
@@ -111,18 +120,15 @@ impl Postings {
             MOST * 200,
             self.copy * 1e3
         );
-        println!("{:<40}{:>22}{:>22}", "posting", "library", "reference");
-        for line in &self.orders {
-            let [library, reference, _] = line.times.map(|time| cell(time, self.copy));
-            println!("{:<40}{library:>22}{reference:>22}", line.name);
-        }
+        print_lines("posting", &self.orders, self.copy);
         println!();
         println!(
-            "{:<40}{:>22}{:>22}",
-            "doubling: n rows, n lines scattered", "library", "reference"
+            "{:<40}{:>22}{:>22}{:>22}",
+            "doubling: n rows, n lines scattered", "library", "reference", "speed engine"
         );
         for (at, line) in self.doubled.iter().enumerate() {
-            print_beside(line, at.checked_sub(1).map(|at| &self.doubled[at]), 2);
+            let before = at.checked_sub(1).map(|at| &self.doubled[at]);
+            print_beside(line, before, ENGINES);
         }
     }
 }

@@ -360,7 +360,7 @@ fn damage_table(rng: &mut Rng, table: &mut Vec<u8>, count: &mut usize) {
             ])
         }
         // A smaller count is right, but the records behind it are none.
-        4 => *count = rng.below(*count + 1),
+        4 => *count = rng.below(count.wrapping_add(1)),
         5..=8 if records > 1 => {
             let at = rng.below(records - 1) * CONTACT;
             if rng.percent(50) {

@@ -23,7 +23,7 @@ impl Rng {
 
     /// A number below `limit`, which is at least 1.
     pub fn below(&mut self, limit: usize) -> usize {
-        (((self.number() >> 32) * limit as u64) >> 32) as usize
+        ((self.number() >> 32).wrapping_mul(limit as u64) >> 32) as usize
     }
 
     /// A number from `low` to `high`, both included.

@@ -1,5 +1,7 @@
 //! Fields as fixed arrays, and quick tests on them. Places count from 0 here.
 
+use crate::vector;
+
 pub const SPACE: u8 = 0x40;
 pub const ZERO: u8 = 0xF0;
 
@@ -58,98 +60,182 @@ pub fn number(field: &[u8]) -> u64 {
         .fold(0, |sum, byte| sum * 10 + u64::from(byte & 15))
 }
 
-/// The place of a letter in the alphabet, or 26.
-const fn letter_place(byte: u8) -> u8 {
-    match byte {
-        0xC1..=0xC9 => byte - 0xC1,
-        0xD1..=0xD9 => byte - 0xD1 + 9,
-        0xE2..=0xE9 => byte - 0xE2 + 18,
-        _ => 26,
+const fn letter_of(byte: u8) -> bool {
+    matches!(byte, 0xC1..=0xC9 | 0xD1..=0xD9 | 0xE2..=0xE9)
+}
+
+/// The EBCDIC byte of an upper case letter.
+pub const fn ebcdic(letter: u8) -> u8 {
+    match letter {
+        b'A'..=b'I' => letter - b'A' + 0xC1,
+        b'J'..=b'R' => letter - b'J' + 0xD1,
+        b'S'..=b'Z' => letter - b'S' + 0xE2,
+        _ => SPACE,
     }
 }
 
-const fn letters() -> [u8; 256] {
-    let mut table = [26; 256];
-    let mut byte = 0;
-    while byte < 256 {
-        table[byte] = letter_place(byte as u8);
-        byte += 1;
+/// Letters and spaces as EBCDIC bytes.
+pub const fn word<const N: usize>(text: &[u8; N]) -> [u8; N] {
+    let mut bytes = [SPACE; N];
+    let mut at = 0;
+    while at < N {
+        bytes[at] = ebcdic(text[at]);
+        at += 1;
     }
-    table
+    bytes
 }
 
-static LETTERS: [u8; 256] = letters();
 const NAMES: &[u8; 108] = b"AKALARAZCACOCTDCDEFLGAGUHIIAIDILINKSKYLAMAMDMEMIMNMOMSMTNCNDNENHNJNMNVNYOHOKORPAPRRISCSDTNTXUTVAVIVTWAWIWVWY";
 pub const NO_STATE: u8 = 255;
 
-const fn states() -> [u8; 27 * 27] {
-    let mut table = [NO_STATE; 27 * 27];
+/// By the two bytes as a number, the place in the table.
+const fn states() -> [u8; 1 << 16] {
+    let mut table = [NO_STATE; 1 << 16];
     let mut state = 0;
     while state < 54 {
-        let first = (NAMES[2 * state] - b'A') as usize;
-        let second = (NAMES[2 * state + 1] - b'A') as usize;
-        table[first * 27 + second] = state as u8;
+        let first = ebcdic(NAMES[2 * state]) as usize;
+        let second = ebcdic(NAMES[2 * state + 1]) as usize;
+        table[second << 8 | first] = state as u8;
         state += 1;
     }
     table
 }
 
-static STATES: [u8; 27 * 27] = states();
+static STATES: [u8; 1 << 16] = states();
 
 /// The place of a state in the table, or `NO_STATE`.
 #[inline(always)]
 pub fn state(field: &[u8; 2]) -> u8 {
-    let first = usize::from(LETTERS[usize::from(field[0])]);
-    let second = usize::from(LETTERS[usize::from(field[1])]);
-    STATES[first * 27 + second]
+    STATES[usize::from(u16::from_le_bytes(*field))]
 }
 
 #[inline(always)]
 pub fn letter(byte: u8) -> bool {
-    LETTERS[usize::from(byte)] < 26
+    letter_of(byte)
+}
+
+const LOW: u64 = !HIGH;
+
+/// Eight digits and a ninth are an SSN that stands under none of the bans; they are digits.
+#[inline(always)]
+pub fn ssn_allowed(first: &[u8; 8], ninth: u8) -> bool {
+    let word = u64::from_le_bytes(*first) & LOW;
+    let area = word & 0xFF_FFFF;
+    let group = word & 0xFF_FF00_0000;
+    let serial = word >> 40 | u64::from(ninth & 15);
+    let banned = (area == 0) | (area == 0x06_0606) | (group == 0) | (serial == 0);
+    !banned | (first[0] == 0xF9)
+}
+
+/// The number of nine digits.
+#[inline(always)]
+pub fn number9(first: &[u8; 8], ninth: u8) -> u64 {
+    number8(first) * 10 + u64::from(ninth & 15)
 }
 
 /// The number of a right SSN, or none.
 #[inline(always)]
 pub fn ssn(field: &[u8; 9]) -> Option<u64> {
     let first = at::<8>(field, 0);
-    if !digits8(first) || field[8].wrapping_sub(ZERO) >= 10 {
-        return None;
+    let right = digits8(first) & (field[8].wrapping_sub(ZERO) < 10) & ssn_allowed(first, field[8]);
+    right.then(|| number9(first, field[8]))
+}
+
+/// By place and byte, two bits: letter 1, hyphen 2, space 3, else 0.
+const fn classes() -> [[u8; 256]; 4] {
+    let mut table = [[0; 256]; 4];
+    let mut byte = 0;
+    while byte < 256 {
+        let class = match byte as u8 {
+            0x60 => 2,
+            SPACE => 3,
+            other => letter_of(other) as u8,
+        };
+        let mut place = 0;
+        while place < 4 {
+            table[place][byte] = class << (2 * place);
+            place += 1;
+        }
+        byte += 1;
     }
-    let value = number8(first) * 10 + u64::from(field[8] & 15);
-    let area = value / 1_000_000;
-    if area >= 900 {
-        return Some(value);
+    table
+}
+
+const WITH_LETTER: u8 = 1;
+const RIGHT: u8 = 2;
+
+/// By four classes: `RIGHT` for letters or hyphens with only spaces behind, and `WITH_LETTER`.
+const fn shapes() -> [u8; 256] {
+    let mut table = [0; 256];
+    let mut four = 0;
+    while four < 256 {
+        let (mut place, mut length, mut letters, mut right) = (0, 0, 0, true);
+        while place < 4 {
+            let class = four >> (2 * place) & 3;
+            right &= class != 0 && (class == 3 || length == place);
+            length += (class == 1 || class == 2) as usize;
+            letters += (class == 1) as usize;
+            place += 1;
+        }
+        if right && length > 0 {
+            table[four] = RIGHT | if letters > 0 { WITH_LETTER } else { 0 };
+        }
+        four += 1;
     }
-    let wrong = area == 0
-        || area == 666
-        || (value / 10_000).is_multiple_of(100)
-        || value.is_multiple_of(10_000);
-    (!wrong).then_some(value)
+    table
+}
+
+static CLASSES: [[u8; 256]; 4] = classes();
+static SHAPES: [u8; 256] = shapes();
+
+#[inline(always)]
+fn shape(four: &[u8; 4]) -> u8 {
+    let class = |place: usize| CLASSES[place][usize::from(four[place])];
+    SHAPES[usize::from(class(0) | class(1) | class(2) | class(3))]
 }
 
 /// The four first characters of a last name are wrong.
-#[inline]
+#[inline(always)]
 pub fn name_wrong(four: &[u8; 4], letter_asked: bool) -> bool {
-    let mut length = 0;
-    let mut letters = 0;
-    while length < 4 {
-        if letter(four[length]) {
-            letters += 1;
-        } else if four[length] != 0x60 {
-            break;
-        }
-        length += 1;
-    }
-    length == 0
-        || four[length..].iter().any(|&byte| byte != SPACE)
-        || (letter_asked && letters == 0)
+    shape(four) & if letter_asked { WITH_LETTER } else { RIGHT } == 0
 }
 
-/// A right ZIP: nine digits, or five and four spaces.
-#[inline]
-pub fn zip(field: &[u8; 9]) -> bool {
-    digits(&field[..5]) && (field[5..] == [SPACE; 4] || digits(&field[5..]))
+/// The number of a sound row's key, which rises with the key.
+#[inline(always)]
+pub fn key_number(row: &Row) -> u64 {
+    let state = u64::from(state(at(row, 0)));
+    state << 31 | number9(at(row, 2), row[10]) << 1 | u64::from(row[11] == 0xD5)
+}
+
+/// A sound row, its tests joined so that there is one way out.
+#[inline(always)]
+pub fn sound(row: &Row) -> bool {
+    let head = vector::digits(at(row, 0)) & 0x77FC == 0x77FC;
+    let owed = vector::digits(at(row, 65)) & 0xFF == 0xFF;
+    let paid = vector::digits(at(row, 74)) & 0xFFF0 == 0xFFF0;
+    let tail = u64::from_le_bytes(*at(row, 192));
+    let cents = tail >> 32 & 0xFFFF;
+    let cents_right = (cents & 0xF0F0 == 0xF0F0) & (((cents & 0x0F0F) + 0x0606) & 0xF0F0 == 0);
+    let zero = (*at::<8>(row, 65) == [ZERO; 8]) & (cents == 0xF0F0);
+    let status = tail as u32 >> 24 == if zero { 0xC4 } else { SPACE as u32 };
+    head & owed
+        & paid
+        & cents_right
+        & status
+        & (tail >> 48 == 0x4040)
+        & (state(at(row, 0)) != NO_STATE)
+        & ((row[11] == 0xC1) | (row[11] == 0xD5))
+        & ssn_allowed(at(row, 2), row[10])
+        & (shape(at(row, 30)) & WITH_LETTER != 0)
+}
+
+/// A right ZIP in 170 to 178: nine digits, or five and four spaces.
+#[inline(always)]
+pub fn zip(record: &Record) -> bool {
+    let field = at(record, 170);
+    let digits = vector::digits(field);
+    let spaces = vector::all(field, SPACE) & 0x1E0;
+    (digits & 0x1FF == 0x1FF) | ((digits & 0x1F == 0x1F) & (spaces == 0x1E0))
 }
 
 /// A Gregorian date of 1900–9999.
@@ -168,22 +254,24 @@ pub fn date(field: &[u8; 8]) -> bool {
     day <= DAYS[month as usize] + u64::from(leap && month == 2)
 }
 
-/// A word of three bytes as a number.
-const fn word(bytes: [u8; 3]) -> u32 {
-    (bytes[0] as u32) << 16 | (bytes[1] as u32) << 8 | bytes[2] as u32
+/// A word of three letters as a number.
+const fn three(text: &[u8; 3]) -> u32 {
+    let [first, second, third] = word(text);
+    u32::from_le_bytes([first, second, third, 0])
 }
 
-/// The bits of an exclusion word, or none; ADM has those of RET, VEN and SAL too.
-fn exclusion(bytes: [u8; 3]) -> Option<u8> {
-    const ADM: u32 = word([0xC1, 0xC4, 0xD4]);
-    const RET: u32 = word([0xD9, 0xC5, 0xE3]);
-    const VEN: u32 = word([0xE5, 0xC5, 0xD5]);
-    const SAL: u32 = word([0xE2, 0xC1, 0xD3]);
-    const TAX: u32 = word([0xE3, 0xC1, 0xE7]);
-    const PAS: u32 = word([0xD7, 0xC1, 0xE2]);
-    const FIN: u32 = word([0xC6, 0xC9, 0xD5]);
-    const DCK: u32 = word([0xC4, 0xC3, 0xD2]);
-    Some(match word(bytes) {
+/// The bits of an exclusion word, or 0; ADM has those of RET, VEN and SAL too.
+#[inline(always)]
+fn exclusion(number: u32) -> u8 {
+    const ADM: u32 = three(b"ADM");
+    const RET: u32 = three(b"RET");
+    const VEN: u32 = three(b"VEN");
+    const SAL: u32 = three(b"SAL");
+    const TAX: u32 = three(b"TAX");
+    const PAS: u32 = three(b"PAS");
+    const FIN: u32 = three(b"FIN");
+    const DCK: u32 = three(b"DCK");
+    match number {
         ADM => 1 | 2 | 4 | 8,
         RET => 2,
         VEN => 4,
@@ -192,34 +280,31 @@ fn exclusion(bytes: [u8; 3]) -> Option<u8> {
         PAS => 32,
         FIN => 64,
         DCK => 128,
-        _ => return None,
-    })
+        _ => 0,
+    }
 }
 
-/// The set of the exclusion field, or none for a word that isn't of the eight.
-#[inline]
-pub fn exclusions(field: &[u8; 40]) -> Option<u8> {
-    if *field == [SPACE; 40] {
-        return Some(0);
-    }
+/// The set of the exclusion field, 187 to 226, or none for a word that isn't of the eight.
+#[inline(always)]
+pub fn exclusions(record: &Record) -> Option<u8> {
+    let parts = |place: usize| {
+        let bytes = at(record, place);
+        u64::from(vector::all(bytes, SPACE) | vector::all(bytes, 0x6B))
+    };
+    // The last sixteen columns begin in the middle of the second sixteen.
+    let mut left = !(parts(187) | parts(203) << 16 | parts(211) << 24) & ((1 << 40) - 1);
     let mut set = 0;
-    let mut place = 0;
-    while place < 40 {
-        if parts(field[place]) {
-            place += 1;
-            continue;
-        }
-        let word = field[place..].first_chunk::<3>()?;
-        set |= exclusion(*word)?;
-        place += 3;
-        if place < 40 && !parts(field[place]) {
+    while left != 0 {
+        let start = left.trailing_zeros();
+        let bytes = at::<4>(record, 187 + start as usize);
+        let bits = exclusion(u32::from_le_bytes(*bytes) & 0xFF_FFFF);
+        if left >> start & 15 != 7 || bits == 0 {
             return None;
         }
+        set |= bits;
+        left &= left - 1;
+        left &= left - 1;
+        left &= left - 1;
     }
     Some(set)
-}
-
-#[inline(always)]
-fn parts(byte: u8) -> bool {
-    byte == SPACE || byte == 0x6B
 }

@@ -1,7 +1,15 @@
 //! Finding a case and reconciliation, written for speed.
 
 use crate::field::{self, at, copy, Row, NO_STATE, SPACE, ZERO};
-use crate::{packed, row_sound};
+use crate::packed;
+
+/// A key's twelve bytes as a number.
+#[inline(always)]
+fn order(key: &[u8; 12]) -> u128 {
+    let first = u64::from_be_bytes(*at(key, 0));
+    let last = u32::from_be_bytes(*at(key, 8));
+    u128::from(first) << 32 | u128::from(last)
+}
 
 /// The rows, or the first of refusals 3 and 4 that holds.
 fn sound_rows(master: &[u8], rows: usize) -> Result<&[Row], u64> {
@@ -9,15 +17,23 @@ fn sound_rows(master: &[u8], rows: usize) -> Result<&[Row], u64> {
     if !rest.is_empty() || rows > all.len() || rows > 65_535 {
         return Err(3);
     }
-    let mut before = None;
-    for row in &all[..rows] {
-        let (key, errors) = packed(at(row, 0), at(row, 2), row[11]);
-        if errors != 0 || before >= Some(key) || !row_sound(row) {
-            return Err(4);
-        }
-        before = Some(key);
+    if !sound_order(&all[..rows]) {
+        return Err(4);
     }
     Ok(&all[..rows])
+}
+
+/// The rows are sound and in strictly rising order.
+pub fn sound_order(rows: &[Row]) -> bool {
+    let mut before = 0;
+    for row in rows {
+        let key = order(at(row, 0));
+        if !(field::sound(row) & (before < key)) {
+            return false;
+        }
+        before = key;
+    }
+    true
 }
 
 /// The place of the row with a key, or the refusal's number.

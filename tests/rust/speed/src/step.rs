@@ -5,22 +5,23 @@ use crate::field::*;
 /// What every step reads.
 pub struct Context {
     pub year: u64,
-    /// By code, whether it is listed.
-    pub listed: Box<[bool; 1000]>,
+    /// By the low halves of a code's three bytes, whether it is listed.
+    listed: Box<[bool; 1 << 12]>,
 }
 
 impl Context {
     pub fn new(list: &[u8], year: u64) -> Context {
-        let mut listed = Box::new([false; 1000]);
-        for code in list.chunks_exact(3) {
-            listed[number(code) as usize] = true;
+        let mut listed = Box::new([false; 1 << 12]);
+        let (codes, _) = list.as_chunks::<3>();
+        for code in codes {
+            listed[place(code)] = true;
         }
         Context { year, listed }
     }
 
-    #[inline]
+    #[inline(always)]
     fn listed(&self, code: &[u8; 3]) -> bool {
-        digits(code) && self.listed[number(code) as usize]
+        (code[0] & code[1] & code[2] >= 0xF0) & self.listed[place(code)]
     }
 
     /// Neither blank, 000 nor listed.
@@ -28,6 +29,13 @@ impl Context {
     fn unknown(&self, code: &[u8; 3]) -> bool {
         *code != [SPACE; 3] && *code != [ZERO; 3] && !self.listed(code)
     }
+}
+
+/// The low halves of three bytes.
+#[inline(always)]
+fn place(code: &[u8; 3]) -> usize {
+    let [first, second, third] = code.map(|byte| usize::from(byte & 15));
+    first << 8 | second << 4 | third
 }
 
 /// The row of a record's key, as it is when the record's turn comes.
@@ -42,6 +50,8 @@ pub struct Verdict {
     pub stored: [u8; 4],
     /// A new row is to be added.
     pub add: bool,
+    /// The exclusion set of an A record without an error.
+    pub set: u8,
 }
 
 /// Codes 01 to 18.
@@ -86,6 +96,7 @@ pub fn step(
             codes,
             stored,
             add: false,
+            set: 0,
         };
     } else if let (0, Some(row)) = (key_errors, &live) {
         let name = at::<4>(&row[..], 30);
@@ -111,6 +122,7 @@ pub fn step(
         codes,
         stored,
         add: false,
+        set: 0,
     }
 }
 
@@ -122,7 +134,7 @@ fn faults(record: &Record, kind: u8, context: &Context) -> (u64, u8) {
         0xD3 => bit(10, context.unknown(at(record, 2))),
         0xD4 => bit(7, !digits8(at(record, 64))),
         0xD9 => {
-            return match exclusions(at(record, 187)) {
+            return match exclusions(record) {
                 Some(set) => (0, set),
                 None => (1 << 16, 0),
             }
@@ -133,7 +145,7 @@ fn faults(record: &Record, kind: u8, context: &Context) -> (u64, u8) {
             let wrong = blank::<60>(record, 83)
                 || blank::<25>(record, 143)
                 || state(at(record, 168)) == NO_STATE
-                || !zip(at(record, 170));
+                || !zip(record);
             bit(14, wrong)
         }
         _ => 0,
@@ -202,20 +214,21 @@ fn add(record: &Record, key: u64, place: Place, context: &Context) -> Verdict {
         codes |= bit(8, number8(amount) < 25);
     }
     let state_wrong = !blank::<2>(record, 168) && state(at(record, 168)) == NO_STATE;
-    let zip_wrong = !blank::<9>(record, 170) && !zip(at(record, 170));
+    let zip_wrong = !blank::<9>(record, 170) && !zip(record);
     codes |= bit(14, state_wrong || zip_wrong);
     codes |= bit(15, !blank::<8>(record, 179) && !date(at(record, 179)));
-    let set = exclusions(at(record, 187));
+    let set = exclusions(record);
     codes |= bit(16, set.is_none());
     let mut verdict = Verdict {
         codes,
         stored: [SPACE; 4],
         add: false,
+        set: set.unwrap_or(0),
     };
     if codes != 0 {
         return verdict;
     }
-    let set = set.unwrap_or(0);
+    let set = verdict.set;
     let local = at::<3>(record, 2);
     verdict.codes = bit(51, context.unknown(local));
     match place {
@@ -224,7 +237,7 @@ fn add(record: &Record, key: u64, place: Place, context: &Context) -> Verdict {
             verdict.codes |= bit(52, at::<35>(record, 29) != at::<35>(row, 30));
             recertify(row, record, set, context.listed(local));
         }
-        Place::Row(row) => fresh(row, record, context),
+        Place::Row(row) => fresh(row, record, set, context),
     }
     verdict
 }
@@ -248,7 +261,7 @@ fn recertify(row: &mut Row, record: &Record, set: u8, listed: bool) {
 
 /// The fresh row of an A record without an error.
 #[inline]
-pub fn fresh(row: &mut Row, record: &Record, context: &Context) {
+pub fn fresh(row: &mut Row, record: &Record, set: u8, context: &Context) {
     copy::<2>(row, 0, record, 0);
     copy::<9>(row, 2, record, 5);
     row[11] = record[73];
@@ -257,7 +270,7 @@ pub fn fresh(row: &mut Row, record: &Record, context: &Context) {
     row[73..78].fill(SPACE);
     row[78..90].fill(ZERO);
     copy::<104>(row, 90, record, 83);
-    row[194] = exclusions(at(record, 187)).unwrap_or(0);
+    row[194] = set;
     row[195] = SPACE;
     row[196..198].fill(ZERO);
     row[198..].fill(SPACE);
