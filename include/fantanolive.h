@@ -1,8 +1,10 @@
 /* fantanolive.h: the C interface of the Fantanolive library, libfantanolive.a and libfantanolive.so.
  *
- * The library keeps a state's copy of the federal offset case master. It has nine calls:
+ * The library keeps a state's copy of the federal offset case master. It has eleven calls:
  *
  *     fantanolive_apply            applies a submission batch to a master
+ *     fantanolive_apply_journaled  the same, with a journal of what the batch changes
+ *     fantanolive_take_back        takes a batch back with its journal
  *     fantanolive_find             finds a case's row in a master
  *     fantanolive_reconcile        writes the reconciliation file of a state
  *     fantanolive_add_cents        gives a master whose rows have no cents 00 cents
@@ -18,7 +20,7 @@
  * Bytes. All text is EBCDIC: letters C1-C9, D1-D9, E2-E9, digits F0-F9, space 40, hyphen 60, comma 6B (hexadecimal).
  * A batch typed in ASCII is turned into EBCDIC by fantanolive_to_ebcdic first; the other calls convert nothing.
  *
- * Answers. Each call answers 0 (FANTANOLIVE_DONE) when it was carried out, else the number of a refusal, 1 to 24. A
+ * Answers. Each call answers 0 (FANTANOLIVE_DONE) when it was carried out, else the number of a refusal, 1 to 26. A
  * call answers the first refusal that holds, in the order that is given with it. On a refusal nothing at all is
  * written: no byte of any buffer, and no number of the result but the place that goes with refusal 16.
  * fantanolive_text.h has the refusals and the codes of a verdict in words.
@@ -91,6 +93,7 @@ extern "C" {
 /* Sizes that are always enough, as size_t. The arguments are numbers of details, rows or contact records.
  *   verdicts of fantanolive_apply:  one number per detail
  *   rejects of fantanolive_apply:   FANTANOLIVE_REJECTS_SIZE(details) bytes; fewer are refused (11)
+ *   journal of fantanolive_apply_journaled:  FANTANOLIVE_JOURNAL_SIZE(details) bytes; fewer are refused (25)
  *   master of fantanolive_apply:    FANTANOLIVE_MASTER_SIZE(rows + details of type A) bytes, for at most
  *                                   FANTANOLIVE_MAX_ROWS rows
  *   out of fantanolive_reconcile:   FANTANOLIVE_OUT_SIZE(rows) bytes
@@ -101,6 +104,7 @@ extern "C" {
  * The details of a batch are its records less one: batch_length / FANTANOLIVE_RECORD - 1. */
 #define FANTANOLIVE_MASTER_SIZE(rows) ((size_t)FANTANOLIVE_ROW * (size_t)(rows))
 #define FANTANOLIVE_REJECTS_SIZE(details) ((size_t)FANTANOLIVE_RECORD * ((size_t)(details) + 1))
+#define FANTANOLIVE_JOURNAL_SIZE(details) ((size_t)12 + (size_t)204 * (size_t)(details))
 #define FANTANOLIVE_OUT_SIZE(rows) ((size_t)FANTANOLIVE_RECORD * ((size_t)(rows) + 1))
 #define FANTANOLIVE_TABLE_SIZE(records) ((size_t)FANTANOLIVE_CONTACT * (size_t)(records))
 #define FANTANOLIVE_CODES_SIZE(records) ((size_t)FANTANOLIVE_LOCAL_CODE * (size_t)(records))
@@ -112,6 +116,10 @@ extern "C" {
 #define FANTANOLIVE_NEITHER 3  /* details of neither case type; they are in none of the three above */
 #define FANTANOLIVE_ROWS 4     /* rows of the master afterwards, deleted ones included */
 #define FANTANOLIVE_RESULTS 5  /* how many numbers the result has */
+
+/* The numbers of fantanolive_apply_journaled's result are these five, and one more. */
+#define FANTANOLIVE_JOURNAL 5           /* bytes of the journal */
+#define FANTANOLIVE_JOURNALED_RESULTS 6 /* how many numbers the result has */
 
 /* The numbers of fantanolive_contacts_update's result, by their index. */
 #define FANTANOLIVE_CONTACTS 0        /* records of the table afterwards */
@@ -144,6 +152,8 @@ extern "C" {
 #define FANTANOLIVE_WRONG_FILE 22     /* collection file empty, no multiple of 240, or over 65,536 records */
 #define FANTANOLIVE_WRONG_TOTAL 23    /* its last record not TOTAL with the numbers of adjustments and collections */
 #define FANTANOLIVE_SHORT_LINES 24    /* line list shorter than the lines */
+#define FANTANOLIVE_SHORT_JOURNAL 25  /* journal buffer below 12 + 204 x details */
+#define FANTANOLIVE_WRONG_JOURNAL 26  /* no journal, or not one of this master, or what it would leave is not sound */
 
 /* A verdict is a number of 64 bits: the sum of 2 to the power c over the codes c that the detail got. Errors are the
  * codes 1 to 18, warnings 51 and 52; a verdict of 0 has none. A detail with an error is rejected and changes nothing.
@@ -207,6 +217,63 @@ uint64_t fantanolive_apply(
     uint64_t *verdicts, size_t verdicts_length,
     uint8_t *rejects, size_t rejects_length,
     uint64_t result[FANTANOLIVE_RESULTS]);
+
+/* fantanolive_apply_journaled: applies a batch to a master, and writes a journal with which it can be taken back.
+ *
+ * All arguments but the last three are those of fantanolive_apply, and rows, verdicts, rejects and counts come out as
+ * they do there. Keep the journal with the master that the batch leaves: it fits no other.
+ *
+ * journal, journal_length  Where the journal goes. The length is in bytes, at least 12 + 204 x details, however few rows
+ *                          change.
+ * result                   Where the six numbers of the result go (FANTANOLIVE_ACCEPTED to FANTANOLIVE_JOURNAL).
+ *
+ * A journal has the row counts before and after, then, by rising place, an entry for each key whose row afterwards is new
+ * or differs from that before: its place afterwards, the first row being 0; a mark, 00 for a new row, 01 for a changed
+ * one; and behind 01 the 200 bytes of the old row. Numbers are in groups of seven bits, a byte each, low group first,
+ * with the high bit set on all bytes but the last, and never longer than they have to be.
+ *
+ * Returns, in the order of checking: the refusals of fantanolive_apply, then
+ *   25  FANTANOLIVE_SHORT_JOURNAL   journal_length below 12 + 204 x details
+ *   0   FANTANOLIVE_DONE            carried out
+ *
+ * Written when carried out: what fantanolive_apply writes, with the six numbers of result; the journal,
+ * result[FANTANOLIVE_JOURNAL] bytes, from the first byte of journal on.
+ * Kept: what fantanolive_apply keeps, and the bytes behind the journal. */
+uint64_t fantanolive_apply_journaled(
+    uint8_t *master, size_t master_length, size_t rows,
+    const uint8_t *batch, size_t batch_length,
+    const uint8_t *locals, size_t locals_length,
+    uint64_t year,
+    uint64_t *verdicts, size_t verdicts_length,
+    uint8_t *rejects, size_t rejects_length,
+    uint8_t *journal, size_t journal_length,
+    uint64_t result[FANTANOLIVE_JOURNALED_RESULTS]);
+
+/* fantanolive_take_back: takes a batch back with its journal, from the master that it left. Row count and rows are then
+ * those from before the batch.
+ *
+ * master, master_length    The rows that the batch left, 200 bytes each. The length is in bytes and a multiple of 200; it
+ *                          may be another than it was for the batch. Bytes behind the last row may hold anything.
+ * rows                     How many rows the master has, deleted ones included: what the batch's result said.
+ * journal, journal_length  The journal. The length is in bytes, and exact: what the batch's result said.
+ * rows_after               Where the number of rows goes that the master has then.
+ *
+ * Returns, in the order of checking:
+ *   3   FANTANOLIVE_WRONG_MASTER    master_length no multiple of 200, or rows above master_length / 200 or 65,535
+ *   4   FANTANOLIVE_UNSOUND_ROW     one of the rows is not sound, or their keys do not strictly rise
+ *   26  FANTANOLIVE_WRONG_JOURNAL   the bytes are no journal (cut off, bytes behind it, another mark, a number longer than
+ *                                   it has to be); its count after is not rows, a place is not below it, or the marks 00
+ *                                   are not as many as the count grew; its places do not strictly rise; or the rows that
+ *                                   would be left are not sound or their keys do not strictly rise
+ *   0   FANTANOLIVE_DONE            carried out
+ *
+ * Written when carried out: the rows, without those at places marked 00 and with the old row at those marked 01, from the
+ * first byte of master on; *rows_after, how many they are.
+ * Kept: the bytes of master behind them; journal. */
+uint64_t fantanolive_take_back(
+    uint8_t *master, size_t master_length, size_t rows,
+    const uint8_t *journal, size_t journal_length,
+    uint64_t *rows_after);
 
 /* fantanolive_find: finds the row of a key.
  *

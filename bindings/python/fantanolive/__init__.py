@@ -6,25 +6,29 @@ words. FANTANOLIVE_LIBRARY may name the library's path."""
 from . import calls
 from ._header import CONTACT, KEY, LINE, LOCAL_CODE, MAX_CONTACTS, MAX_RECORDS, MAX_ROWS, RECORD, ROW
 from ._header import VERSION as __version__
-from .calls import ContactCounts, Counts
+from .calls import ContactCounts, Counts, JournaledCounts
 from .forms import (
     Applied,
+    Journaled,
     Posted,
     Updated,
     add_cents,
     apply,
+    apply_journaled,
     contacts_codes,
     contacts_update,
     find,
     post,
     reconcile,
+    take_back,
     to_ascii,
     to_ebcdic,
 )
 from .words import Refused, Text, code_text, codes_of, refusal_text
 
 __all__ = [
-    "Applied", "CONTACT", "ContactCounts", "Counts", "KEY", "LINE", "LOCAL_CODE", "MAX_CONTACTS", "MAX_RECORDS", "MAX_ROWS",
-    "Posted", "RECORD", "ROW", "Refused", "Text", "Updated", "__version__", "add_cents", "apply", "calls", "code_text",
-    "codes_of", "contacts_codes", "contacts_update", "find", "post", "reconcile", "refusal_text", "to_ascii", "to_ebcdic",
+    "Applied", "CONTACT", "ContactCounts", "Counts", "Journaled", "JournaledCounts", "KEY", "LINE", "LOCAL_CODE",
+    "MAX_CONTACTS", "MAX_RECORDS", "MAX_ROWS", "Posted", "RECORD", "ROW", "Refused", "Text", "Updated", "__version__",
+    "add_cents", "apply", "apply_journaled", "calls", "code_text", "codes_of", "contacts_codes", "contacts_update", "find",
+    "post", "reconcile", "refusal_text", "take_back", "to_ascii", "to_ebcdic",
 ]

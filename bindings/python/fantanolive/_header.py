@@ -23,6 +23,8 @@ WARNED = 2
 NEITHER = 3
 ROWS = 4
 RESULTS = 5
+JOURNAL = 5
+JOURNALED_RESULTS = 6
 CONTACTS = 0
 FAULTY = 1
 CONTACT_RESULTS = 2
@@ -51,6 +53,8 @@ CONTROL_FORM = 21
 WRONG_FILE = 22
 WRONG_TOTAL = 23
 SHORT_LINES = 24
+SHORT_JOURNAL = 25
+WRONG_JOURNAL = 26
 
 # A number's words: what is wrong, where, how to mend it.
 REFUSAL_TEXTS = {
@@ -66,12 +70,12 @@ REFUSAL_TEXTS = {
     ),
     3: (
         'master length no multiple of 200, or row count above length / 200 or above 65,535',
-        'apply, find, reconcile, add_cents, post: the master as a whole, and its row count',
+        'apply, take_back, find, reconcile, add_cents, post: the master as a whole, and its row count',
         'check that the file is a master and was copied whole, byte by byte; a row has 200 bytes and no line end, a master at most 65,535 rows',
     ),
     4: (
         'a row that is not sound, or rows not in strictly rising order of key',
-        "apply, find, reconcile, add_cents, post: a row's columns 1-12 (key), 13-15, 31-34, 66-73, 79-90 or 196-200, or the order of the rows",
+        "apply, take_back, find, reconcile, add_cents, post: a row's columns 1-12 (key), 13-15, 31-34, 66-73, 79-90 or 196-200, or the order of the rows",
         'take the last good copy of the master; if columns 197-200 are spaces in every row, run add_cents once (add_cents takes only such a master and refuses one that has its cents)',
     ),
     5: (
@@ -173,6 +177,16 @@ REFUSAL_TEXTS = {
         'line list shorter than the lines',
         'post: the length of the line list, counted in numbers',
         'lend one 16-bit number for each line of the file',
+    ),
+    25: (
+        'journal buffer below 12 + 204 x details',
+        "apply_journaled: the journal buffer's length",
+        'lend 12 bytes and 204 bytes for each detail (a detail is every record but the last), however few rows change',
+    ),
+    26: (
+        'not a journal, not one of this master, or the rows that it would leave are not sound or not in order',
+        'take_back: the journal, its length, or the master and row count that it goes with',
+        "take the journal's bytes, all of them and no more, and the master and row count that its batch left; nothing may have changed the master since, and a batch is taken back once",
     ),
 }
 

@@ -19,6 +19,8 @@ RESULT = [ctypes.POINTER(ctypes.c_uint64)]
 # The arguments of each call, in the order of fantanolive.h.
 CALLS = {
     "apply": BUFFER + COUNT + BUFFER + BUFFER + YEAR + BUFFER + BUFFER + RESULT,
+    "apply_journaled": BUFFER + COUNT + BUFFER + BUFFER + YEAR + BUFFER + BUFFER + BUFFER + RESULT,
+    "take_back": BUFFER + COUNT + BUFFER + RESULT,
     "find": BUFFER + COUNT + BUFFER + RESULT,
     "reconcile": BUFFER + COUNT + BUFFER + BUFFER + BUFFER + RESULT,
     "add_cents": BUFFER + COUNT,

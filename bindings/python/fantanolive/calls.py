@@ -13,6 +13,9 @@ from ._lending import NUMBERS_16, NUMBERS_64, Call, number
 # The result of apply. Accepted includes warned; rows are those of the master afterwards.
 Counts = collections.namedtuple("Counts", "accepted rejected warned neither rows")
 
+# The result of apply_journaled: that of apply, and the journal's bytes.
+JournaledCounts = collections.namedtuple("JournaledCounts", Counts._fields + ("journal",))
+
 # The result of contacts_update: the records of the table afterwards, and how many faulty ones are listed.
 ContactCounts = collections.namedtuple("ContactCounts", "contacts faulty")
 
@@ -26,6 +29,26 @@ def apply(master, rows, batch, locals, year, verdicts, rejects):
             number("year", year), *call.write("verdicts", verdicts, NUMBERS_64), *call.write("rejects", rejects), result,
         )
     return Counts(*result)
+
+
+def apply_journaled(master, rows, batch, locals, year, verdicts, rejects, journal):
+    """Applies a batch as apply does, and writes a journal for take_back into journal. Returns JournaledCounts."""
+    result = (ctypes.c_uint64 * _header.JOURNALED_RESULTS)()
+    with Call("apply_journaled") as call:
+        call.run(
+            *call.write("master", master), number("rows", rows), *call.read("batch", batch), *call.read("locals", locals),
+            number("year", year), *call.write("verdicts", verdicts, NUMBERS_64), *call.write("rejects", rejects),
+            *call.write("journal", journal), result,
+        )
+    return JournaledCounts(*result)
+
+
+def take_back(master, rows, journal):
+    """Takes a batch back with its journal, exactly its bytes. Returns how many rows the master has then."""
+    rows_after = ctypes.c_uint64()
+    with Call("take_back") as call:
+        call.run(*call.write("master", master), number("rows", rows), *call.read("journal", journal), ctypes.byref(rows_after))
+    return rows_after.value
 
 
 def find(master, rows, key):

@@ -12,6 +12,9 @@ TYPE_A = 0xC1
 # What apply leaves: the new master and the reject file (bytes), a 64-bit verdict per detail (array), and the Counts.
 Applied = collections.namedtuple("Applied", "master rejects verdicts counts")
 
+# What apply_journaled leaves: that of apply, and the journal (bytes).
+Journaled = collections.namedtuple("Journaled", Applied._fields + ("journal",))
+
 # What post leaves: the new master (bytes) and the numbers of the listed lines, the first line being 1 (array).
 Posted = collections.namedtuple("Posted", "master lines")
 
@@ -21,15 +24,22 @@ Updated = collections.namedtuple("Updated", "table faulty")
 
 def apply(master, batch, locals, year):
     """Applies a batch to a master. Returns Applied."""
-    sent = _bytes("batch", batch)
-    details = max(len(sent) // _header.RECORD - 1, 0)
-    adds = sent[TYPE_COLUMN - 1 :: _header.RECORD].count(TYPE_A)
-    rows, space = _rows_and_space("master", master, _header.ROW, adds)
-    verdicts = array.array("Q", bytes(8 * details))
-    rejects = bytearray(_header.RECORD * (details + 1))
-    counts = calls.apply(space, rows, sent, locals, year, verdicts, rejects)
-    rejected = details - verdicts.count(0)
-    return Applied(_front(space, _header.ROW * counts.rows), _front(rejects, _header.RECORD * (rejected + 1)), verdicts, counts)
+    lent = _Lent(master, batch)
+    return lent.left(calls.apply(*lent.arguments(locals, year)))
+
+
+def apply_journaled(master, batch, locals, year):
+    """Applies a batch to a master, with a journal for take_back. Returns Journaled."""
+    lent = _Lent(master, batch)
+    journal = bytearray(12 + 204 * lent.details)
+    counts = calls.apply_journaled(*lent.arguments(locals, year), journal)
+    return Journaled(*lent.left(calls.Counts(*counts[:-1])), _front(journal, counts.journal))
+
+
+def take_back(master, journal):
+    """The master from before a batch, from the one that it left and its journal."""
+    rows, space = _rows_and_space("master", master, _header.ROW, 0)
+    return _front(space, _header.ROW * calls.take_back(space, rows, journal))
 
 
 def find(master, key):
@@ -89,6 +99,26 @@ def contacts_codes(table, state):
     out = bytearray(_header.LOCAL_CODE * count)
     codes = calls.contacts_codes(table, count, state, out)
     return _front(out, _header.LOCAL_CODE * codes)
+
+
+class _Lent:
+    """What a batch is applied to and writes: a copy of the master with space for new rows, verdicts and reject file."""
+
+    def __init__(self, master, batch):
+        self.sent = _bytes("batch", batch)
+        self.details = max(len(self.sent) // _header.RECORD - 1, 0)
+        adds = self.sent[TYPE_COLUMN - 1 :: _header.RECORD].count(TYPE_A)
+        self.rows, self.space = _rows_and_space("master", master, _header.ROW, adds)
+        self.verdicts = array.array("Q", bytes(8 * self.details))
+        self.rejects = bytearray(_header.RECORD * (self.details + 1))
+
+    def arguments(self, locals, year):
+        return self.space, self.rows, self.sent, locals, year, self.verdicts, self.rejects
+
+    def left(self, counts):
+        rejected = self.details - self.verdicts.count(0)
+        master = _front(self.space, _header.ROW * counts.rows)
+        return Applied(master, _front(self.rejects, _header.RECORD * (rejected + 1)), self.verdicts, counts)
 
 
 def _count(name, buffer, width):

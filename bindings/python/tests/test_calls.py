@@ -25,6 +25,20 @@ class Carried(unittest.TestCase):
         self.assertEqual(list(verdicts), [0, 1 << 17, 7])
         self.assertEqual(bytes(rejects), reject_file() + b"\xee" * 510)
 
+    def test_journal(self):
+        master = bytearray(row("123456780") + b"\xee" * 400)
+        verdicts = array.array("Q", [7, 7, 7])
+        rejects = bytearray(b"\xee" * 1000)
+        journal = bytearray(b"\xee" * 421)
+        counts = calls.apply_journaled(master, 1, PAPER_BATCH, b"", 2007, verdicts, rejects, journal)
+        self.assertEqual(counts, (1, 1, 0, 0, 2, 4))
+        self.assertEqual((counts.rows, counts.journal), (2, 4))
+        self.assertEqual(bytes(master), row("123456780") + row() + b"\xee" * 200)
+        self.assertEqual(bytes(rejects), reject_file() + b"\xee" * 510)
+        self.assertEqual(bytes(journal), bytes([1, 2, 1, 0]) + b"\xee" * 417)
+        self.assertEqual(calls.take_back(master, 2, journal[:4]), 1)
+        self.assertEqual(bytes(master), row("123456780") + row() + b"\xee" * 200)
+
     def test_find(self):
         master = row("123456780") + row() + b"\xee" * 200
         self.assertEqual(calls.find(master, 2, ebcdic("OH123456789N")), 1)
@@ -147,6 +161,30 @@ class Refusals(unittest.TestCase):
 
         for number, changed in [(3, {"rows": 2}), (3, {"master": bytearray(199)}), (4, {"master": bytearray(row())})]:
             self.refused(calls.add_cents, good, number, **changed)
+
+    def test_journal(self):
+        def good():
+            return {
+                "master": bytearray(row("123456780") + bytes(200)), "rows": 1, "batch": PAPER_BATCH, "locals": b"",
+                "year": 2007, "verdicts": array.array("Q", [7, 7]), "rejects": bytearray(b"\xee" * 735),
+                "journal": bytearray(b"\xee" * 420),
+            }
+
+        self.assertEqual(calls.apply_journaled(**good()).journal, 4)
+        for number, changed in [
+            (1, {"year": 1899}), (11, {"rejects": bytearray(734), "journal": bytearray(419)}), (25, {"journal": bytearray(419)}),
+        ]:
+            self.refused(calls.apply_journaled, good, number, **changed)
+
+        def left():
+            return {"master": bytearray(row("123456780") + row()), "rows": 2, "journal": bytes([1, 2, 1, 0])}
+
+        self.assertEqual(calls.take_back(**left()), 1)
+        for number, changed in [
+            (3, {"rows": 3}), (4, {"master": bytearray(400)}), (26, {"journal": b""}), (26, {"rows": 1}),
+            (26, {"journal": bytes([1, 2, 1, 0, 0])}), (26, {"journal": bytes([1, 2, 2, 0])}),
+        ]:
+            self.refused(calls.take_back, left, number, **changed)
 
     def test_post(self):
         def good():

@@ -28,6 +28,16 @@ class Forms(unittest.TestCase):
         self.assertEqual(applied.master[200:], row("123456780", 0, "D00  ") + row("123456781"))
         self.assertEqual(master, row("123456780") + row("123456781"))
 
+    def test_journal(self):
+        master = row("123456780") + row("123456781")
+        batch = detail("SMITH", 30, "A", "JOHN", "123456779") + detail("SMITH", 0, "D", ssn="123456780") + control(2, 30)
+        left = fantanolive.apply_journaled(master, batch, b"", 2007)
+        self.assertEqual(left[:4], fantanolive.apply(master, batch, b"", 2007))
+        self.assertEqual(left.journal, bytes([2, 3, 0, 0, 1, 1]) + row("123456780"))
+        self.assertEqual(fantanolive.take_back(left.master, left.journal), master)
+        self.assertEqual(self.refusal(fantanolive.take_back, master, left.journal), 26)
+        self.assertEqual(self.refusal(fantanolive.apply_journaled, b"", b"", b"", 2007), 5)
+
     def test_apply_refused(self):
         self.assertEqual(self.refusal(fantanolive.apply, b"", b"", b"", 2007), 5)
         self.assertEqual(self.refusal(fantanolive.apply, row()[:-1], PAPER_BATCH, b"", 2007), 3)

@@ -17,6 +17,33 @@ extern "C" {
         result: *mut u64,
     ) -> u64;
 
+    pub fn fantanolive_apply_journaled(
+        master: *mut u8,
+        master_length: usize,
+        rows: usize,
+        batch: *const u8,
+        batch_length: usize,
+        locals: *const u8,
+        locals_length: usize,
+        year: u64,
+        verdicts: *mut u64,
+        verdicts_length: usize,
+        rejects: *mut u8,
+        rejects_length: usize,
+        journal: *mut u8,
+        journal_length: usize,
+        result: *mut u64,
+    ) -> u64;
+
+    pub fn fantanolive_take_back(
+        master: *mut u8,
+        master_length: usize,
+        rows: usize,
+        journal: *const u8,
+        journal_length: usize,
+        rows_after: *mut u64,
+    ) -> u64;
+
     pub fn fantanolive_find(
         master: *const u8,
         master_length: usize,

@@ -1,4 +1,4 @@
-//! The nine calls over slices.
+//! The eleven calls over slices.
 //!
 //! Every `unsafe` block here is sound for the same reason, given at `apply`.
 
@@ -78,6 +78,83 @@ pub fn apply(
         neither,
         rows,
     })
+}
+
+/// Applies a batch to a master as [`apply`] does, and writes a journal with which [`take_back`] takes it back. Answers the
+/// counts and how many bytes the journal has; it stands at the front of `journal`, and the bytes behind it are kept.
+///
+/// `journal` has at least 12 + 204 × details bytes ([`crate::journal_size`]).
+///
+/// # Errors
+///
+/// Those of [`apply`], then refusal 25; every buffer is then as before.
+#[allow(clippy::too_many_arguments)]
+pub fn apply_journaled(
+    master: &mut [u8],
+    rows: usize,
+    batch: &[u8],
+    locals: &[u8],
+    year: u64,
+    verdicts: &mut [u64],
+    rejects: &mut [u8],
+    journal: &mut [u8],
+) -> Result<(Counts, u64), Refusal> {
+    let mut result = [0; 6];
+    // SAFETY: as in `apply`.
+    let answer = unsafe {
+        c::fantanolive_apply_journaled(
+            master.as_mut_ptr(),
+            master.len(),
+            rows,
+            batch.as_ptr(),
+            batch.len(),
+            locals.as_ptr(),
+            locals.len(),
+            year,
+            verdicts.as_mut_ptr(),
+            verdicts.len(),
+            rejects.as_mut_ptr(),
+            rejects.len(),
+            journal.as_mut_ptr(),
+            journal.len(),
+            result.as_mut_ptr(),
+        )
+    };
+    done(answer)?;
+    let [accepted, rejected, warned, neither, rows, journal] = result;
+    let counts = Counts {
+        accepted,
+        rejected,
+        warned,
+        neither,
+        rows,
+    };
+    Ok((counts, journal))
+}
+
+/// Takes a batch back with its journal, from the `rows` rows that it left, and answers how many rows the master has then: row
+/// count and rows are those from before the batch, and the bytes behind them are kept.
+///
+/// `journal` is exactly the bytes that [`apply_journaled`] wrote.
+///
+/// # Errors
+///
+/// Refusals 3, 4 and 26, the first that holds; `master` is then as before.
+pub fn take_back(master: &mut [u8], rows: usize, journal: &[u8]) -> Result<u64, Refusal> {
+    let mut rows_after = 0;
+    // SAFETY: as in `apply`; only `master` and `rows_after` are written.
+    let answer = unsafe {
+        c::fantanolive_take_back(
+            master.as_mut_ptr(),
+            master.len(),
+            rows,
+            journal.as_ptr(),
+            journal.len(),
+            &mut rows_after,
+        )
+    };
+    done(answer)?;
+    Ok(rows_after)
 }
 
 /// Finds the row of a key, deleted or not, and answers its place, the first being 0.

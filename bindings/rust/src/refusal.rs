@@ -57,11 +57,15 @@ pub enum Refusal {
     WrongTotal = 23,
     /// Line list shorter than the lines.
     ShortLines = 24,
+    /// Journal buffer below 12 + 204 × details.
+    ShortJournal = 25,
+    /// No journal, or not one of this master, or what it would leave is not sound.
+    WrongJournal = 26,
 }
 
 impl Refusal {
     /// Every refusal, in rising order of number.
-    pub const ALL: [Refusal; 24] = [
+    pub const ALL: [Refusal; 26] = [
         Refusal::WrongYear,
         Refusal::WrongLocals,
         Refusal::WrongMaster,
@@ -86,6 +90,8 @@ impl Refusal {
         Refusal::WrongFile,
         Refusal::WrongTotal,
         Refusal::ShortLines,
+        Refusal::ShortJournal,
+        Refusal::WrongJournal,
     ];
 
     /// The refusal's number in documents 01 and 02.

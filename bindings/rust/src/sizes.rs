@@ -22,3 +22,8 @@ pub const MAX_ROWS: usize = 65_535;
 pub const MAX_RECORDS: usize = 65_536;
 /// The most records that a contact file may have.
 pub const MAX_CONTACTS: usize = 65_535;
+
+/// Bytes that the journal of a batch of so many details always has room in; fewer are refused (25).
+pub const fn journal_size(details: usize) -> usize {
+    12 + 204 * details
+}

@@ -2,3 +2,4 @@ pub mod Call
 pub mod Refusals
 pub mod Apply
 pub mod Progress
+pub mod Journaling

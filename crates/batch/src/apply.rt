@@ -1,9 +1,11 @@
 // Applying a batch: the refusals in order, then its details, key by key.
 use crate::refusals;
 use casemaster::master;
+use journal::writing;
+use journalwalk::walk;
 use keyorder::key_work;
 use keyorder::order;
-use keywalk::walk;
+use keywalk::counting;
 use layout::chart_a2;
 use layout::records;
 use namemarks::marks;
@@ -12,14 +14,17 @@ use reporting::verdicts;
 use reporting::verdicts::Progress;
 use text::fields;
 ghost use mathlib.Core.Path.{_≡_};
+ghost use mathlib.Core.Bool.{true};
 ghost use Prim.Native.Nat.{_+_, _*_, _/_, _≤_, _<_};
 ghost use lib.ListN.{length};
 ghost use Rattle.text.specs.Blocks.{spliced};
 ghost use Rattle.reporting.specs.Counts.{controlRecord};
 ghost use Rattle.reporting.specs.Tally.{countsIn, AtMost};
-ghost use Rattle.batch.specs.Progress.{Worked};
-ghost use Rattle.batch.specs.Apply.{carriedOut, resultOf, resultIn, outcomeOf, IsOutcome};
-ghost use Rattle.layout.specs.Batch.{submittingState};
+ghost use Rattle.journal.specs.Numbers.{numberBytes};
+ghost use Rattle.journal.specs.Writing.{Wrote};
+ghost use Rattle.batch.specs.Journaling.{countsPart, WorkJournaled, RunJournaled};
+ghost use Rattle.batch.specs.Apply.{resultOf, resultIn, outcomeOf, IsOutcome};
+ghost use Rattle.layout.specs.Batch.{detailCount, submittingState};
 ghost use Rattle.batch.specs.Call.{callOf};
 ghost use Rattle.batch.specs.Refusals.{applyRefusal};
 
@@ -35,7 +40,30 @@ pub enum Applied {
     Refused(u64),
 }
 
-// All details worked, key by key: what that leaves is what each in turn leaves.
+// What the work has come to, and the journal's length.
+pub struct JournaledWork {
+    pub progress: Progress,
+    pub written: usize,
+}
+
+// The answer of a call that may write a journal, and the journal's length.
+pub struct Journaled {
+    pub applied: Applied,
+    pub written: usize,
+}
+
+// The counts at the front of the journal, where one is wanted.
+fn start_journal(journal: &mut [u8], before: usize, after: usize, wanted: bool) -> usize
+    requires { ⌜ (wanted ≡ true → length (numberBytes before) + length (numberBytes after) ≤ length (now journal)) ⌝ }
+    ensures { λ r. ⌜ Wrote (now (journal .entry)) 0 (countsPart wanted before after) (now (journal .exit)) r ⌝ }
+{
+    if wanted {
+        return writing::put_counts(journal, before, after);
+    }
+    0
+}
+
+// All details worked, key by key: what that leaves is what each in turn leaves. Where a journal is wanted it is written.
 fn work(
     m: &mut [u8],
     n: usize,
@@ -45,21 +73,39 @@ fn work(
     list: &[u8],
     verdicts: &mut [u64],
     rejects: &mut [u8],
-) -> Progress
+    journal: &mut [u8],
+    wanted: bool,
+) -> JournaledWork
     requires { ⌜ (applyRefusal (callOf (now m) n (now batch) (now list) year (now verdicts) (now rejects)) ≡ 0) × (now state ≡ submittingState (now batch)) ⌝ }
-    ensures { λ r. ⌜ Worked
+    requires { ⌜ (wanted ≡ true → 12 + 204 * detailCount (now batch) ≤ length (now journal)) ⌝ }
+    ensures { λ r. ⌜ WorkJournaled
         (callOf (now (m .entry)) n (now (batch .entry)) (now (list .entry)) year (now (verdicts .entry)) (now (rejects .entry)))
-        (now (m .exit)) (r .rows) (now (verdicts .exit)) (now (rejects .exit)) (r .rejects) (r .tally) ⌝ }
+        wanted (now (journal .entry)) (now (m .exit)) (now (verdicts .exit)) (now (rejects .exit)) (r .progress) (now (journal .exit)) (r .written) ⌝ }
 {
     let d = batch.len() / 245 - 1;
     let own = order::order_details(batch, d, state, verdicts);
     marks::mark_names(batch, state, verdicts, own);
-    let new = walk::new_rows(m, n, batch, verdicts, own, state, year, list);
+    let new = counting::new_rows(m, n, batch, verdicts, own, state, year, list);
     let rows = n + new;
     master::shift_rows(m, n, new);
-    walk::walk_keys(m, new, rows, batch, verdicts, own, state, year, list);
+    let at = start_journal(journal, n, rows, wanted);
+    let written = walk::walk_keys(
+        m,
+        new,
+        rows,
+        batch,
+        verdicts,
+        own,
+        state,
+        year,
+        list,
+        journal,
+        at,
+        wanted,
+    );
     key_work::judge_alone(batch, verdicts, own, d, state, year, list);
-    verdicts::write_verdicts(rows, batch, d, verdicts, rejects)
+    let progress = verdicts::write_verdicts(rows, batch, d, verdicts, rejects);
+    JournaledWork { progress, written }
 }
 
 // Writes the control record behind the reject records, and answers the counts.
@@ -81,8 +127,8 @@ fn finish(s: Progress, state: &[u8], rejects: &mut [u8], d: usize) -> Applied
     }
 }
 
-// A batch that no refusal stops, carried out.
-fn run(
+// A batch that no refusal stops, carried out. Where a journal is wanted it is written.
+pub fn run(
     m: &mut [u8],
     n: usize,
     batch: &[u8],
@@ -90,16 +136,35 @@ fn run(
     year: u64,
     verdicts: &mut [u64],
     rejects: &mut [u8],
-) -> Applied
+    journal: &mut [u8],
+    wanted: bool,
+) -> Journaled
     requires { ⌜ applyRefusal (callOf (now m) n (now batch) (now locals) year (now verdicts) (now rejects)) ≡ 0 ⌝ }
-    ensures { λ r. ⌜ outcomeOf r (now (m .exit)) (now (verdicts .exit)) (now (rejects .exit))
-        ≡ carriedOut (callOf (now (m .entry)) n (now (batch .entry)) (now (locals .entry)) year (now (verdicts .entry)) (now (rejects .entry))) ⌝ }
+    requires { ⌜ (wanted ≡ true → 12 + 204 * detailCount (now batch) ≤ length (now journal)) ⌝ }
+    ensures { λ r. ⌜ RunJournaled (callOf (now (m .entry)) n (now (batch .entry)) (now (locals .entry)) year (now (verdicts .entry)) (now (rejects .entry)))
+        wanted (now (journal .entry)) (now (m .exit)) (now (verdicts .exit)) (now (rejects .exit)) r (now (journal .exit)) ⌝ }
 {
     let d = batch.len() / 245 - 1;
     let control = records::record_at(batch, d);
     let state = fields::field(&control, chart_a2::STATE);
-    let s = work(m, n, batch, state, year, locals, verdicts, rejects);
-    finish(s, state, rejects, d)
+    let s = work(
+        m,
+        n,
+        batch,
+        state,
+        year,
+        locals,
+        verdicts,
+        rejects,
+        journal,
+        wanted,
+    );
+    let p = s.progress;
+    let applied = finish(p, state, rejects, d);
+    Journaled {
+        applied,
+        written: s.written,
+    }
 }
 
 // Applies a batch to a master of so many rows.
@@ -120,5 +185,17 @@ pub fn apply(
     if number != 0 {
         return Applied::Refused(number);
     }
-    run(master, rows, batch, locals, year, verdicts, rejects)
+    let mut journal = [0u8; 0];
+    let r = run(
+        master,
+        rows,
+        batch,
+        locals,
+        year,
+        verdicts,
+        rejects,
+        &mut journal,
+        false,
+    );
+    r.applied
 }

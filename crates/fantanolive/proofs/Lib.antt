@@ -2,3 +2,4 @@ pub mod CallsLaws
 pub mod CodepageCallsLaws
 pub mod ContactsCallsLaws
 pub mod PostingCallsLaws
+pub mod JournalCallsLaws

@@ -2,6 +2,7 @@
 // of a call that is carried out. Every argument may be anything that its type can hold.
 pub mod codepage_calls;
 pub mod contacts_calls;
+pub mod journal_calls;
 pub mod posting_calls;
 
 use batch::apply;

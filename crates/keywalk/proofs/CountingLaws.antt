@@ -13,7 +13,7 @@ use Rattle.casemaster.specs.Master.{rowsOf, keysOf}
 use Rattle.keyorder.specs.KeyWork.{keyIn, makesRow}
 use Rattle.keywalk.specs.Walk.{distinct, isNewKey, newKeys}
 use Rattle.keywalk.specs.Walking.{isRowOf, rowsFrom, OrderReady, Fixed, KeyCounted}
-use Rattle.keywalk.specs.declared.walk.Count.{Count}
+use Rattle.keywalk.specs.declared.counting.Count.{Count}
 use Rattle.keywalk.proofs.GroupLaws.{IsStart, makes-run}
 use Rattle.keywalk.proofs.PassLaws.{AllBelow, FirstNotBelow, isKeyOf, firstOf, below-append, below-more, parted-find}
 use Rattle.keywalk.proofs.StandLaws.{from-split, below-pass, none-back, is-row}

@@ -14,7 +14,7 @@ use Rattle.casemaster.specs.Search.{AreBelow, RowPut, Pulled}
 use Rattle.text.proofs.FieldsLaws.{and-left}
 use Rattle.keyorder.specs.KeyWork.{recordIn, keyIn, Usable, IsKeyEnd, MarkedBy, UnderMarks, KeyRun, makesRow}
 use Rattle.keywalk.specs.Walking.{rowIn, isRowOf, oneOrNone, RowOfPut, AreMarked, Fixed, Stand, keyNow, hasRow, rowNow, KeyCounted, KeyWorked, KeyWalked, StaysBefore}
-use Rattle.keywalk.specs.declared.walk.Count.{Count}
+use Rattle.keywalk.specs.declared.counting.Count.{Count}
 use Rattle.text.proofs.BlocksLaws.{kept-further}
 use Rattle.judging.specs.State.{rowIf}
 use Rattle.judging.specs.Setting.{settingOf}
@@ -45,12 +45,12 @@ module _ (f : Fixed) (s : Stand) (stays : StaysBefore f s) (e passed : ℕ) (key
     KeyRun (settingOf (f .settings .state) (f .settings .year) (f .settings .list) names) (f .batch) (s .position) (e - s .position) start (s .numbers) row numbers′))
   where
     -- the rows to come are as before
-    held-is : held ≡ hasRow f s passed
+    pub held-is : held ≡ hasRow f s passed
     held-is =
         hi ∙ ap (λ (x : List ℕ). ltb (s .from + passed) (f .end) && sameBytes (take 12 x) key) (pulled .rest-kept)
         ∙ ap (isRowOf (s .master) (s .from + passed) (f .end)) ki
 
-    start-is : start ≡ rowNow f s passed
+    pub start-is : start ≡ rowNow f s passed
     start-is =
         si ∙ ap (λ (t : Bool). rowIf t (rowIn m₁ (s .from + passed))) held-is
         ∙ ap (λ (x : List ℕ). rowIf (hasRow f s passed) (take 200 x)) (pulled .rest-kept)
@@ -61,7 +61,7 @@ module _ (f : Fixed) (s : Stand) (stays : StaysBefore f s) (e passed : ℕ) (key
         marked q (omega (arith, ke .within))
         ∙ ap (λ (x : List ℕ). isGiven (f .settings .names x) (recordIn (f .batch) (s .numbers) q)) (ke .same q a b)
 
-    key-worked : KeyWorked f s e passed row numbers′
+    pub key-worked : KeyWorked f s e passed row numbers′
     key-worked =
         record {
           ended = ke;
@@ -71,7 +71,7 @@ module _ (f : Fixed) (s : Stand) (stays : StaysBefore f s) (e passed : ℕ) (key
               start-is (run (f .settings .names (keyNow f s)) marked-here);
         }
 
-    stays-before : s .to + length (oneOrNone row) ≤ s .from + cond held 1 0
+    pub stays-before : s .to + length (oneOrNone row) ≤ s .from + cond held 1 0
     stays-before =
         subst (λ (t : Bool). s .to + length (oneOrNone row) ≤ s .from + cond t 1 0) (sym held-is) (stays e passed row numbers′ key-worked)
 
@@ -88,7 +88,7 @@ module _ (f : Fixed) (s : Stand) (stays : StaysBefore f s) (e passed : ℕ) (key
     pub put-room : f .end * 200 ≤ length (s .master) → (s .to + passed + length (oneOrNone row)) * 200 ≤ length m₁
     put-room l = omega (arith, stays-before, held-in, pulled .same-length)
 
-    pub key-walked : (m₂ : List ℕ) (next : ℕ) → RowOfPut m₁ (s .to + passed) row m₂ next → (one : ℕ) → one ≡ cond held 1 0
+    unfoldable pub key-walked : (m₂ : List ℕ) (next : ℕ) → RowOfPut m₁ (s .to + passed) row m₂ next → (one : ℕ) → one ≡ cond held 1 0
         → KeyWalked f s (record { position = e; from = s .from + passed + one; to = next; master = m₂; numbers = numbers′ })
     key-walked m₂ next put one oi =
         record {

@@ -299,6 +299,14 @@ module _ (f : Fixed) (s₀ : Stand) (w : WalkReady f s₀) where
           ∙ rw (length-append (rowsOf (s .to) m) pass, length-append (oneOrNone row) rest, a, b, c) in
           omega (arith, n, length-next, held-in)
 
+      -- the row that the work on the key starts from is the one at the start of the walk, and the row that it leaves has the key
+      pub under-key : (key : List ℕ) × (rowNow f s passed ≡ rowWith key (rowsFrom (s₀ .from) (f .end) (s₀ .master))) × ((r : List ℕ) → row ≡ some r → rowKey r ≡ key)
+      under-key = (
+        k,
+        start-is ∙ g .untouched p (omega arith) l,
+        λ r x. keyRow-key (f .settings) details (Keys.records o) k here (g .fit .wide) r (sym row-is ∙ x),
+      )
+
       row-below : (q : ℕ) → e ≤ q → q < f .own → AllBelow (key q) (oneOrNone row)
       row-below q a b = go row refl
         where
@@ -397,6 +405,18 @@ module _ (f : Fixed) (s₀ : Stand) (w : WalkReady f s₀) where
           }
 
   -- ---- the end
+
+  -- behind the last key the rows to come stand where they go
+  pub walking-met : (s : Stand) → Walking s → f .own ≤ s .position → s .from ≡ s .to
+  unfolding workedKeys distinct
+  walking-met s g l =
+      let n : length keys ≡ f .own = length-own details order (f .own) (Keys.own-order o) in
+      let no-more : drop (s .position) keys ≡ [] = drop-of-length-le keys {i = s .position} (rw n l) in
+      let all : rowsAt s ≡ finalRows (f .settings) rows₀ details = rw no-more at (g .whole) in
+      let a : length (rowsOf (s .to) (s .master)) ≡ s .to = length-blocks 200 (s .to) (s .master) in
+      let b : length (rowsFrom (s .from) (f .end) (s .master)) ≡ f .end - s .from = length-blocks 200 (f .end - s .from) (drop (s .from * 200) (s .master)) in
+      let c : length (rowsAt s) ≡ f .end = ap length all ∙ final-length in
+      omega (arith, length-append (rowsOf (s .to) (s .master)) (rowsFrom (s .from) (f .end) (s .master)), a, b, c, g .within, g .low)
 
   pub walking-done : (s : Stand) → Walking s → f .own ≤ s .position → Walked f s₀ (s .master) (s .numbers)
   unfolding workedKeys distinct

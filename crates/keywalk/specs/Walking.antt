@@ -20,8 +20,7 @@ use Rattle.keyorder.specs.Packed.{Packed, IsJudged}
 use Rattle.keyorder.specs.KeyWork.{recordIn, keyIn, IsKeyEnd, KeyRun, makesRow}
 use Rattle.turns.specs.Turns.{finalRows, verdictsOn}
 use Rattle.keywalk.specs.Walk.{keysAt, distinct, newKeys}
-use Rattle.keywalk.specs.declared.walk.Count.{Count}
-use Rattle.keywalk.specs.declared.walk.Cursor.{Cursor}
+use Rattle.keywalk.specs.declared.counting.Count.{Count}
 use Rattle.judging.specs.State.{rowIf}
 use Rattle.judging.specs.Errors.{isGiven}
 use Rattle.turns.specs.Settings.{Settings, settingUnder, settingsOf}
@@ -99,9 +98,6 @@ pub record Stand : Type 0 where
   pub to : ℕ
   pub master : List ℕ
   pub numbers : List ℕ
-
-abbrev pub standOf : Cursor → List ℕ → List ℕ → Stand
-standOf s master numbers = record { position = s .position; from = s .from; to = s .to; master = master; numbers = numbers }
 
 -- where it starts
 abbrev pub startOf : ℕ → List ℕ → List ℕ → Stand

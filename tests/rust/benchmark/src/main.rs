@@ -1,6 +1,6 @@
 //! Times of the library, the reference and the speed engine, each also as a multiple of one
 //! memcpy of 13,107,000 bytes measured in the same run; converting, reading contacts and posting
-//! as multiples of one memcpy of the file or master. `--quick` leaves out what is predicted to take
+//! as multiples of one memcpy of the file or master; the later calls beside one memcpy too. `--quick` leaves out what is predicted to take
 //! more than two seconds; `--once CASE ENGINE` makes one call and measures nothing.
 
 mod cases;
@@ -8,6 +8,8 @@ mod clock;
 mod contacts;
 mod convert;
 mod input;
+mod journal;
+mod later;
 mod once;
 mod posting;
 
@@ -132,8 +134,10 @@ fn measure(quick: bool) {
     let converted = converting(bench.repetitions);
     let updated = updating(bench.repetitions);
     let posted = posting(bench.repetitions);
+    let later = later::measured(bench.repetitions);
     print(&bench, &applied, &doubled, &crowded, &looked);
     print_files(&converted, &updated, &posted);
+    later::print(&later);
 }
 
 fn median(times: &[f64]) -> f64 {

@@ -10,6 +10,7 @@ use generator::rng::Rng;
 use crate::cases::{coded, half_known, in_order, rename};
 use crate::convert::BYTES;
 use crate::input::{adds, changes, falling, lookup, renames, scattered, Input, MOST, STATE};
+use crate::journal;
 use crate::{run, Buffers};
 
 /// As many contacts as there are states and codes.
@@ -40,6 +41,12 @@ pub fn once(case: &str, engine: &str) {
         "contacts" => contacts(speed),
         "to-ebcdic" => convert(Direction::ToEbcdic, speed),
         "to-ascii" => convert(Direction::ToAscii, speed),
+        "journaled-100-changes" => journal::once_apply(&changes(case, MOST, 100)),
+        "journaled-65535-changes" => journal::once_apply(&changes(case, MOST, MOST)),
+        "journaled-65535-adds" => journal::once_apply(&falling(case, MOST)),
+        "take-back-100-changes" => journal::once_take_back(&changes(case, MOST, 100)),
+        "take-back-65535-changes" => journal::once_take_back(&changes(case, MOST, MOST)),
+        "take-back-19660-adds" => journal::once_take_back(&adds(case, 45_875, 19_660, false)),
         "100-changes" => apply(&changes(case, MOST, 100), speed),
         "65535-changes" => apply(&changes(case, MOST, MOST), speed),
         "32768-changes" => apply(&changes(case, 32_768, 32_768), speed),

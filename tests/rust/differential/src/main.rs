@@ -3,6 +3,7 @@
 mod contacts;
 mod control;
 mod exclusions;
+mod later;
 mod names;
 mod posting;
 mod run;
@@ -17,6 +18,7 @@ use control::Control;
 use exclusions::Exclusions;
 use generator::rng::mix;
 use generator::{ApplyCase, Case};
+use later::Later;
 use names::Names;
 use posting::Posting;
 use run::{account, codes, run, Outcome};
@@ -48,6 +50,8 @@ struct Options {
     cases: u64,
     seed: u64,
     case: Option<u64>,
+    /// The run and the seed of one case of it.
+    later: Option<(usize, u64)>,
 }
 
 /// How often each thing was seen.
@@ -232,6 +236,7 @@ fn options() -> Result<Options, String> {
         cases: 100_000,
         seed: mix(clock) >> 16,
         case: None,
+        later: None,
     };
     let mut arguments = std::env::args().skip(1);
     while let Some(name) = arguments.next() {
@@ -243,7 +248,10 @@ fn options() -> Result<Options, String> {
             "--cases" => options.cases = number,
             "--seed" => options.seed = number,
             "--case" => options.case = Some(number),
-            _ => return Err(format!("unknown option {name}")),
+            _ => match later::named(name.trim_start_matches('-')) {
+                Some(run) => options.later = Some((run, number)),
+                None => return Err(format!("unknown option {name}")),
+            },
         }
     }
     Ok(options)
@@ -276,6 +284,9 @@ fn main() -> ExitCode {
     if let Some(seed) = options.case {
         return single(seed);
     }
+    if let Some((run, seed)) = options.later {
+        return later::single(run, seed);
+    }
     println!("seed {}, {} cases", options.seed, options.cases);
     let start = Instant::now();
     let mut seen = Seen {
@@ -297,14 +308,19 @@ fn main() -> ExitCode {
             }
         }
     }
+    let mut later = Later::default();
+    later.run(options.cases, options.seed);
     seen.print();
+    later.print();
+    seen.failed += later.failed;
     println!(
         "{} cases in {:.1} s, {} differ",
-        options.cases,
+        options.cases + later.cases,
         start.elapsed().as_secs_f64(),
         seen.failed
     );
-    let missing = seen.missing();
+    let mut missing = seen.missing();
+    missing.extend(later.missing());
     if options.cases >= ENOUGH && !missing.is_empty() {
         println!("never seen: {}", missing.join(", "));
         return ExitCode::FAILURE;

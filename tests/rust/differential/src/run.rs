@@ -1,6 +1,7 @@
 //! Runs one case on both sides and compares the number answered, the results and every byte lent.
 
 mod contacts;
+pub mod journal;
 mod posting;
 
 use generator::text::shown;

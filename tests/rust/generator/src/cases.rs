@@ -595,7 +595,7 @@ fn wild(rng: &mut Rng) -> Case {
 }
 
 /// Cases at the limits of 65,535 rows and 65,536 records.
-fn giant(rng: &mut Rng) -> ApplyCase {
+pub fn giant(rng: &mut Rng) -> ApplyCase {
     let state = [0xD6, 0xC8];
     let kind = rng.below(8);
     let (rows, room, details) = match kind {

@@ -5,11 +5,13 @@ pub mod cases;
 pub mod contacts;
 pub mod crowd;
 pub mod files;
+pub mod journal;
 pub mod posting;
 pub mod records;
 pub mod rng;
 pub mod rows;
 pub mod text;
+pub mod wild;
 pub mod world;
 
 pub use cases::{apply_only, case, ApplyCase, Case, FindCase, ReconcileCase};

@@ -1,6 +1,10 @@
 //! The C interface of `libfantanolive.a` over slices. A slice's pointer is never null, and two
 //! slices of which one is written never overlap, as the interface asks.
 
+mod journal;
+
+pub use journal::{apply_journaled, take_back};
+
 extern "C" {
     fn fantanolive_apply(
         master: *mut u8,

@@ -3,6 +3,7 @@
 use std::collections::BTreeMap;
 
 use crate::errors::{code_digits, given_name, is_type, Names, Surroundings};
+use crate::limits::MOST;
 use crate::machine::{step, Verdict};
 use crate::row::{refusal_03, refusal_04, row_key, rows_of, Key, Row, MOST_ROWS, ROW};
 use crate::text::{
@@ -11,7 +12,8 @@ use crate::text::{
 };
 
 pub const RECORD: usize = 245;
-pub const MOST_RECORDS: usize = 65_536;
+/// The details and the control record.
+pub const MOST_RECORDS: usize = MOST + 1;
 
 /// "The result carries accepted, rejected and warned, neither and rows."
 #[derive(Clone, Copy, Debug, PartialEq, Eq, Default)]
@@ -119,28 +121,9 @@ pub fn refusal_11(buffer: &[u8], records: usize) -> bool {
     buffer.len() < RECORD * (records + 1)
 }
 
-/// Applies a batch to the master; Err holds the refusal's number.
-pub fn apply(
-    master: &mut [u8],
-    rows: usize,
-    batch: &[u8],
-    list: &[u8],
-    year: u64,
-    verdicts: &mut [u64],
-    rejects: &mut [u8],
-) -> Result<Counts, u64> {
-    if refusal_01(year) {
-        return Err(1);
-    }
-    if refusal_02(list) {
-        return Err(2);
-    }
-    if refusal_03(master, rows) {
-        return Err(3);
-    }
-    if refusal_04(master, rows) {
-        return Err(4);
-    }
+/// The details and the control record of a batch that passes 5, 6, 20, 21, 7 and 8; Err holds the
+/// refusal's number.
+pub fn parts(batch: &[u8]) -> Result<(Vec<&[u8]>, &[u8]), u64> {
     if refusal_05(batch) {
         return Err(5);
     }
@@ -163,7 +146,40 @@ pub fn apply(
     if refusal_08(&details, control) {
         return Err(8);
     }
-    let mut cases = cases_of(master, rows);
+    Ok((details, control))
+}
+
+/// A batch that no refusal of apply holds of, and the rows at entry.
+pub struct Admitted<'a> {
+    pub details: Vec<&'a [u8]>,
+    pub around: Surroundings<'a>,
+    pub cases: BTreeMap<Key, Row>,
+}
+
+/// The refusals of apply, in order; Err holds the first that holds.
+pub fn admitted<'a>(
+    master: &[u8],
+    rows: usize,
+    batch: &'a [u8],
+    list: &'a [u8],
+    year: u64,
+    verdicts: &[u64],
+    rejects: &[u8],
+) -> Result<Admitted<'a>, u64> {
+    if refusal_01(year) {
+        return Err(1);
+    }
+    if refusal_02(list) {
+        return Err(2);
+    }
+    if refusal_03(master, rows) {
+        return Err(3);
+    }
+    if refusal_04(master, rows) {
+        return Err(4);
+    }
+    let (details, control) = parts(batch)?;
+    let cases = cases_of(master, rows);
     if refusal_09(master, &cases, &details) {
         return Err(9);
     }
@@ -175,15 +191,44 @@ pub fn apply(
     }
     let state = [column(control, 1), column(control, 2)];
     let around = Surroundings { state, year, list };
-    let given = run(&mut cases, &details, &around);
-    write_master(master, &cases);
+    Ok(Admitted {
+        details,
+        around,
+        cases,
+    })
+}
+
+/// Carries out a batch; the rows at the end are left in `batch.cases`.
+pub fn carry_out(
+    batch: &mut Admitted,
+    master: &mut [u8],
+    verdicts: &mut [u64],
+    rejects: &mut [u8],
+) -> Counts {
+    let details = &batch.details;
+    let given = run(&mut batch.cases, details, &batch.around);
+    write_master(master, &batch.cases);
     for (place, verdict) in verdicts.iter_mut().zip(&given) {
         *place = verdict.codes;
     }
-    write_rejects(rejects, &details, &given, state);
-    let mut counts = counts_of(&details, &given);
-    counts.rows = cases.len() as u64;
-    Ok(counts)
+    write_rejects(rejects, details, &given, batch.around.state);
+    let mut counts = counts_of(details, &given);
+    counts.rows = batch.cases.len() as u64;
+    counts
+}
+
+/// Applies a batch to the master; Err holds the refusal's number.
+pub fn apply(
+    master: &mut [u8],
+    rows: usize,
+    batch: &[u8],
+    list: &[u8],
+    year: u64,
+    verdicts: &mut [u64],
+    rejects: &mut [u8],
+) -> Result<Counts, u64> {
+    let mut batch = admitted(master, rows, batch, list, year, verdicts, rejects)?;
+    Ok(carry_out(&mut batch, master, verdicts, rejects))
 }
 
 /// The rows by key.

@@ -2,6 +2,7 @@
 
 use std::collections::BTreeMap;
 
+use crate::limits::MOST;
 use crate::lookup::refusal_12;
 use crate::text::{
     all_digits, columns, ebcdic, in_state_table, is_blank, is_digit, is_letter, HYPHEN, NO_LOCAL,
@@ -9,7 +10,7 @@ use crate::text::{
 };
 
 pub const CONTACT: usize = 220;
-pub const MOST_CONTACTS: usize = 65_535;
+pub const MOST_CONTACTS: usize = MOST;
 
 const OPENING: u8 = 0x4D;
 const CLOSING: u8 = 0x5D;

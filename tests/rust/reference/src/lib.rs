@@ -1,4 +1,4 @@
-//! Document 01 and items 1 and 3 to 7 of document 02 written out rule by rule, in their order and
+//! Document 01 and items 1 and 3 to 8 of document 02 written out rule by rule, in their order and
 //! words; simple before fast.
 //! Nothing here panics: every length is looked at by a refusal before it is relied on.
 
@@ -6,6 +6,8 @@ pub mod batch;
 pub mod code_page;
 pub mod contacts;
 pub mod errors;
+pub mod journal;
+pub mod limits;
 pub mod lookup;
 pub mod machine;
 pub mod posting;
@@ -14,6 +16,7 @@ pub mod text;
 
 pub use batch::{apply, Counts};
 pub use code_page::{to_ascii, to_ebcdic};
+pub use journal::{apply_journaled, take_back};
 pub use lookup::{find, reconcile};
 pub use posting::{add_cents, post};
 

@@ -2,13 +2,15 @@
 
 use crate::batch::{cases_of, write_master};
 use crate::errors::live;
+use crate::limits::MOST;
 use crate::row::{refusal_03, refusal_04, refusal_04_old, Key, Row, DELETED, ROW};
 use crate::text::{
     all_digits, column, columns, columns_mut, ebcdic, is_digit, number, write_number, SPACE,
 };
 
 pub const LINE: usize = 240;
-pub const MOST_RECORDS: usize = 65_536;
+/// The lines and the last record.
+pub const MOST_RECORDS: usize = MOST + 1;
 
 /// Whole dollars, as in a row's 66–73.
 #[derive(Clone, Copy, Debug, PartialEq, Eq)]

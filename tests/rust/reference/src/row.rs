@@ -1,10 +1,11 @@
 //! A case's row and the master ("A case's row" in document 01, with item 6 of document 02).
 
 use crate::errors::{case_type_wrong, name_wrong, ssn_wrong};
+use crate::limits::MOST;
 use crate::text::{all_digits, column, columns, ebcdic_byte, in_state_table, is_blank, SPACE};
 
 pub const ROW: usize = 200;
-pub const MOST_ROWS: usize = 65_535;
+pub const MOST_ROWS: usize = MOST;
 pub const DELETED: u8 = ebcdic_byte(b'D');
 
 pub type Row = [u8; ROW];

@@ -3,6 +3,7 @@
 mod contacts;
 mod control;
 mod exclusions;
+mod journal;
 mod names;
 mod posting;
 

@@ -1,6 +1,7 @@
 -- `apply::apply`: a refusal's number is answered with every buffer untouched, and where there is none `run` carries the batch out. Assumes
 -- nothing.
 use mathlib.Core.Path.{sym, _∙_}
+use mathlib.Core.Bool.{false≢true}
 use borrow.Author.Needs.{needs}
 use Rattle.batch.proofs.ApplyLaws.{outcome-refused, outcome-done}
 use Rattle.batch.proofs.apply.apply.Statement.{statement}
@@ -25,8 +26,11 @@ returns c =
     let g = callOf (a .master .now) (a .rows) (a .batch .now) (a .locals .now) (a .year) (a .verdicts .now) (a .rejects .now) in
     outcome-refused g _ (c .before .first-refusal .ensures) (c .if1 .taken)
 
+slice-aggregate-run : tie.Need-slice-aggregate-run
+slice-aggregate-run c = search needs
+
 run-requires : tie.Need-run-requires
-run-requires c κs = sym (c .before .before .before .before .first-refusal .ensures) ∙ c .before .before .before .if1 .left
+run-requires c κs = (sym (c .before .before .before .before .before .first-refusal .ensures) ∙ c .before .before .before .before .if1 .left, λ w. absurd (false≢true w))
 
 same-length-4 : tie.Need-same-length-4
 same-length-4 c = search needs
@@ -39,9 +43,9 @@ same-length-6 c = search needs
 
 returns-2 : tie.Need-returns-2
 returns-2 c =
-    let a = c .before .before .before .before .before .before .before .before .before .before .before .before .before .before .before .before .before .before .before .before .args in
+    let a = c .before .before .before .before .before .before .before .before .before .before .before .before .before .before .before .before .before .before .before .before .before .before .args in
     let g = callOf (a .master .now) (a .rows) (a .batch .now) (a .locals .now) (a .year) (a .verdicts .now) (a .rejects .now) in
-    outcome-done g _ (c .before .before .before .before .before .before .before .before .before .before .before .first-refusal .ensures) (c .before .before .before .before .before .before .before .before .before .before .if1 .left) _ (c .before .before .before .before .before .before .run .ensures)
+    outcome-done g _ (c .before .before .before .before .before .before .before .before .before .before .before .before .before .first-refusal .ensures) (c .before .before .before .before .before .before .before .before .before .before .before .before .if1 .left) _ (c .before .before .before .before .before .before .before .run .ensures .is)
 
 pub apply-spec : {M : Type 1} → statement M
 apply-spec =
@@ -52,6 +56,7 @@ apply-spec =
     same-length-2
     same-length-3
     returns
+    slice-aggregate-run
     run-requires
     same-length-4
     same-length-5

@@ -1,0 +1,4 @@
+pub mod Numbers
+pub mod Journal
+pub mod Reading
+pub mod Writing

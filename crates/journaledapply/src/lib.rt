@@ -1,0 +1,2 @@
+// Applying a batch with a journal of what it changes.
+pub mod apply;

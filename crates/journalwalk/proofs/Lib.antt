@@ -1,0 +1,4 @@
+pub mod KeyEntryLaws
+pub mod JournalingLaws
+pub mod StepLaws
+pub mod WholeLaws

@@ -1,0 +1,98 @@
+-- `walk::walk_keys`: the rows passed, those to come and the keys to come make the whole, and the entries written are those of the rows
+-- passed. Assumes nothing.
+use mathlib.Core.Path.{refl}
+use denote.Ref.{now}
+use Rattle.keywalk.specs.Walking.{WalkReady, fixedOf, startOf}
+use Rattle.journalwalk.specs.JournalWalk.{standOf}
+use Rattle.keywalk.proofs.KeysLaws.{usable}
+use Rattle.keywalk.proofs.WalkingLaws.{Walking, walking-start, walking-room, walking-marked, walking-next}
+use Rattle.journalwalk.proofs.JournalingLaws.{Journaling, journaling-start, journaling-room, journaling-next, journaling-done}
+use native.Mathlib.Omega.{arith}
+use Prim.Native.Nat.{_-_}
+use Rattle.journalwalk.proofs.walk.walk_keys.Statement.{statement}
+use Rattle.journalwalk.proofs.walk.walk_keys.Tie as tie
+
+abbrev Inv-loop : tie.InvT-loop
+Inv-loop m₀ from end batch numbers₀ own state year list journal₀ at wanted s₀ m numbers journal s =
+    (w : WalkReady (fixedOf state year list batch own end) (startOf from m₀ numbers₀))
+    × (Walking (fixedOf state year list batch own end) (startOf from m₀ numbers₀) w (standOf s m numbers)
+    × Journaling (fixedOf state year list batch own end) (startOf from m₀ numbers₀) wanted journal₀ at (standOf s m numbers) journal (s .written))
+
+abbrev μ-loop : tie.MeasureT-loop
+μ-loop m₀ from end batch numbers₀ own state year list journal₀ at wanted s₀ m numbers journal s = own - s .position
+
+loop-holds : tie.Need-loop-holds Inv-loop μ-loop
+loop-holds c =
+    let a = c .before .before .before .before .before .before .args in
+    let w = c .before .before .before .before .before .before .pre .0 in
+    let f = fixedOf (a .state .now) (a .year) (a .list .now) (a .batch .now) (a .own) (a .end) in
+    let s = startOf (a .from) (a .m .now) (a .numbers .now) in
+    (w, (walking-start f s w refl refl, journaling-start f s (a .wanted) (a .journal .now) (a .at) refl refl (c .before .before .before .before .before .before .pre .1)))
+
+walk-key-requires : tie.Need-walk-key-requires Inv-loop μ-loop
+walk-key-requires c κs =
+    let a = c .before .before .before .before .before .before .before .before .before .before .before .before .args in
+    let l = c .before .before .before .before .before .loop in
+    let w = l .inv .0 in
+    let g = l .inv .1 .0 in
+    let n = l .inv .1 .1 in
+    let t = c .before .before .before .if1 .taken in
+    let f = fixedOf (a .state .now) (a .year) (a .list .now) (a .batch .now) (a .own) (a .end) in
+    let s = startOf (a .from) (a .m .now) (a .numbers .now) in (
+      (t, usable (w .ordered) (g .same) (a .own) (w .ordered .own-in)),
+      (
+        (g .low, g .within, omega (arith, g .len, w .rows-in)),
+        (
+          walking-room f s w _ g t,
+          (walking-marked f s w _ g, journaling-room f s (a .wanted) (a .journal .now) (a .at) w _ g _ _ n t),
+        ),
+      ),
+    )
+
+loop-less : tie.Need-loop-less Inv-loop μ-loop
+loop-less c = let k = c .before .before .before .before .before .before .walk-key .ensures .walked .worked .ended in omega (arith, k .later, c .before .before .before .before .before .before .before .before .before .before .if1 .taken)
+
+loop-again : tie.Need-loop-again Inv-loop μ-loop
+loop-again c =
+    let a = c .before .before .before .before .before .before .before .before .before .before .before .before .before .before .before .before .before .before .before .args in
+    let l = c .before .before .before .before .before .before .before .before .before .before .before .before .loop in
+    let w = l .inv .0 in
+    let g = l .inv .1 .0 in
+    let n = l .inv .1 .1 in
+    let k = c .before .before .before .before .before .before .walk-key in
+    let t = c .before .before .before .before .before .before .before .before .before .before .if1 .taken in
+    let f = fixedOf (a .state .now) (a .year) (a .list .now) (a .batch .now) (a .own) (a .end) in
+    let s = startOf (a .from) (a .m .now) (a .numbers .now) in
+    (w, (walking-next f s w _ g t _ (k .ensures .walked) (k .kept .0), journaling-next f s (a .wanted) (a .journal .now) (a .at) w _ g _ _ n t _ _ _ (k .ensures)))
+
+same-length : tie.Need-same-length Inv-loop μ-loop
+same-length c = c .before .before .loop .inv .1 .0 .len
+
+same-length-2 : tie.Need-same-length-2 Inv-loop μ-loop
+same-length-2 c = c .before .before .loop .inv .1 .0 .same .len
+
+same-length-3 : tie.Need-same-length-3 Inv-loop μ-loop
+same-length-3 c = c .before .before .loop .inv .1 .1 .len
+
+returns : tie.Need-returns Inv-loop μ-loop
+returns c =
+    let a = c .before .before .before .before .before .before .before .before .before .args in
+    let l = c .before .before .loop in
+    let f = fixedOf (a .state .now) (a .year) (a .list .now) (a .batch .now) (a .own) (a .end) in
+    let s = startOf (a .from) (a .m .now) (a .numbers .now) in
+    journaling-done f s (a .wanted) (a .journal .now) (a .at) (l .inv .0) _ (l .inv .1 .0) _ _ (l .inv .1 .1) (c .if1 .left)
+
+pub walk-keys-spec : {M : Type 1} → statement M
+walk-keys-spec =
+    tie.close
+    (tie.spec
+    Inv-loop
+    μ-loop
+    loop-holds
+    walk-key-requires
+    loop-less
+    loop-again
+    same-length
+    same-length-2
+    same-length-3
+    returns)

@@ -1,0 +1,5 @@
+pub mod Restored
+pub mod Testing
+pub mod Restoring
+pub mod TakeBack
+pub mod Theorem

@@ -1,0 +1,158 @@
+-- What a batch that is carried out leaves of the master: as many sound rows as there is room for, in which each key that had a row has one.
+-- Assumes nothing.
+use Prim.Native.Nat.{ℕ, suc, _+_, _*_, _/_, _%_, _≤_}
+use mathlib.Core.Path.{_≡_, refl, sym, ap, _∙_, subst}
+use mathlib.Core.Bool.{true}
+use mathlib.Core.List.{List, [], _∷_}
+use mathlib.Core.Option.{Option, none}
+use native.Mathlib.Omega.{arith}
+use lib.ListN.{length, drop, length-append, length-drop}
+use borrow.Author.Tests.{eq-eqb, le-ltb}
+use Rattle.text.specs.Blocks.{joined, over}
+use Rattle.text.proofs.BlocksLaws.{length-blocks}
+use Rattle.text.proofs.WidthLaws.{All, blocks-wide, blocks-joined}
+use Rattle.layout.specs.Record.{recordKey}
+use Rattle.layout.specs.Batch.{detailCount, detailsOf}
+use Rattle.judging.specs.Setting.{Setting}
+use Rattle.casemaster.specs.Master.{rowsOf, areSoundRows}
+use Rattle.casemaster.specs.Refusals.{refusal3, refusal4, masterRefusal}
+use Rattle.casemaster.specs.Rows.{rowWith}
+use Rattle.casemaster.proofs.RowsLaws.{Fit, IsWide, rows-rise}
+use Rattle.onecase.specs.Machine.{next}
+use Rattle.turns.specs.Turns.{afterDetail, finalRows}
+use Rattle.turns.specs.Under.{detailsUnder, runRow}
+use Rattle.turns.specs.Settings.{Settings, settingUnder}
+use Rattle.turns.specs.Adds.{addsWithoutRow}
+use Rattle.turns.proofs.TurnsLaws.{none-stays}
+use Rattle.turns.proofs.UnderLaws.{IsRecord, final-fit, found-final}
+use Rattle.keywalk.proofs.WorkLaws.{final-few}
+use Rattle.journal.proofs.LengthLaws.{entryCount, count-stored, count-start}
+use Rattle.takeback.specs.Theorem.{AreWide, Follows, IsLeftBy}
+use Rattle.batch.specs.Call.{Call, callSettings}
+use Rattle.batch.specs.Apply.{Outcome, IsOutcome, isCarriedOut, rowCount, callRows, carriedOut}
+use Rattle.batch.proofs.KnownLaws.{Known, carried-known, carried-is}
+use Rattle.takingback.specs.TakenBack.{rowsBefore, rowsAfter}
+
+-- a run that ends without a row began without one
+run-none : (setting : Setting) (o : Option (List ℕ)) (details : List (List ℕ)) → runRow setting o details ≡ none → o ≡ none
+unfolding runRow
+run-none setting o [] e = e
+run-none setting o (d ∷ details) e = none-stays setting o d (run-none setting _ details e)
+
+are-wide : (rows : List (List ℕ)) → All IsWide rows → AreWide rows
+are-wide [] w = tt
+are-wide (row ∷ rows) w = (w .0, are-wide rows (w .1))
+
+length-joined : (rows : List (List ℕ)) → All IsWide rows → length (joined rows) ≡ length rows * 200
+unfolding joined
+length-joined [] w = refl
+length-joined (row ∷ rows) w = length-append row (joined rows) ∙ omega (arith, w .0, length-joined rows (w .1))
+
+pub length-over : (new old : List ℕ) → length new ≤ length old → length (over new old) ≡ length old
+unfolding over
+length-over new old l = length-append new (drop (length new) old) ∙ omega (arith, length-drop (length new) old)
+
+rows-over : (rows : List (List ℕ)) (old : List ℕ) → All IsWide rows → rowsOf (length rows) (over (joined rows) old) ≡ rows
+unfolding over
+rows-over rows old w = blocks-joined 200 rows (drop (length (joined rows)) old) w
+
+-- a master that 3 and 4 let pass
+passes : (limit : ℕ) (master : List ℕ) (rows : ℕ) → length master % 200 ≡ 0 → rows ≤ length master / 200 → rows ≤ limit
+    → areSoundRows (rowsOf rows master) ≡ true → masterRefusal limit master rows 0 ≡ 0
+unfolding masterRefusal refusal3 refusal4
+passes limit master rows a b c s = rw (eq-eqb (length master % 200) 0 a, le-ltb (length master / 200) rows b, le-ltb limit rows c, s)
+
+-- each detail makes at most one more entry
+count-after : (settings : Settings) (old rows : List (List ℕ)) (d : List ℕ) → entryCount old (afterDetail settings rows d) ≤ suc (entryCount old rows)
+unfolding afterDetail
+count-after settings old rows d =
+    count-stored old (next (settingUnder settings (recordKey d)) (rowWith (recordKey d) rows) d) rows
+
+count-final : (settings : Settings) (old rows details : List (List ℕ)) → entryCount old (finalRows settings rows details) ≤ entryCount old rows + length details
+unfolding finalRows
+count-final settings old rows [] = omega arith
+count-final settings old rows (d ∷ details) =
+    omega (arith, count-final settings old (afterDetail settings rows d) details, count-after settings old rows d)
+
+module _ (c : Call) (o : Outcome) (i : IsOutcome c o) (t : isCarriedOut (o .result) ≡ true) where
+  facts : Known c
+  facts = carried-known c o i t
+
+  pub start-fit : Fit (rowsBefore c)
+  start-fit = record { wide = blocks-wide 200 (c .rows) (c .master) (facts .rows-in); sound = facts .sound }
+
+  records : All IsRecord (detailsOf (c .batch))
+  unfolding detailsOf
+  records = blocks-wide 245 (detailCount (c .batch)) (c .batch) (omega (arith, facts .batch-whole))
+
+  end-fit : Fit (callRows c)
+  end-fit = final-fit (callSettings c) (facts .list) (rowsBefore c) (detailsOf (c .batch)) records start-fit
+
+  count-is : rowCount (o .result) ≡ length (callRows c)
+  unfolding carriedOut
+  count-is = ap (λ (q : Outcome). rowCount (q .result)) (carried-is c o i t)
+
+  master-is : o .master ≡ over (joined (callRows c)) (c .master)
+  unfolding carriedOut
+  master-is = ap (λ (q : Outcome). q .master) (carried-is c o i t)
+
+  pub rows-are : rowsAfter o ≡ callRows c
+  rows-are =
+      ap (λ (n : ℕ). rowsOf n (o .master)) count-is ∙ ap (rowsOf (length (callRows c))) master-is ∙ rows-over (callRows c) (c .master) (end-fit .wide)
+
+  -- as many rows as there is room for
+  few : length (callRows c) ≤ c .rows + addsWithoutRow (rowsBefore c) (detailsOf (c .batch))
+  few =
+      omega (
+        arith,
+        final-few (callSettings c) (facts .list) (rowsBefore c) (detailsOf (c .batch)) records (start-fit .wide) (start-fit .sound),
+        length-blocks 200 (c .rows) (c .master),
+      )
+
+  -- rows keep to the limit, before and after
+  pub before-limit : length (rowsBefore c) ≤ c .limit
+  before-limit = omega (arith, length-blocks 200 (c .rows) (c .master), facts .rows-limit)
+
+  pub after-limit : length (callRows c) ≤ c .limit
+  after-limit = omega (arith, few, facts .room-limit)
+
+  -- at most one entry for each detail
+  pub entries-few : entryCount (rowsBefore c) (callRows c) ≤ detailCount (c .batch)
+  unfolding detailsOf
+  entries-few =
+      omega (
+        arith,
+        count-final (callSettings c) (rowsBefore c) (rowsBefore c) (detailsOf (c .batch)),
+        count-start (rowsBefore c) (rows-rise (rowsBefore c) (start-fit .sound)),
+        length-blocks 245 (detailCount (c .batch)) (c .batch),
+      )
+
+  same-length : length (o .master) ≡ length (c .master)
+  same-length =
+      ap length master-is
+      ∙ length-over (joined (callRows c)) (c .master) (omega (arith, length-joined (callRows c) (end-fit .wide), few, facts .room))
+
+  follows : Follows (rowsBefore c) (callRows c)
+  follows =
+      record {
+        old-rise = rows-rise (rowsBefore c) (start-fit .sound);
+        new-rise = rows-rise (callRows c) (end-fit .sound);
+        stays = λ key e.
+            run-none (settingUnder (callSettings c) key) (rowWith key (rowsBefore c)) (detailsUnder key (detailsOf (c .batch)))
+            (sym (found-final (callSettings c) key (rowsBefore c) (detailsOf (c .batch)) records (start-fit .wide)) ∙ e);
+      }
+
+  pub left-by : IsLeftBy (c .limit) (rowsBefore c) (o .master) (rowCount (o .result))
+  left-by =
+      record {
+        wide = are-wide (rowsBefore c) (start-fit .wide);
+        sound = start-fit .sound;
+        passed =
+            passes (c .limit) (o .master) (rowCount (o .result)) (ap (λ (n : ℕ). n % 200) same-length ∙ facts .master-whole)
+            (omega (arith, count-is, few, facts .room, same-length)) (omega (arith, count-is, after-limit))
+            (subst (λ (rows : List (List ℕ)). areSoundRows rows ≡ true) (sym rows-are) (end-fit .sound));
+        follows = subst (λ (rows : List (List ℕ)). Follows (rowsBefore c) rows) (sym rows-are) follows;
+      }
+
+  pub count-before : length (rowsBefore c) ≡ c .rows
+  count-before = length-blocks 200 (c .rows) (c .master)

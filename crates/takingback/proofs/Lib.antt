@@ -1,0 +1,3 @@
+pub mod LeftLaws
+pub mod TakenBackProof
+pub mod JournaledBatchProof

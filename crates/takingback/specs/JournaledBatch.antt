@@ -1,0 +1,63 @@
+-- Document 02, item 8, over two whole calls: a batch applied with a journal and carried out, then taken back with the bytes that were written.
+-- Over any limit. Assumes nothing.
+use Prim.Native.Nat.{ℕ, suc, _+_, _*_, _^_, _≤_, _<_}
+use mathlib.Core.Path.{_≡_}
+use mathlib.Core.Bool.{true, false}
+use mathlib.Core.List.{List}
+use lib.ListN.{length, take, drop}
+use Rattle.layout.specs.Limits.{maxRows}
+use Rattle.layout.specs.Batch.{detailCount}
+use Rattle.batch.specs.Apply.{Outcome, IsOutcome, isCarriedOut}
+use Rattle.journaledapply.specs.Journaled.{JournaledCall, JournaledOutcome, IsJournaled, refusal25, callJournal}
+use Rattle.takingback.specs.TakenBack.{takenBack, asBefore}
+
+-- the journal that a call left at the front of its buffer
+abbrev pub journalWritten : JournaledOutcome → List ℕ
+journalWritten o = take (o .written) (o .journal)
+
+-- a call with a journal that is carried out
+pub record IsDone (j : JournaledCall) (o : JournaledOutcome) : Type 0 where
+  pub is : IsJournaled j o
+  pub done : isCarriedOut (o .outcome .result) ≡ true
+
+-- the bytes that it wrote take it back
+abbrev pub EveryJournaledBatch : Type 0
+EveryJournaledBatch =
+    (j : JournaledCall) (o : JournaledOutcome) → IsDone j o → takenBack (j .call) (o .outcome) (journalWritten o) ≡ asBefore (j .call) (o .outcome)
+
+-- ---- the journal's buffer
+
+-- it has room for the journal
+abbrev pub HasRoom : JournaledCall → Type 0
+HasRoom j = length (callJournal (j .call)) ≤ length (j .journal)
+
+-- with room it stays as long as it was, the journal is its first bytes, and the bytes behind the journal are kept
+pub record InBuffer (j : JournaledCall) (o : JournaledOutcome) : Type 0 where
+  pub same-length : length (o .journal) ≡ length (j .journal)
+  pub is : journalWritten o ≡ callJournal (j .call)
+  pub kept : drop (o .written) (o .journal) ≡ drop (o .written) (j .journal)
+
+abbrev pub EveryBuffer : Type 0
+EveryBuffer = (j : JournaledCall) (o : JournaledOutcome) → IsDone j o → HasRoom j → InBuffer j o
+
+-- where each row count up to the limit has at most k groups: at most 2 × k + (k + 201) × (details) bytes
+abbrev pub JournalLength : Type 0
+JournalLength =
+    (j : JournaledCall) (o : JournaledOutcome) → IsDone j o → (k : ℕ) → j .call .limit < 128 ^ suc k
+    → length (callJournal (j .call)) ≤ suc k + suc k + (suc k + 201) * detailCount (j .call .batch)
+
+-- so 12 + 204 × (details) is room at today's limit
+abbrev pub RoomToday : Type 0
+RoomToday = (j : JournaledCall) (o : JournaledOutcome) → IsDone j o → j .call .limit ≤ maxRows → HasRoom j
+
+-- ---- beside `apply`
+
+-- the same master, verdicts, rejects and counts, and the same refusals, where 25 doesn't hold
+abbrev pub SameAsPlain : Type 0
+SameAsPlain =
+    (j : JournaledCall) (o : JournaledOutcome) (p : Outcome) → IsJournaled j o → IsOutcome (j .call) p
+    → refusal25 (j .call .batch) (j .journal) ≡ false → o .outcome ≡ p
+
+-- so where it is carried out
+abbrev pub DoneAsPlain : Type 0
+DoneAsPlain = (j : JournaledCall) (o : JournaledOutcome) (p : Outcome) → IsDone j o → IsOutcome (j .call) p → o .outcome ≡ p

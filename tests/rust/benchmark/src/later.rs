@@ -1,0 +1,21 @@
+//! The later requests: each has its own file that measures its calls, and its line in the list.
+
+use crate::journal;
+
+/// What a request measures, as lines to print.
+type Measured = fn(repetitions: usize) -> Vec<String>;
+
+const REQUESTS: &[Measured] = &[journal::measured];
+
+pub fn measured(repetitions: usize) -> Vec<Vec<String>> {
+    REQUESTS.iter().map(|one| one(repetitions)).collect()
+}
+
+pub fn print(measured: &[Vec<String>]) {
+    for lines in measured {
+        println!();
+        for line in lines {
+            println!("{line}");
+        }
+    }
+}
