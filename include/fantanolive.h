@@ -1,11 +1,12 @@
 /* fantanolive.h: the C interface of the Fantanolive library, libfantanolive.a and libfantanolive.so.
  *
- * The library keeps a state's copy of the federal offset case master. It has eleven calls:
+ * The library keeps a state's copy of the federal offset case master. It has twelve calls:
  *
  *     fantanolive_apply            applies a submission batch to a master
  *     fantanolive_apply_journaled  the same, with a journal of what the batch changes
  *     fantanolive_take_back        takes a batch back with its journal
  *     fantanolive_find             finds a case's row in a master
+ *     fantanolive_find_many        finds the rows of many cases in one walk
  *     fantanolive_reconcile        writes the reconciliation file of a state
  *     fantanolive_add_cents        gives a master whose rows have no cents 00 cents
  *     fantanolive_post             posts a weekly collection file to a master
@@ -20,7 +21,7 @@
  * Bytes. All text is EBCDIC: letters C1-C9, D1-D9, E2-E9, digits F0-F9, space 40, hyphen 60, comma 6B (hexadecimal).
  * A batch typed in ASCII is turned into EBCDIC by fantanolive_to_ebcdic first; the other calls convert nothing.
  *
- * Answers. Each call answers 0 (FANTANOLIVE_DONE) when it was carried out, else the number of a refusal, 1 to 26. A
+ * Answers. Each call answers 0 (FANTANOLIVE_DONE) when it was carried out, else the number of a refusal, 1 to 28. A
  * call answers the first refusal that holds, in the order that is given with it. On a refusal nothing at all is
  * written: no byte of any buffer, and no number of the result but the place that goes with refusal 16.
  * fantanolive_text.h has the refusals and the codes of a verdict in words.
@@ -30,16 +31,16 @@
  *
  * Pointers. A pointer must be valid for the length that goes with it: readable where it is const, else readable and
  * writable. No pointer may be NULL, not even with a length of 0; any other pointer of the right alignment does then.
- * Pointers to uint64_t must be aligned as uint64_t is (8 bytes), those to uint16_t as uint16_t is (2 bytes); those to
- * bytes may have any address.
+ * Pointers to uint64_t must be aligned as uint64_t is (8 bytes), those to uint32_t as uint32_t is (4 bytes), those to
+ * uint16_t as uint16_t is (2 bytes); those to bytes may have any address.
  * The calls do not check this, and a call that breaks it has no defined outcome.
  *
  * Overlap. A buffer that a call writes must not overlap any other argument of the call. Buffers that are only read may
  * overlap each other: a key may be a pointer into the master that it is looked for in.
  *
  * Threads. There is no global state. Calls may run at once in several threads, as long as no buffer that one of them
- * writes is read or written by another. Any number of fantanolive_find and fantanolive_reconcile calls may read the same
- * master at once.
+ * writes is read or written by another. Any number of fantanolive_find, fantanolive_find_many and fantanolive_reconcile
+ * calls may read the same master at once.
  *
  * Stack. fantanolive_contacts_update takes some 270 kilobytes of stack, the other calls a few.
  *
@@ -96,6 +97,7 @@ extern "C" {
  *   journal of fantanolive_apply_journaled:  FANTANOLIVE_JOURNAL_SIZE(details) bytes; fewer are refused (25)
  *   master of fantanolive_apply:    FANTANOLIVE_MASTER_SIZE(rows + details of type A) bytes, for at most
  *                                   FANTANOLIVE_MAX_ROWS rows
+ *   places of fantanolive_find_many:  one number per key; fewer are refused (28)
  *   out of fantanolive_reconcile:   FANTANOLIVE_OUT_SIZE(rows) bytes
  *   table of fantanolive_contacts_update:   FANTANOLIVE_TABLE_SIZE(count + records of the file) bytes
  *   faulty of fantanolive_contacts_update:  one number per record of the file; fewer are refused (19)
@@ -126,6 +128,9 @@ extern "C" {
 #define FANTANOLIVE_FAULTY 1          /* faulty records of the file, whose numbers are in the list */
 #define FANTANOLIVE_CONTACT_RESULTS 2 /* how many numbers the result has */
 
+/* The place that fantanolive_find_many tells for a key without a row. */
+#define FANTANOLIVE_NO_PLACE 4294967295
+
 /* The answers: 0, and the refusals' numbers. */
 #define FANTANOLIVE_DONE 0            /* carried out */
 #define FANTANOLIVE_WRONG_YEAR 1      /* year outside 1900-9999 */
@@ -154,6 +159,8 @@ extern "C" {
 #define FANTANOLIVE_SHORT_LINES 24    /* line list shorter than the lines */
 #define FANTANOLIVE_SHORT_JOURNAL 25  /* journal buffer below 12 + 204 x details */
 #define FANTANOLIVE_WRONG_JOURNAL 26  /* no journal, or not one of this master, or what it would leave is not sound */
+#define FANTANOLIVE_WRONG_KEYS 27     /* list of keys not made of sound keys, twelve bytes each, strictly rising */
+#define FANTANOLIVE_SHORT_PLACES 28   /* answer list shorter than the keys */
 
 /* A verdict is a number of 64 bits: the sum of 2 to the power c over the codes c that the detail got. Errors are the
  * codes 1 to 18, warnings 51 and 52; a verdict of 0 has none. A detail with an error is rejected and changes nothing.
@@ -297,6 +304,37 @@ uint64_t fantanolive_find(
     const uint8_t *master, size_t master_length, size_t rows,
     const uint8_t *key, size_t key_length,
     uint64_t *place);
+
+/* fantanolive_find_many: finds the rows of many keys in one walk over the rows.
+ *
+ * The keys rise strictly, as the rows do. The walk compares the present key with the present row: a smaller row is passed;
+ * an equal one gives its place, a larger one or no row left gives none, and the key is passed. An equal row is not passed by
+ * its key: the next key meets it again. Each answer is that of fantanolive_find on its key, refusal 15 being
+ * FANTANOLIVE_NO_PLACE; the comparisons are at most rows plus keys.
+ *
+ * master, master_length   The rows, 200 bytes each; the length is in bytes and a multiple of 200.
+ * rows                    How many rows the master has, deleted ones included.
+ * keys, keys_length       The keys, twelve bytes each, strictly rising in byte order, nothing between them. The length is in
+ *                         bytes; 0 for an empty list, which is looked up.
+ * places, places_length   Where the answers go. The length counts numbers, not bytes; at least one per key.
+ * comparisons             Where the number of comparisons of a key with a row goes.
+ *
+ * Returns, in the order of checking:
+ *   3   FANTANOLIVE_WRONG_MASTER    master_length no multiple of 200, or rows above master_length / 200 or 65,535
+ *   4   FANTANOLIVE_UNSOUND_ROW     one of the rows is not sound, or their keys do not strictly rise
+ *   27  FANTANOLIVE_WRONG_KEYS      keys_length no multiple of 12, one of the keys not sound (as for 14), or the keys not
+ *                                   strictly rising
+ *   28  FANTANOLIVE_SHORT_PLACES    places_length below the number of keys
+ *   0   FANTANOLIVE_DONE            carried out
+ *
+ * Written when carried out: a number per key in the order of the keys, the place of its row, the first row being 0, or
+ * FANTANOLIVE_NO_PLACE where no row has it; *comparisons. A deleted row (D in column 196) is found like a live one.
+ * Kept: the numbers of places behind the last key's; all else. */
+uint64_t fantanolive_find_many(
+    const uint8_t *master, size_t master_length, size_t rows,
+    const uint8_t *keys, size_t keys_length,
+    uint32_t *places, size_t places_length,
+    uint64_t *comparisons);
 
 /* fantanolive_reconcile: writes the reconciliation file of a state.
  *

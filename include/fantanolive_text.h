@@ -34,11 +34,11 @@ static const struct fantanolive_text fantanolive_refusal_texts[] = {
      "write each code as three EBCDIC digits with nothing between them or behind them, lowest first, none twice; an empty list is allowed"},
     {3,
      "master length no multiple of 200, or row count above length / 200 or above 65,535",
-     "apply, take_back, find, reconcile, add_cents, post: the master as a whole, and its row count",
+     "apply, take_back, find, find_many, reconcile, add_cents, post: the master as a whole, and its row count",
      "check that the file is a master and was copied whole, byte by byte; a row has 200 bytes and no line end, a master at most 65,535 rows"},
     {4,
      "a row that is not sound, or rows not in strictly rising order of key",
-     "apply, take_back, find, reconcile, add_cents, post: a row's columns 1-12 (key), 13-15, 31-34, 66-73, 79-90 or 196-200, or the order of the rows",
+     "apply, take_back, find, find_many, reconcile, add_cents, post: a row's columns 1-12 (key), 13-15, 31-34, 66-73, 79-90 or 196-200, or the order of the rows",
      "take the last good copy of the master; if columns 197-200 are spaces in every row, run add_cents once (add_cents takes only such a master and refuses one that has its cents)"},
     {5,
      "batch empty, its length no multiple of 245, or over 65,536 records",
@@ -128,6 +128,14 @@ static const struct fantanolive_text fantanolive_refusal_texts[] = {
      "not a journal, not one of this master, or the rows that it would leave are not sound or not in order",
      "take_back: the journal, its length, or the master and row count that it goes with",
      "take the journal's bytes, all of them and no more, and the master and row count that its batch left; nothing may have changed the master since, and a batch is taken back once"},
+    {27,
+     "list of keys with a key that is not sound, or not in strictly rising order",
+     "find_many: the keys, twelve bytes each: state (1-2), SSN (3-11) and case type (12)",
+     "write each key as for find, with nothing between them or behind them, lowest first in byte order (letters before digits), none twice; an empty list is allowed"},
+    {28,
+     "answer list shorter than the keys",
+     "find_many: the length of the answer list, counted in numbers",
+     "lend one 32-bit number for each key"},
 };
 
 /* The codes, in rising order of number. */

@@ -4,11 +4,12 @@ The functions here take bytes-like files and return new bytes; those of fantanol
 caller's buffers, without copies. Text in files is EBCDIC (to_ebcdic, to_ascii). A refusal is raised as Refused, with number and
 words. FANTANOLIVE_LIBRARY may name the library's path."""
 from . import calls
-from ._header import CONTACT, KEY, LINE, LOCAL_CODE, MAX_CONTACTS, MAX_RECORDS, MAX_ROWS, RECORD, ROW
+from ._header import CONTACT, KEY, LINE, LOCAL_CODE, MAX_CONTACTS, MAX_RECORDS, MAX_ROWS, NO_PLACE, RECORD, ROW
 from ._header import VERSION as __version__
 from .calls import ContactCounts, Counts, JournaledCounts
 from .forms import (
     Applied,
+    FoundMany,
     Journaled,
     Posted,
     Updated,
@@ -18,6 +19,7 @@ from .forms import (
     contacts_codes,
     contacts_update,
     find,
+    find_many,
     post,
     reconcile,
     take_back,
@@ -27,8 +29,8 @@ from .forms import (
 from .words import Refused, Text, code_text, codes_of, refusal_text
 
 __all__ = [
-    "Applied", "CONTACT", "ContactCounts", "Counts", "Journaled", "JournaledCounts", "KEY", "LINE", "LOCAL_CODE",
-    "MAX_CONTACTS", "MAX_RECORDS", "MAX_ROWS", "Posted", "RECORD", "ROW", "Refused", "Text", "Updated", "__version__",
-    "add_cents", "apply", "apply_journaled", "calls", "code_text", "codes_of", "contacts_codes", "contacts_update", "find",
-    "post", "reconcile", "refusal_text", "take_back", "to_ascii", "to_ebcdic",
+    "Applied", "CONTACT", "ContactCounts", "Counts", "FoundMany", "Journaled", "JournaledCounts", "KEY", "LINE", "LOCAL_CODE",
+    "MAX_CONTACTS", "MAX_RECORDS", "MAX_ROWS", "NO_PLACE", "Posted", "RECORD", "ROW", "Refused", "Text", "Updated",
+    "__version__", "add_cents", "apply", "apply_journaled", "calls", "code_text", "codes_of", "contacts_codes",
+    "contacts_update", "find", "find_many", "post", "reconcile", "refusal_text", "take_back", "to_ascii", "to_ebcdic",
 ]

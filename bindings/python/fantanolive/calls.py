@@ -8,7 +8,7 @@ import collections
 import ctypes
 
 from . import _header
-from ._lending import NUMBERS_16, NUMBERS_64, Call, number
+from ._lending import NUMBERS_16, NUMBERS_32, NUMBERS_64, Call, number
 
 # The result of apply. Accepted includes warned; rows are those of the master afterwards.
 Counts = collections.namedtuple("Counts", "accepted rejected warned neither rows")
@@ -57,6 +57,18 @@ def find(master, rows, key):
     with Call("find") as call:
         call.run(*call.read("master", master), number("rows", rows), *call.read("key", key), ctypes.byref(place))
     return place.value
+
+
+def find_many(master, rows, keys, places):
+    """Finds the rows of many keys, strictly rising. places has 32-bit numbers: array('I', ..); a key without a row gets NO_PLACE.
+    Returns how many comparisons of a key with a row were made."""
+    comparisons = ctypes.c_uint64()
+    with Call("find_many") as call:
+        call.run(
+            *call.read("master", master), number("rows", rows), *call.read("keys", keys),
+            *call.write("places", places, NUMBERS_32), ctypes.byref(comparisons),
+        )
+    return comparisons.value
 
 
 def reconcile(master, rows, state, date, out):

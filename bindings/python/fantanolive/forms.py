@@ -14,6 +14,8 @@ Applied = collections.namedtuple("Applied", "master rejects verdicts counts")
 
 # What apply_journaled leaves: that of apply, and the journal (bytes).
 Journaled = collections.namedtuple("Journaled", Applied._fields + ("journal",))
+# What find_many finds: a place per key, the first row being 0, or NO_PLACE (array), and the number of comparisons.
+FoundMany = collections.namedtuple("FoundMany", "places comparisons")
 
 # What post leaves: the new master (bytes) and the numbers of the listed lines, the first line being 1 (array).
 Posted = collections.namedtuple("Posted", "master lines")
@@ -45,6 +47,13 @@ def take_back(master, journal):
 def find(master, key):
     """Finds the row of a key. Returns its place, the first being 0."""
     return calls.find(master, _count("master", master, _header.ROW), key)
+
+
+def find_many(master, keys):
+    """Finds the rows of many keys, twelve bytes each and strictly rising. Returns FoundMany."""
+    places = array.array("I", [0]) * _count("keys", keys, _header.KEY)
+    comparisons = calls.find_many(master, _count("master", master, _header.ROW), keys, places)
+    return FoundMany(places, comparisons)
 
 
 def reconcile(master, state, date):

@@ -78,6 +78,9 @@ class NotTaken(unittest.TestCase):
         for numbers in (bytearray(16), array.array("h", [7]), array.array("Q", [7])):
             with self.assertRaisesRegex(TypeError, "lines must have unsigned items of 2 bytes"):
                 calls.post(bytearray(row()), 1, b"", numbers)
+        for numbers in (bytearray(16), array.array("i", [7]), array.array("H", [7, 7]), array.array("Q", [7])):
+            with self.assertRaisesRegex(TypeError, "places must have unsigned items of 4 bytes"):
+                calls.find_many(row(), 1, KEY, numbers)
         swapped = (ctypes.c_uint64.__ctype_be__ * 2)()
         self.assertRaises(TypeError, apply, verdicts=swapped)
 

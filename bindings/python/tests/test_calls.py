@@ -2,7 +2,7 @@
 import array
 import unittest
 
-from fantanolive import Refused, calls
+from fantanolive import NO_PLACE, Refused, calls
 from sample import PAPER_BATCH, contact, control, detail, ebcdic, line, row, total
 
 
@@ -46,6 +46,13 @@ class Carried(unittest.TestCase):
     def test_find_with_a_key_in_the_master(self):
         master = memoryview(row("123456780") + row())
         self.assertEqual(calls.find(master, 2, master[200:212]), 1)
+
+    def test_find_many(self):
+        master = row("123456780") + row() + b"\xee" * 200
+        places = array.array("I", [7, 7, 7, 7])
+        keys = ebcdic("OH123456780AOH123456789NOK123456789N")
+        self.assertEqual(calls.find_many(master, 2, keys, places), 4)
+        self.assertEqual(list(places), [NO_PLACE, 1, NO_PLACE, 7])
 
     def test_reconcile(self):
         out = bytearray(b"\xee" * 500)
@@ -141,6 +148,17 @@ class Refusals(unittest.TestCase):
         ]
         for number, changed in refused:
             self.refused(calls.find, good, number, **changed)
+
+    def test_find_many(self):
+        def good():
+            return {"master": row(), "rows": 1, "keys": ebcdic("OH123456789N"), "places": array.array("I", [7])}
+
+        refused = [
+            (3, {"master": bytes(201)}), (3, {"rows": 2}), (4, {"master": bytes(200)}), (27, {"keys": ebcdic("OH123456789")}),
+            (27, {"keys": ebcdic("OH000456789N")}), (27, {"keys": ebcdic("OH123456789N" * 2)}), (28, {"places": array.array("I")}),
+        ]
+        for number, changed in refused:
+            self.refused(calls.find_many, good, number, **changed)
 
     def test_reconcile(self):
         def good():

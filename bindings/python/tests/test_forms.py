@@ -48,6 +48,12 @@ class Forms(unittest.TestCase):
         self.assertEqual(self.refusal(fantanolive.find, b"", ebcdic("OH123456789N")), 15)
         self.assertEqual(self.refusal(fantanolive.find, bytes(100), ebcdic("OH123456789N")), 3)
 
+    def test_find_many(self):
+        found = fantanolive.find_many(row("123456780") + row(), ebcdic("OH123456789AOH123456789N"))
+        self.assertEqual((list(found.places), found.comparisons), ([fantanolive.NO_PLACE, 1], 3))
+        self.assertEqual(fantanolive.find_many(b"", b""), (fantanolive.find_many(row(), b"").places, 0))
+        self.assertEqual(self.refusal(fantanolive.find_many, row(), bytes(12)), 27)
+
     def test_reconcile(self):
         file = fantanolive.reconcile(row() + row("123456790", 0, "D00  "), ebcdic("OH"), ebcdic("20070102"))
         self.assertEqual(len(file), 490)

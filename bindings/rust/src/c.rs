@@ -53,6 +53,17 @@ extern "C" {
         place: *mut u64,
     ) -> u64;
 
+    pub fn fantanolive_find_many(
+        master: *const u8,
+        master_length: usize,
+        rows: usize,
+        keys: *const u8,
+        keys_length: usize,
+        places: *mut u32,
+        places_length: usize,
+        comparisons: *mut u64,
+    ) -> u64;
+
     pub fn fantanolive_reconcile(
         master: *const u8,
         master_length: usize,

@@ -1,4 +1,4 @@
-//! The eleven calls over slices.
+//! The calls over slices.
 //!
 //! Every `unsafe` block here is sound for the same reason, given at `apply`.
 
@@ -179,6 +179,39 @@ pub fn find(master: &[u8], rows: usize, key: &[u8]) -> Result<u64, Refusal> {
     };
     done(answer)?;
     Ok(place)
+}
+
+/// Finds the rows of many keys, deleted or not, in one walk, and answers how many comparisons of a key with a row it made, at
+/// most rows plus keys.
+///
+/// `master` has `rows` rows of 200 bytes; `keys` has the keys, twelve bytes each, strictly rising. `places` takes at least one
+/// number per key: the place of its row, the first being 0, or [`crate::NO_PLACE`]. Numbers behind the last key's are kept.
+///
+/// # Errors
+///
+/// Refusals 3, 4, 27 and 28, the first that holds; `places` is then as before.
+pub fn find_many(
+    master: &[u8],
+    rows: usize,
+    keys: &[u8],
+    places: &mut [u32],
+) -> Result<u64, Refusal> {
+    let mut comparisons = 0;
+    // SAFETY: as in `apply`; only `places` and `comparisons` are written.
+    let answer = unsafe {
+        c::fantanolive_find_many(
+            master.as_ptr(),
+            master.len(),
+            rows,
+            keys.as_ptr(),
+            keys.len(),
+            places.as_mut_ptr(),
+            places.len(),
+            &mut comparisons,
+        )
+    };
+    done(answer)?;
+    Ok(comparisons)
 }
 
 /// Writes the reconciliation file of a state and answers the number of its REC records.

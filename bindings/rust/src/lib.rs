@@ -11,12 +11,13 @@ mod texts;
 mod verdict;
 
 pub use calls::{
-    add_cents, apply, apply_journaled, contacts_codes, contacts_update, find, post, reconcile,
-    take_back, to_ascii, to_ebcdic, ContactCounts, Counts,
+    add_cents, apply, apply_journaled, contacts_codes, contacts_update, find, find_many, post,
+    reconcile, take_back, to_ascii, to_ebcdic, ContactCounts, Counts,
 };
 pub use refusal::{NotConverted, Refusal};
 pub use sizes::{
-    journal_size, CONTACT, DATE, KEY, LINE, LOCAL_CODE, MAX_CONTACTS, MAX_RECORDS, MAX_ROWS, RECORD, ROW, STATE,
+    CONTACT, DATE, KEY, LINE, LOCAL_CODE, MAX_CONTACTS, MAX_RECORDS, MAX_ROWS, NO_PLACE, RECORD,
+    ROW, STATE, journal_size,
 };
 pub use texts::{code_text, refusal_text, Text, VERSION};
 pub use verdict::{codes, has_code, ERRORS, WARNINGS};

@@ -61,11 +61,15 @@ pub enum Refusal {
     ShortJournal = 25,
     /// No journal, or not one of this master, or what it would leave is not sound.
     WrongJournal = 26,
+    /// List of keys not made of sound keys, twelve bytes each, strictly rising.
+    WrongKeys = 27,
+    /// Answer list shorter than the keys.
+    ShortPlaces = 28,
 }
 
 impl Refusal {
     /// Every refusal, in rising order of number.
-    pub const ALL: [Refusal; 26] = [
+    pub const ALL: [Refusal; 28] = [
         Refusal::WrongYear,
         Refusal::WrongLocals,
         Refusal::WrongMaster,
@@ -92,6 +96,8 @@ impl Refusal {
         Refusal::ShortLines,
         Refusal::ShortJournal,
         Refusal::WrongJournal,
+        Refusal::WrongKeys,
+        Refusal::ShortPlaces,
     ];
 
     /// The refusal's number in documents 01 and 02.

@@ -27,3 +27,5 @@ pub const MAX_CONTACTS: usize = 65_535;
 pub const fn journal_size(details: usize) -> usize {
     12 + 204 * details
 }
+/// The place that [`crate::find_many`] tells for a key without a row.
+pub const NO_PLACE: u32 = 4_294_967_295;

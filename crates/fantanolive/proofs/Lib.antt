@@ -3,3 +3,4 @@ pub mod CodepageCallsLaws
 pub mod ContactsCallsLaws
 pub mod PostingCallsLaws
 pub mod JournalCallsLaws
+pub mod LookupCallsLaws

@@ -3,6 +3,7 @@
 pub mod codepage_calls;
 pub mod contacts_calls;
 pub mod journal_calls;
+pub mod lookup_calls;
 pub mod posting_calls;
 
 use batch::apply;

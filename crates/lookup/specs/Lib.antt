@@ -1,1 +1,4 @@
 pub mod Find
+pub mod Many
+pub mod Steps
+pub mod Theorem

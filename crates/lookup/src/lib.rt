@@ -1,2 +1,3 @@
-// Finding a case.
+// Finding a case, and many cases together.
 pub mod find;
+pub mod many;

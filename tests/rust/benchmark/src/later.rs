@@ -1,11 +1,16 @@
 //! The later requests: each has its own file that measures its calls, and its line in the list.
 
 use crate::journal;
+use crate::many;
 
 /// What a request measures, as lines to print.
 type Measured = fn(repetitions: usize) -> Vec<String>;
 
-const REQUESTS: &[Measured] = &[journal::measured];
+const REQUESTS: &[Measured] = &[
+    // A line each.
+    journal::measured,
+    many::measured,
+];
 
 pub fn measured(repetitions: usize) -> Vec<Vec<String>> {
     REQUESTS.iter().map(|one| one(repetitions)).collect()

@@ -3,6 +3,7 @@
 //! as multiples of one memcpy of the file or master; the later calls beside one memcpy too. `--quick` leaves out what is predicted to take
 //! more than two seconds; `--once CASE ENGINE` makes one call and measures nothing.
 
+mod beside;
 mod cases;
 mod clock;
 mod contacts;
@@ -10,6 +11,7 @@ mod convert;
 mod input;
 mod journal;
 mod later;
+mod many;
 mod once;
 mod posting;
 

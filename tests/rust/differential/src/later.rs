@@ -7,12 +7,14 @@ use std::process::ExitCode;
 use generator::rng::{mix, Rng};
 
 use crate::run::journal;
+use crate::run::many;
 use crate::SHOWN;
 
 const RUNS: &[Run] = &[
     journal::APPLY_JOURNALED,
     journal::TAKE_BACK,
     journal::THERE_AND_BACK,
+    many::FIND_MANY,
 ];
 
 pub struct Run {

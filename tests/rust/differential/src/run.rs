@@ -2,6 +2,7 @@
 
 mod contacts;
 pub mod journal;
+pub mod many;
 mod posting;
 
 use generator::text::shown;

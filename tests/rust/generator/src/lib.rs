@@ -6,6 +6,7 @@ pub mod contacts;
 pub mod crowd;
 pub mod files;
 pub mod journal;
+pub mod many;
 pub mod posting;
 pub mod records;
 pub mod rng;

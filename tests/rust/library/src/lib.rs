@@ -2,8 +2,10 @@
 //! slices of which one is written never overlap, as the interface asks.
 
 mod journal;
+mod many;
 
 pub use journal::{apply_journaled, take_back};
+pub use many::find_many;
 
 extern "C" {
     fn fantanolive_apply(

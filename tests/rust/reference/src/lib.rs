@@ -1,5 +1,5 @@
-//! Document 01 and items 1 and 3 to 8 of document 02 written out rule by rule, in their order and
-//! words; simple before fast.
+//! Document 01 and the items of document 02 that have come so far written out rule by rule, in their
+//! order and words; simple before fast.
 //! Nothing here panics: every length is looked at by a refusal before it is relied on.
 
 pub mod batch;
@@ -10,6 +10,7 @@ pub mod journal;
 pub mod limits;
 pub mod lookup;
 pub mod machine;
+pub mod many;
 pub mod posting;
 pub mod row;
 pub mod text;
@@ -18,6 +19,7 @@ pub use batch::{apply, Counts};
 pub use code_page::{to_ascii, to_ebcdic};
 pub use journal::{apply_journaled, take_back};
 pub use lookup::{find, reconcile};
+pub use many::find_many;
 pub use posting::{add_cents, post};
 
 #[cfg(test)]

@@ -4,6 +4,7 @@ mod contacts;
 mod control;
 mod exclusions;
 mod journal;
+mod many;
 mod names;
 mod posting;
 
