@@ -1,10 +1,11 @@
 /* fantanolive.h: the C interface of the Fantanolive library, libfantanolive.a and libfantanolive.so.
  *
- * The library keeps a state's copy of the federal offset case master. It has twelve calls:
+ * The library keeps a state's copy of the federal offset case master. It has thirteen calls:
  *
  *     fantanolive_apply            applies a submission batch to a master
  *     fantanolive_apply_journaled  the same, with a journal of what the batch changes
  *     fantanolive_take_back        takes a batch back with its journal
+ *     fantanolive_totals           adds up the totals of a batch's details
  *     fantanolive_find             finds a case's row in a master
  *     fantanolive_find_many        finds the rows of many cases in one walk
  *     fantanolive_reconcile        writes the reconciliation file of a state
@@ -130,6 +131,12 @@ extern "C" {
 
 /* The place that fantanolive_find_many tells for a key without a row. */
 #define FANTANOLIVE_NO_PLACE 4294967295
+/* The numbers of fantanolive_totals, by their index: those that a control record states, in its order. */
+#define FANTANOLIVE_TANF_COUNT 0      /* details of case type A */
+#define FANTANOLIVE_NON_TANF_COUNT 1  /* details of case type N */
+#define FANTANOLIVE_TANF_AMOUNT 2     /* dollars of the details of case type A and type A or M, where they are digits */
+#define FANTANOLIVE_NON_TANF_AMOUNT 3 /* the same of case type N */
+#define FANTANOLIVE_TOTALS 4          /* how many numbers they are */
 
 /* The answers: 0, and the refusals' numbers. */
 #define FANTANOLIVE_DONE 0            /* carried out */
@@ -281,6 +288,24 @@ uint64_t fantanolive_take_back(
     uint8_t *master, size_t master_length, size_t rows,
     const uint8_t *journal, size_t journal_length,
     uint64_t *rows_after);
+/* fantanolive_totals: adds up the totals of a batch's details, whatever its last record says.
+ *
+ * They are the totals that refusals 7 and 8 of fantanolive_apply hold against the control record: with them written into
+ * its columns 6-14, 15-23, 24-34 and 35-45 (9, 9, 11 and 11 digits) a control record has none of the two. All records but
+ * the last are details. Documents 01 and 02 have no such call.
+ *
+ * batch, batch_length     The records, 245 bytes each: the details, then a last record, which may be anything. The length is
+ *                         in bytes.
+ * totals                  Where the four totals go (FANTANOLIVE_TANF_COUNT to FANTANOLIVE_NON_TANF_AMOUNT).
+ *
+ * Returns:
+ *   5   FANTANOLIVE_WRONG_BATCH     batch_length 0, no multiple of 245, or over 65,536 records
+ *   0   FANTANOLIVE_DONE            carried out
+ *
+ * Written when carried out: the four numbers of totals. Kept: all else. */
+uint64_t fantanolive_totals(
+    const uint8_t *batch, size_t batch_length,
+    uint64_t totals[FANTANOLIVE_TOTALS]);
 
 /* fantanolive_find: finds the row of a key.
  *

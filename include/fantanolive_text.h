@@ -42,7 +42,7 @@ static const struct fantanolive_text fantanolive_refusal_texts[] = {
      "take the last good copy of the master; if columns 197-200 are spaces in every row, run add_cents once (add_cents takes only such a master and refuses one that has its cents)"},
     {5,
      "batch empty, its length no multiple of 245, or over 65,536 records",
-     "apply: the batch as a whole",
+     "apply, totals: the batch as a whole",
      "write every record with 245 bytes and no line end, details first, the control record last; send more than 65,535 details in several batches"},
     {6,
      "CTL is missing in the last record",

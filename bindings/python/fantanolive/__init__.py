@@ -7,6 +7,7 @@ from . import calls
 from ._header import CONTACT, KEY, LINE, LOCAL_CODE, MAX_CONTACTS, MAX_RECORDS, MAX_ROWS, NO_PLACE, RECORD, ROW
 from ._header import VERSION as __version__
 from .calls import ContactCounts, Counts, JournaledCounts
+from .calls import ContactCounts, Counts, Totals, totals
 from .forms import (
     Applied,
     FoundMany,
@@ -30,7 +31,8 @@ from .words import Refused, Text, code_text, codes_of, refusal_text
 
 __all__ = [
     "Applied", "CONTACT", "ContactCounts", "Counts", "FoundMany", "Journaled", "JournaledCounts", "KEY", "LINE", "LOCAL_CODE",
-    "MAX_CONTACTS", "MAX_RECORDS", "MAX_ROWS", "NO_PLACE", "Posted", "RECORD", "ROW", "Refused", "Text", "Updated",
+    "MAX_CONTACTS", "MAX_RECORDS", "MAX_ROWS", "NO_PLACE", "Posted", "RECORD", "ROW", "Refused", "Text", "Totals", "Updated",
     "__version__", "add_cents", "apply", "apply_journaled", "calls", "code_text", "codes_of", "contacts_codes",
     "contacts_update", "find", "find_many", "post", "reconcile", "refusal_text", "take_back", "to_ascii", "to_ebcdic",
+    "totals",
 ]

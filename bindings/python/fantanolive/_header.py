@@ -29,6 +29,11 @@ CONTACTS = 0
 FAULTY = 1
 CONTACT_RESULTS = 2
 NO_PLACE = 4294967295
+TANF_COUNT = 0
+NON_TANF_COUNT = 1
+TANF_AMOUNT = 2
+NON_TANF_AMOUNT = 3
+TOTALS = 4
 DONE = 0
 WRONG_YEAR = 1
 WRONG_LOCALS = 2
@@ -83,7 +88,7 @@ REFUSAL_TEXTS = {
     ),
     5: (
         'batch empty, its length no multiple of 245, or over 65,536 records',
-        'apply: the batch as a whole',
+        'apply, totals: the batch as a whole',
         'write every record with 245 bytes and no line end, details first, the control record last; send more than 65,535 details in several batches',
     ),
     6: (

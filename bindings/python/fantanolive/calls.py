@@ -16,6 +16,9 @@ Counts = collections.namedtuple("Counts", "accepted rejected warned neither rows
 # The result of apply_journaled: that of apply, and the journal's bytes.
 JournaledCounts = collections.namedtuple("JournaledCounts", Counts._fields + ("journal",))
 
+# The result of totals: the numbers of details, and their amounts.
+Totals = collections.namedtuple("Totals", "tanf_count non_tanf_count tanf_amount non_tanf_amount")
+
 # The result of contacts_update: the records of the table afterwards, and how many faulty ones are listed.
 ContactCounts = collections.namedtuple("ContactCounts", "contacts faulty")
 
@@ -49,6 +52,14 @@ def take_back(master, rows, journal):
     with Call("take_back") as call:
         call.run(*call.write("master", master), number("rows", rows), *call.read("journal", journal), ctypes.byref(rows_after))
     return rows_after.value
+
+
+def totals(batch):
+    """Adds up the totals of a batch's details, whatever its last record says. Returns Totals."""
+    result = (ctypes.c_uint64 * _header.TOTALS)()
+    with Call("totals") as call:
+        call.run(*call.read("batch", batch), result)
+    return Totals(*result)
 
 
 def find(master, rows, key):

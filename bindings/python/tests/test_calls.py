@@ -39,6 +39,12 @@ class Carried(unittest.TestCase):
         self.assertEqual(calls.take_back(master, 2, journal[:4]), 1)
         self.assertEqual(bytes(master), row("123456780") + row() + b"\xee" * 200)
 
+    def test_totals(self):
+        self.assertEqual(calls.totals(PAPER_BATCH), (0, 2, 0, 125))
+        batch = detail("SMITH", 30, "A", case_type="A") + detail("SMITH", 7, "D", case_type="A") + detail("SMITH", 5, "M", case_type="X") + bytes(245)
+        self.assertEqual(calls.totals(batch), (2, 0, 30, 0))
+        self.assertEqual(calls.totals(bytes(245)).non_tanf_amount, 0)
+
     def test_find(self):
         master = row("123456780") + row() + b"\xee" * 200
         self.assertEqual(calls.find(master, 2, ebcdic("OH123456789N")), 1)
@@ -137,6 +143,13 @@ class Refusals(unittest.TestCase):
         ]
         for number, changed in refused:
             self.refused(calls.apply, good, number, **changed)
+
+    def test_totals(self):
+        def good():
+            return {"batch": PAPER_BATCH}
+
+        for batch in (b"", PAPER_BATCH[:-1], bytes(245 * 65537)):
+            self.refused(calls.totals, good, 5, batch=batch)
 
     def test_find(self):
         def good():

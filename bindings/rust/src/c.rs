@@ -44,6 +44,8 @@ extern "C" {
         rows_after: *mut u64,
     ) -> u64;
 
+    pub fn fantanolive_totals(batch: *const u8, batch_length: usize, totals: *mut u64) -> u64;
+
     pub fn fantanolive_find(
         master: *const u8,
         master_length: usize,

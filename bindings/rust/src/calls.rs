@@ -20,6 +20,19 @@ pub struct Counts {
     pub rows: u64,
 }
 
+/// The four totals of a batch's details: those that a control record states, in its order.
+#[derive(Clone, Copy, Debug, PartialEq, Eq)]
+pub struct Totals {
+    /// Details of case type A.
+    pub tanf_count: u64,
+    /// Details of case type N.
+    pub non_tanf_count: u64,
+    /// Dollars of the details of case type A and type A or M, where they are eight digits.
+    pub tanf_amount: u64,
+    /// The same of case type N.
+    pub non_tanf_amount: u64,
+}
+
 /// The two numbers of a contact file that was read.
 #[derive(Clone, Copy, Debug, PartialEq, Eq)]
 pub struct ContactCounts {
@@ -155,6 +168,26 @@ pub fn take_back(master: &mut [u8], rows: usize, journal: &[u8]) -> Result<u64, 
     };
     done(answer)?;
     Ok(rows_after)
+}
+
+/// Adds up the totals of a batch's details: all records but the last, whatever that says. With them its control record has
+/// neither refusal 7 nor 8.
+///
+/// # Errors
+///
+/// Refusal 5.
+pub fn totals(batch: &[u8]) -> Result<Totals, Refusal> {
+    let mut totals = [0; 4];
+    // SAFETY: as in `apply`; only `totals` is written.
+    let answer = unsafe { c::fantanolive_totals(batch.as_ptr(), batch.len(), totals.as_mut_ptr()) };
+    done(answer)?;
+    let [tanf_count, non_tanf_count, tanf_amount, non_tanf_amount] = totals;
+    Ok(Totals {
+        tanf_count,
+        non_tanf_count,
+        tanf_amount,
+        non_tanf_amount,
+    })
 }
 
 /// Finds the row of a key, deleted or not, and answers its place, the first being 0.

@@ -50,7 +50,11 @@ fn batch(details: &[Vec<u8>]) -> Vec<u8> {
     let amounts: usize = details
         .iter()
         .filter(|d| d[72] == ebcdic("A")[0] || d[72] == ebcdic("M")[0])
-        .map(|d| d[64..72].iter().fold(0, |n, b| n * 10 + usize::from(b - 0xF0)))
+        .map(|d| {
+            d[64..72]
+                .iter()
+                .fold(0, |n, b| n * 10 + usize::from(b - 0xF0))
+        })
         .sum();
     let totals = format!("{:09}{:09}{:011}{:011}", 0, details.len(), 0, amounts);
     let mut batch = details.concat();
@@ -70,7 +74,8 @@ fn journaled(rows: &[Vec<u8>], details: &[Vec<u8>]) -> (Vec<u8>, usize, Vec<u8>)
     let sent = batch(details);
     let mut master = with_space(rows, details.len());
     let mut plain = master.clone();
-    let (mut verdicts, mut plain_verdicts) = (vec![7; details.len() + 1], vec![7; details.len() + 1]);
+    let (mut verdicts, mut plain_verdicts) =
+        (vec![7; details.len() + 1], vec![7; details.len() + 1]);
     let mut rejects = vec![0xBB; (details.len() + 2) * RECORD];
     let mut plain_rejects = rejects.clone();
     let mut journal = vec![0xCC; journal_size(details.len()) + 3];
@@ -105,7 +110,10 @@ fn journaled(rows: &[Vec<u8>], details: &[Vec<u8>]) -> (Vec<u8>, usize, Vec<u8>)
 fn journal_of(rows: &[Vec<u8>], details: &[Vec<u8>]) -> Vec<u8> {
     let (left, count, journal) = journaled(rows, details);
     let mut master = left.clone();
-    assert_eq!(take_back(&mut master, count, &journal), Ok(rows.len() as u64));
+    assert_eq!(
+        take_back(&mut master, count, &journal),
+        Ok(rows.len() as u64)
+    );
     let end = rows.len() * ROW;
     assert_eq!(master[..end], rows.concat());
     assert_eq!(master[end..], left[end..]);
@@ -137,7 +145,11 @@ fn counts_in_groups_of_seven_bits() {
                 .map(|i| row(100_010_000 + 10_000 * (i / 9_999) + 1 + i % 9_999, 25))
                 .collect()
         };
-        assert_eq!(journal_of(&rows, &[]), [bytes, bytes].concat(), "{count} rows");
+        assert_eq!(
+            journal_of(&rows, &[]),
+            [bytes, bytes].concat(),
+            "{count} rows"
+        );
     }
 }
 
@@ -181,7 +193,10 @@ fn new_and_changed_rows() {
     let gone = [detail("A", 123_456_002, 40), detail("D", 123_456_002, 0)];
     assert_eq!(journal_of(&rows, &gone), [2, 3, 1, 0]);
     let changed = [detail("M", 123_456_003, 26)];
-    assert_eq!(journal_of(&rows, &changed), [vec![2, 2, 1, 1], third.clone()].concat());
+    assert_eq!(
+        journal_of(&rows, &changed),
+        [vec![2, 2, 1, 1], third.clone()].concat()
+    );
     let dead = deleted(123_456_003);
     let live = [detail("A", 123_456_003, 50)];
     assert_eq!(
@@ -244,7 +259,11 @@ fn wrong(master: &[u8], rows: usize, journal: &[u8]) {
 
 #[test]
 fn refusal_26_for_each_cause() {
-    let (first, second, third) = (row(123_456_001, 25), row(123_456_002, 40), row(123_456_003, 25));
+    let (first, second, third) = (
+        row(123_456_001, 25),
+        row(123_456_002, 40),
+        row(123_456_003, 25),
+    );
     let master = [first.clone(), second.clone(), third.clone()].concat();
     let taken = |journal: &[u8]| take_back(&mut master.clone(), 3, journal);
     // the byte form
@@ -263,7 +282,13 @@ fn refusal_26_for_each_cause() {
     wrong(&master, 3, &changed[..203]);
     wrong(&master, 3, &[changed.clone(), vec![0]].concat());
     // numbers of many groups
-    wrong(&master, 3, &[3, 0x83, 0x80, 0x80, 0x80, 0x80, 0x80, 0x80, 0x80, 0x80, 0x80, 0x01]);
+    wrong(
+        &master,
+        3,
+        &[
+            3, 0x83, 0x80, 0x80, 0x80, 0x80, 0x80, 0x80, 0x80, 0x80, 0x80, 0x01,
+        ],
+    );
     wrong(&master, 3, &[[0xFF; 300].to_vec(), vec![0x01, 3]].concat());
     // it doesn't fit
     wrong(&master, 3, &[2, 2]);
@@ -279,7 +304,11 @@ fn refusal_26_for_each_cause() {
     // what is left
     wrong(&master, 3, &[vec![3, 3, 1, 1], vec![0x40; ROW]].concat());
     wrong(&master, 3, &[vec![3, 3, 1, 1], first.clone()].concat());
-    wrong(&master, 3, &[vec![3, 3, 1, 1], row(123_456_004, 25)].concat());
+    wrong(
+        &master,
+        3,
+        &[vec![3, 3, 1, 1], row(123_456_004, 25)].concat(),
+    );
     // an old row may have another key where the order stays
     let other = [vec![3, 3, 2, 1], row(123_456_009, 25)].concat();
     assert_eq!(taken(&other), Ok(3));
@@ -290,7 +319,10 @@ fn refusals_3_and_4_come_first() {
     let mut master = [row(123_456_002, 25), row(123_456_001, 25)].concat();
     assert_eq!(take_back(&mut master, 2, &[]), Err(Refusal::UnsoundRow));
     assert_eq!(take_back(&mut master, 3, &[]), Err(Refusal::WrongMaster));
-    assert_eq!(take_back(&mut master[..399], 1, &[]), Err(Refusal::WrongMaster));
+    assert_eq!(
+        take_back(&mut master[..399], 1, &[]),
+        Err(Refusal::WrongMaster)
+    );
 }
 
 #[test]
@@ -330,7 +362,11 @@ fn every_prefix_and_every_bit() {
         match take_back(&mut master, count, &damaged) {
             Ok(after) => {
                 let key = master[..12].to_vec();
-                assert_eq!(find(&master, after as usize, &key), Ok(0), "bit {bit} leaves an unsound master");
+                assert_eq!(
+                    find(&master, after as usize, &key),
+                    Ok(0),
+                    "bit {bit} leaves an unsound master"
+                );
             }
             Err(refusal) => {
                 assert_eq!(refusal, Refusal::WrongJournal, "bit {bit}");

@@ -1,2 +1,4 @@
 pub mod OutcomeLaws
 pub mod TwoBatchesProof
+pub mod PartsLaws
+pub mod SeveralProof

@@ -35,7 +35,7 @@ module _ (c : Call) (o : Outcome) (i : IsOutcome c o) (t : isCarriedOut (o .resu
   start-fit : Fit (startRows c)
   start-fit = record { wide = blocks-wide 200 (c .rows) (c .master) (facts .rows-in); sound = facts .sound }
 
-  records : All IsRecord (detailsOf (c .batch))
+  pub records : All IsRecord (detailsOf (c .batch))
   unfolding detailsOf
   records = blocks-wide 245 (detailCount (c .batch)) (c .batch) (omega (arith, facts .batch-whole))
 
@@ -44,15 +44,15 @@ module _ (c : Call) (o : Outcome) (i : IsOutcome c o) (t : isCarriedOut (o .resu
 
   -- ---- what is read off its outcome
 
-  count-read : rowCount (o .result) ≡ length (callRows c)
+  pub count-read : rowCount (o .result) ≡ length (callRows c)
   unfolding carriedOut
   count-read = ap (λ (q : Outcome). rowCount (q .result)) (carried-is c o i t)
 
-  rows-read : rowsLeft o ≡ callRows c
+  pub rows-read : rowsLeft o ≡ callRows c
   unfolding carriedOut
   rows-read = ap rowsLeft (carried-is c o i t) ∙ rows-over (callRows c) (c .master) (end-fit .wide)
 
-  verdicts-read : verdictsLeft c o ≡ callVerdicts c
+  pub verdicts-read : verdictsLeft c o ≡ callVerdicts c
   unfolding carriedOut detailsOf
   verdicts-read =
       ap (verdictsLeft c) (carried-is c o i t)

@@ -1,1 +1,2 @@
 pub mod TwoBatches
+pub mod Several

@@ -4,3 +4,4 @@ pub mod ContactsCallsLaws
 pub mod PostingCallsLaws
 pub mod JournalCallsLaws
 pub mod LookupCallsLaws
+pub mod TotallingCallsLaws

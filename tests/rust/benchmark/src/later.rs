@@ -2,6 +2,7 @@
 
 use crate::journal;
 use crate::many;
+use crate::totals;
 
 /// What a request measures, as lines to print.
 type Measured = fn(repetitions: usize) -> Vec<String>;
@@ -10,6 +11,7 @@ const REQUESTS: &[Measured] = &[
     // A line each.
     journal::measured,
     many::measured,
+    totals::measured,
 ];
 
 pub fn measured(repetitions: usize) -> Vec<Vec<String>> {

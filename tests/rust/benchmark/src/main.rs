@@ -14,6 +14,7 @@ mod later;
 mod many;
 mod once;
 mod posting;
+mod totals;
 
 use std::hint::black_box;
 use std::time::{Duration, Instant, SystemTime, UNIX_EPOCH};

@@ -12,6 +12,7 @@ use crate::convert::BYTES;
 use crate::input::{adds, changes, falling, lookup, renames, scattered, Input, MOST, STATE};
 use crate::journal;
 use crate::many;
+use crate::totals;
 use crate::{run, Buffers};
 
 /// As many contacts as there are states and codes.
@@ -50,6 +51,7 @@ pub fn once(case: &str, engine: &str) {
         "take-back-19660-adds" => journal::once_take_back(&adds(case, 45_875, 19_660, false)),
         "find-10-keys" => many::once(10),
         "find-65535-keys" => many::once(MOST),
+        "totals" => totals::once(),
         "100-changes" => apply(&changes(case, MOST, 100), speed),
         "65535-changes" => apply(&changes(case, MOST, MOST), speed),
         "32768-changes" => apply(&changes(case, 32_768, 32_768), speed),

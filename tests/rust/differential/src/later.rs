@@ -8,6 +8,7 @@ use generator::rng::{mix, Rng};
 
 use crate::run::journal;
 use crate::run::many;
+use crate::run::several;
 use crate::SHOWN;
 
 const RUNS: &[Run] = &[
@@ -15,6 +16,8 @@ const RUNS: &[Run] = &[
     journal::TAKE_BACK,
     journal::THERE_AND_BACK,
     many::FIND_MANY,
+    several::SEVERAL,
+    several::TOTALS,
 ];
 
 pub struct Run {

@@ -4,6 +4,7 @@ mod contacts;
 pub mod journal;
 pub mod many;
 mod posting;
+pub mod several;
 
 use generator::text::shown;
 use generator::{ApplyCase, Case, ConvertCase, Direction, FindCase, ReconcileCase};

@@ -87,7 +87,7 @@ pub fn apply_only(seed: u64) -> ApplyCase {
     apply_case(&mut Rng::new(seed))
 }
 
-fn size(rng: &mut Rng) -> usize {
+pub fn size(rng: &mut Rng) -> usize {
     match rng.below(40) {
         0..=2 => 0,
         3..=23 => rng.between(1, 6),
@@ -107,7 +107,7 @@ fn spare(rng: &mut Rng, much: usize) -> usize {
 }
 
 /// A details that no row at entry has the key of, every one counted.
-fn added(details: &[Record], world: &World) -> usize {
+pub fn added(details: &[Record], world: &World) -> usize {
     let keys: BTreeSet<_> = world.known.iter().map(|known| known.key).collect();
     details
         .iter()

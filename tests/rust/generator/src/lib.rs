@@ -11,6 +11,7 @@ pub mod posting;
 pub mod records;
 pub mod rng;
 pub mod rows;
+pub mod several;
 pub mod text;
 pub mod wild;
 pub mod world;

@@ -423,6 +423,13 @@ pub fn totals(details: &[Record]) -> [u64; 4] {
     totals
 }
 
+/// Details with their control record.
+pub fn batch(state: [u8; 2], details: &[Record]) -> Vec<u8> {
+    let mut batch = details.concat();
+    batch.extend_from_slice(&control(state, totals(details)));
+    batch
+}
+
 /// A control record; a total too wide for its field loses its higher digits.
 pub fn control(state: [u8; 2], totals: [u64; 4]) -> Record {
     let mut record = [SPACE; RECORD];

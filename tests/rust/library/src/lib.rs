@@ -3,9 +3,11 @@
 
 mod journal;
 mod many;
+mod totals;
 
 pub use journal::{apply_journaled, take_back};
 pub use many::find_many;
+pub use totals::totals;
 
 extern "C" {
     fn fantanolive_apply(

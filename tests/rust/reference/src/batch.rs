@@ -73,7 +73,7 @@ fn of_case_type(record: &[u8], case_type: u8) -> bool {
 }
 
 /// The number of records of a case type.
-fn count(details: &[&[u8]], case_type: u8) -> u64 {
+pub fn count(details: &[&[u8]], case_type: u8) -> u64 {
     details
         .iter()
         .filter(|record| of_case_type(record, case_type))
@@ -81,7 +81,7 @@ fn count(details: &[&[u8]], case_type: u8) -> u64 {
 }
 
 /// "Amounts sum columns 65–72 of A and M records where they are eight digits."
-fn amount(details: &[&[u8]], case_type: u8) -> u64 {
+pub fn amount(details: &[&[u8]], case_type: u8) -> u64 {
     details
         .iter()
         .filter(|record| of_case_type(record, case_type) && is_type(record, b"AM"))

@@ -14,6 +14,7 @@ pub mod many;
 pub mod posting;
 pub mod row;
 pub mod text;
+pub mod totals;
 
 pub use batch::{apply, Counts};
 pub use code_page::{to_ascii, to_ebcdic};
@@ -21,6 +22,7 @@ pub use journal::{apply_journaled, take_back};
 pub use lookup::{find, reconcile};
 pub use many::find_many;
 pub use posting::{add_cents, post};
+pub use totals::totals;
 
 #[cfg(test)]
 mod tests;

@@ -7,6 +7,8 @@ mod journal;
 mod many;
 mod names;
 mod posting;
+mod several;
+mod totals;
 
 use crate::batch::{apply, Counts, RECORD};
 use crate::errors::{Names, Surroundings};

@@ -1,0 +1,2 @@
+pub mod DetailTotalsLaws
+pub mod TheoremProof

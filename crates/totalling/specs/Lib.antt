@@ -1,0 +1,2 @@
+pub mod DetailTotals
+pub mod Theorem

@@ -1,0 +1,44 @@
+// The totals that the details of a batch give, whatever its last record says.
+use control::totals;
+use layout::limits::MAX_RECORDS;
+use layout::records::RECORD_WIDTH;
+ghost use mathlib.Core.Path.{_≡_};
+ghost use Rattle.layout.specs.Limits.{maxRows};
+ghost use Rattle.control.specs.Refusals.{refusal5};
+ghost use Rattle.totalling.specs.DetailTotals.{totalledAs, totalsResult};
+
+// The answer of the call: the two counts and the two amounts, or the number of the refusal.
+pub enum Totalled {
+    Done {
+        tanf_count: u64,
+        non_tanf_count: u64,
+        tanf_amount: u64,
+        non_tanf_amount: u64,
+    },
+    Refused(u64),
+}
+
+// Refusal 5: a batch that is empty, no multiple of a record's width, or of too many records.
+fn is_wrong_length(batch: &[u8]) -> bool
+    ensures { λ r. ⌜ r ≡ refusal5 maxRows (now (batch .entry)) ⌝ }
+{
+    let n = batch.len();
+    (n == 0) | (n % RECORD_WIDTH != 0) | (MAX_RECORDS < n / RECORD_WIDTH)
+}
+
+// The counts and amounts of a batch's details, under each case type.
+pub fn total(batch: &[u8]) -> Totalled
+    ensures { λ r. ⌜ totalledAs r ≡ totalsResult maxRows (now (batch .entry)) ⌝ }
+{
+    if is_wrong_length(batch) {
+        return Totalled::Refused(5);
+    }
+    let details = batch.len() / RECORD_WIDTH - 1;
+    let t = totals::totals_of(batch, details);
+    Totalled::Done {
+        tanf_count: t.tanf_count,
+        non_tanf_count: t.non_tanf_count,
+        tanf_amount: t.tanf_amount,
+        non_tanf_amount: t.non_tanf_amount,
+    }
+}
