@@ -1,6 +1,6 @@
 /* fantanolive.h: the C interface of the Fantanolive library, libfantanolive.a and libfantanolive.so.
  *
- * The library keeps a state's copy of the federal offset case master. It has thirteen calls:
+ * The library keeps a state's copy of the federal offset case master. It has fourteen calls:
  *
  *     fantanolive_apply            applies a submission batch to a master
  *     fantanolive_apply_journaled  the same, with a journal of what the batch changes
@@ -15,6 +15,7 @@
  *     fantanolive_to_ascii         turns a file from EBCDIC into ASCII
  *     fantanolive_contacts_update  reads a contact file into a table of contact records
  *     fantanolive_contacts_codes   writes the local codes of a state in such a table
+ *     fantanolive_records_to       writes the records that lead from a case's row to a wanted row
  *
  * What the words here mean (row, record, detail, key, sound, code, faulty) and which columns the fields have is said in
  * the manual, MANUAL.md, and in documents 01 and 02 and their charts. Columns count from 1: column 1 is byte 0.
@@ -22,7 +23,7 @@
  * Bytes. All text is EBCDIC: letters C1-C9, D1-D9, E2-E9, digits F0-F9, space 40, hyphen 60, comma 6B (hexadecimal).
  * A batch typed in ASCII is turned into EBCDIC by fantanolive_to_ebcdic first; the other calls convert nothing.
  *
- * Answers. Each call answers 0 (FANTANOLIVE_DONE) when it was carried out, else the number of a refusal, 1 to 28. A
+ * Answers. Each call answers 0 (FANTANOLIVE_DONE) when it was carried out, else the number of a refusal, 1 to 30. A
  * call answers the first refusal that holds, in the order that is given with it. On a refusal nothing at all is
  * written: no byte of any buffer, and no number of the result but the place that goes with refusal 16.
  * fantanolive_text.h has the refusals and the codes of a verdict in words.
@@ -104,6 +105,7 @@ extern "C" {
  *   faulty of fantanolive_contacts_update:  one number per record of the file; fewer are refused (19)
  *   out of fantanolive_contacts_codes:      FANTANOLIVE_CODES_SIZE(count) bytes
  *   lines of fantanolive_post:              one number per line of the file; fewer are refused (24)
+ *   out of fantanolive_records_to:          FANTANOLIVE_RECORDS_SIZE bytes, four records; fewer are refused (30)
  * The details of a batch are its records less one: batch_length / FANTANOLIVE_RECORD - 1. */
 #define FANTANOLIVE_MASTER_SIZE(rows) ((size_t)FANTANOLIVE_ROW * (size_t)(rows))
 #define FANTANOLIVE_REJECTS_SIZE(details) ((size_t)FANTANOLIVE_RECORD * ((size_t)(details) + 1))
@@ -111,6 +113,7 @@ extern "C" {
 #define FANTANOLIVE_OUT_SIZE(rows) ((size_t)FANTANOLIVE_RECORD * ((size_t)(rows) + 1))
 #define FANTANOLIVE_TABLE_SIZE(records) ((size_t)FANTANOLIVE_CONTACT * (size_t)(records))
 #define FANTANOLIVE_CODES_SIZE(records) ((size_t)FANTANOLIVE_LOCAL_CODE * (size_t)(records))
+#define FANTANOLIVE_RECORDS_SIZE 980
 
 /* The numbers of fantanolive_apply's result, by their index. */
 #define FANTANOLIVE_ACCEPTED 0 /* details of case type A or N without an error, warned ones included */
@@ -168,6 +171,8 @@ extern "C" {
 #define FANTANOLIVE_WRONG_JOURNAL 26  /* no journal, or not one of this master, or what it would leave is not sound */
 #define FANTANOLIVE_WRONG_KEYS 27     /* list of keys not made of sound keys, twelve bytes each, strictly rising */
 #define FANTANOLIVE_SHORT_PLACES 28   /* answer list shorter than the keys */
+#define FANTANOLIVE_NO_RECORDS 29     /* no list of C, L, R and M records leads from the row to the wanted row */
+#define FANTANOLIVE_SHORT_RECORDS 30  /* output of records below 980 bytes */
 
 /* A verdict is a number of 64 bits: the sum of 2 to the power c over the codes c that the detail got. Errors are the
  * codes 1 to 18, warnings 51 and 52; a verdict of 0 has none. A detail with an error is rejected and changes nothing.
@@ -530,6 +535,47 @@ uint64_t fantanolive_contacts_codes(
     const uint8_t *state, size_t state_length,
     uint8_t *out, size_t out_length,
     uint64_t *codes);
+
+/* fantanolive_records_to: writes the records that lead from a case's row to the row that it is wanted to be.
+ *
+ * They are C (case ID, columns 15-29), L (local code, 3-5), R (exclusions, 188-227) and M (arrearage, 65-72), in this
+ * order, each only if its field differs, M also where the cents differ. A record has the row's key (columns 1-2, 6-14 and
+ * 74), its type (73), the row's last name (30-49) and that field, and is blank elsewhere. Code 000 is sent as 000. The
+ * exclusions of the wanted set stand in the order ADM RET VEN SAL TAX PAS FIN DCK, parted by commas; an empty set is blank.
+ *
+ * A batch of these records alone, with a control record of the row's state, that fantanolive_apply carries out with the
+ * same list, in whatever year, on a master that holds the row, leaves the wanted row in its place, and no verdict has an
+ * error.
+ *
+ * row, row_length         The row as it is: 200 bytes. The length is in bytes.
+ * wanted, wanted_length   The row as it is wanted: 200 bytes. The length is in bytes.
+ * locals, locals_length   The list of local codes: three digits each, strictly rising, nothing between them. The length is
+ *                         in bytes; 0 for an empty list.
+ * out, out_length         Where the records go, 245 bytes each. The length is in bytes, at least 980
+ *                         (FANTANOLIVE_RECORDS_SIZE), however few records come.
+ * records                 Where the number of records goes.
+ *
+ * Returns, in the order of checking:
+ *   2   FANTANOLIVE_WRONG_LOCALS    locals not made of three-digit codes, three bytes each, strictly rising
+ *   4   FANTANOLIVE_UNSOUND_ROW     row_length not 200, or the row not sound; then the same of the wanted row
+ *   29  FANTANOLIVE_NO_RECORDS      no list of C, L, R and M records of the row's key leads there without an error, the empty
+ *                                   list counted. So it is where the rows differ and: the row is deleted; or a byte differs
+ *                                   outside case ID, local code, exclusions, arrearage, status and cents (columns 13-30,
+ *                                   66-73 and 195-198); or the case ID differs and is wanted blank; or the local code
+ *                                   differs and is neither 000 nor listed; or the set differs and has ADM without all of
+ *                                   RET, VEN and SAL; or dollars or cents differ and cents other than 00 are wanted
+ *   30  FANTANOLIVE_SHORT_RECORDS   out_length below 980
+ *   0   FANTANOLIVE_DONE            carried out
+ *
+ * Written when carried out: the records at the front of out; *records, how many they are, 0 to 4 (0 where the rows are the
+ * same).
+ * Kept: the bytes of out behind the records; all else. */
+uint64_t fantanolive_records_to(
+    const uint8_t *row, size_t row_length,
+    const uint8_t *wanted, size_t wanted_length,
+    const uint8_t *locals, size_t locals_length,
+    uint8_t *out, size_t out_length,
+    uint64_t *records);
 
 #ifdef __cplusplus
 }

@@ -30,7 +30,7 @@ static const struct fantanolive_text fantanolive_refusal_texts[] = {
      "give the current calendar year in four digits"},
     {2,
      "list of local codes not made of three-digit codes, three bytes each, strictly rising",
-     "apply: the list of local codes",
+     "apply, records_to: the list of local codes",
      "write each code as three EBCDIC digits with nothing between them or behind them, lowest first, none twice; an empty list is allowed"},
     {3,
      "master length no multiple of 200, or row count above length / 200 or above 65,535",
@@ -38,7 +38,7 @@ static const struct fantanolive_text fantanolive_refusal_texts[] = {
      "check that the file is a master and was copied whole, byte by byte; a row has 200 bytes and no line end, a master at most 65,535 rows"},
     {4,
      "a row that is not sound, or rows not in strictly rising order of key",
-     "apply, take_back, find, find_many, reconcile, add_cents, post: a row's columns 1-12 (key), 13-15, 31-34, 66-73, 79-90 or 196-200, or the order of the rows",
+     "apply, take_back, find, find_many, reconcile, add_cents, post: a row's columns 1-12 (key), 13-15, 31-34, 66-73, 79-90 or 196-200, or the order of the rows; records_to: these columns of the row, then of the wanted row, or a row not of 200 bytes",
      "take the last good copy of the master; if columns 197-200 are spaces in every row, run add_cents once (add_cents takes only such a master and refuses one that has its cents)"},
     {5,
      "batch empty, its length no multiple of 245, or over 65,536 records",
@@ -136,6 +136,14 @@ static const struct fantanolive_text fantanolive_refusal_texts[] = {
      "answer list shorter than the keys",
      "find_many: the length of the answer list, counted in numbers",
      "lend one 32-bit number for each key"},
+    {29,
+     "no list of C, L, R and M records leads from the row to the wanted row",
+     "records_to: the row deleted, or what is wanted in a column other than 13-30, 66-73 and 195-198, in 13-15 (code), 16-30 (case ID), 195 (exclusions) or 197-198 (cents)",
+     "want the changes alone that such records can make: a case ID that isn't blank, a local code 000 or listed, ADM with RET, VEN and SAL, 00 cents where the balance changes; names, address and the rest go by A, B, S, T or Z"},
+    {30,
+     "output for the records below 980 bytes",
+     "records_to: the length of the output",
+     "lend 980 bytes, space for four records, however few come"},
 };
 
 /* The codes, in rising order of number. */

@@ -17,6 +17,7 @@ LOCAL_CODE = 3
 MAX_ROWS = 65535
 MAX_RECORDS = 65536
 MAX_CONTACTS = 65535
+RECORDS_SIZE = 980
 ACCEPTED = 0
 REJECTED = 1
 WARNED = 2
@@ -63,6 +64,8 @@ SHORT_JOURNAL = 25
 WRONG_JOURNAL = 26
 WRONG_KEYS = 27
 SHORT_PLACES = 28
+NO_RECORDS = 29
+SHORT_RECORDS = 30
 
 # A number's words: what is wrong, where, how to mend it.
 REFUSAL_TEXTS = {
@@ -73,7 +76,7 @@ REFUSAL_TEXTS = {
     ),
     2: (
         'list of local codes not made of three-digit codes, three bytes each, strictly rising',
-        'apply: the list of local codes',
+        'apply, records_to: the list of local codes',
         'write each code as three EBCDIC digits with nothing between them or behind them, lowest first, none twice; an empty list is allowed',
     ),
     3: (
@@ -83,7 +86,7 @@ REFUSAL_TEXTS = {
     ),
     4: (
         'a row that is not sound, or rows not in strictly rising order of key',
-        "apply, take_back, find, find_many, reconcile, add_cents, post: a row's columns 1-12 (key), 13-15, 31-34, 66-73, 79-90 or 196-200, or the order of the rows",
+        "apply, take_back, find, find_many, reconcile, add_cents, post: a row's columns 1-12 (key), 13-15, 31-34, 66-73, 79-90 or 196-200, or the order of the rows; records_to: these columns of the row, then of the wanted row, or a row not of 200 bytes",
         'take the last good copy of the master; if columns 197-200 are spaces in every row, run add_cents once (add_cents takes only such a master and refuses one that has its cents)',
     ),
     5: (
@@ -205,6 +208,16 @@ REFUSAL_TEXTS = {
         'answer list shorter than the keys',
         'find_many: the length of the answer list, counted in numbers',
         'lend one 32-bit number for each key',
+    ),
+    29: (
+        'no list of C, L, R and M records leads from the row to the wanted row',
+        'records_to: the row deleted, or what is wanted in a column other than 13-30, 66-73 and 195-198, in 13-15 (code), 16-30 (case ID), 195 (exclusions) or 197-198 (cents)',
+        "want the changes alone that such records can make: a case ID that isn't blank, a local code 000 or listed, ADM with RET, VEN and SAL, 00 cents where the balance changes; names, address and the rest go by A, B, S, T or Z",
+    ),
+    30: (
+        'output for the records below 980 bytes',
+        'records_to: the length of the output',
+        'lend 980 bytes, space for four records, however few come',
     ),
 }
 

@@ -31,6 +31,7 @@ CALLS = {
     "to_ascii": BUFFER + BUFFER + RESULT,
     "contacts_update": BUFFER + COUNT + BUFFER + BUFFER + RESULT,
     "contacts_codes": BUFFER + COUNT + BUFFER + BUFFER + RESULT,
+    "records_to": BUFFER + BUFFER + BUFFER + BUFFER + RESULT,
 }
 
 

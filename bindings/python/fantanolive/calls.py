@@ -142,6 +142,17 @@ def contacts_codes(table, count, state, out):
     return codes.value
 
 
+def records_to(row, wanted, locals, out):
+    """Writes the C, L, R and M records that lead from a row to a wanted row. Returns how many they are."""
+    records = ctypes.c_uint64()
+    with Call("records_to") as call:
+        call.run(
+            *call.read("row", row), *call.read("wanted", wanted), *call.read("locals", locals), *call.write("out", out),
+            ctypes.byref(records),
+        )
+    return records.value
+
+
 def _convert(name, file, out):
     place = ctypes.c_uint64()
     with Call(name) as call:

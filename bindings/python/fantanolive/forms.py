@@ -130,6 +130,13 @@ class _Lent:
         return Applied(master, _front(self.rejects, _header.RECORD * (rejected + 1)), self.verdicts, counts)
 
 
+def records_to(row, wanted, locals):
+    """The C, L, R and M records that lead from a row to a wanted row, one behind the other."""
+    out = bytearray(_header.RECORDS_SIZE)
+    records = calls.records_to(row, wanted, locals, out)
+    return _front(out, _header.RECORD * records)
+
+
 def _count(name, buffer, width):
     """How many whole blocks of a width a buffer has; a rest is left to the call to refuse."""
     with view_of(name, buffer) as view:

@@ -98,6 +98,13 @@ class Carried(unittest.TestCase):
         self.assertEqual(calls.contacts_codes(table, 3, ebcdic("OH"), out), 2)
         self.assertEqual(bytes(out), ebcdic("001002") + b"\xee" * 3)
 
+    def test_records_to(self):
+        out = bytearray(b"\xee" * 981)
+        self.assertEqual(calls.records_to(row(), row(dollars=30), b"", out), 1)
+        self.assertEqual(bytes(out), detail("SMITH", 30, "M") + b"\xee" * 736)
+        self.assertEqual(calls.records_to(row(), row(dollars=0, end="D00  "), b"", out), 1)
+        self.assertEqual(bytes(out), detail("SMITH", 0, "M") + b"\xee" * 736)
+
     def test_empty_buffers(self):
         self.assertEqual(
             calls.apply(bytearray(), 0, control(0, 0), b"", 2007, array.array("Q"), bytearray(245)), (0, 0, 0, 0, 0)
@@ -267,6 +274,19 @@ class Refusals(unittest.TestCase):
         ]
         for number, changed in refused:
             self.refused(calls.contacts_codes, good, number, **changed)
+
+    def test_records_to(self):
+        def good():
+            return {"row": row(), "wanted": row(dollars=30), "locals": b"", "out": bytearray(b"\xee" * 980)}
+
+        self.assertEqual(calls.records_to(**good()), 1)
+        refused = [
+            (2, {"locals": ebcdic("01")}), (4, {"row": row()[:-1]}), (4, {"row": bytes(200)}), (4, {"wanted": row() + b"\0"}),
+            (4, {"wanted": row(end="D00  ")}), (29, {"wanted": row("123456780")}), (29, {"wanted": row(end=" 01  ")}),
+            (29, {"row": row(dollars=0, end="D00  ")}), (30, {"out": bytearray(b"\xee" * 979)}),
+        ]
+        for number, changed in refused:
+            self.refused(calls.records_to, good, number, **changed)
 
 
 if __name__ == "__main__":

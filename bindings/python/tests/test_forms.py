@@ -81,6 +81,13 @@ class Forms(unittest.TestCase):
         self.assertEqual(self.refusal(fantanolive.contacts_update, b"", bytes(219)), 18)
         self.assertEqual(self.refusal(fantanolive.contacts_codes, updated.table, b""), 12)
 
+    def test_records_to(self):
+        records = fantanolive.records_to(row(), row(dollars=30), b"")
+        self.assertEqual(records, detail("SMITH", 30, "M"))
+        self.assertEqual(fantanolive.apply(row(), records + control(1, 30), b"", 2007).master, row(dollars=30))
+        self.assertEqual(fantanolive.records_to(row(), row(), b""), b"")
+        self.assertEqual(self.refusal(fantanolive.records_to, row(), row("123456780"), b""), 29)
+
     def test_other_than_bytes_like(self):
         for wrong in ("OH123456789N", 12, None, [1, 2]):
             self.assertRaises(TypeError, fantanolive.find, row(), wrong)

@@ -129,4 +129,16 @@ extern "C" {
         out_length: usize,
         codes: *mut u64,
     ) -> u64;
+
+    pub fn fantanolive_records_to(
+        row: *const u8,
+        row_length: usize,
+        wanted: *const u8,
+        wanted_length: usize,
+        locals: *const u8,
+        locals_length: usize,
+        out: *mut u8,
+        out_length: usize,
+        records: *mut u64,
+    ) -> u64;
 }

@@ -437,3 +437,38 @@ pub fn contacts_codes(
     done(answer)?;
     Ok(codes)
 }
+
+/// Writes the C, L, R and M records, in this order, that lead from a row to a wanted row, and answers how many they are, 0 to
+/// 4.
+///
+/// `row` and `wanted` have 200 bytes; `locals` is the list of local codes. `out` takes 245 bytes per record and has at least
+/// [`crate::RECORDS`] bytes; those behind the records are kept. A batch of these records alone, under a control record of the
+/// row's state, that [`apply`] carries out with the same list on a master that holds the row leaves the wanted row.
+///
+/// # Errors
+///
+/// Refusals 2, 4 (over the row, then over the wanted row), 29 and 30, the first that holds; `out` is then as before.
+pub fn records_to(
+    row: &[u8],
+    wanted: &[u8],
+    locals: &[u8],
+    out: &mut [u8],
+) -> Result<u64, Refusal> {
+    let mut records = 0;
+    // SAFETY: as in `apply`; only `out` and `records` are written.
+    let answer = unsafe {
+        c::fantanolive_records_to(
+            row.as_ptr(),
+            row.len(),
+            wanted.as_ptr(),
+            wanted.len(),
+            locals.as_ptr(),
+            locals.len(),
+            out.as_mut_ptr(),
+            out.len(),
+            &mut records,
+        )
+    };
+    done(answer)?;
+    Ok(records)
+}

@@ -65,11 +65,15 @@ pub enum Refusal {
     WrongKeys = 27,
     /// Answer list shorter than the keys.
     ShortPlaces = 28,
+    /// No list of C, L, R and M records leads from the row to the wanted row.
+    NoRecords = 29,
+    /// Output of records below 980 bytes.
+    ShortRecords = 30,
 }
 
 impl Refusal {
     /// Every refusal, in rising order of number.
-    pub const ALL: [Refusal; 28] = [
+    pub const ALL: [Refusal; 30] = [
         Refusal::WrongYear,
         Refusal::WrongLocals,
         Refusal::WrongMaster,
@@ -98,6 +102,8 @@ impl Refusal {
         Refusal::WrongJournal,
         Refusal::WrongKeys,
         Refusal::ShortPlaces,
+        Refusal::NoRecords,
+        Refusal::ShortRecords,
     ];
 
     /// The refusal's number in documents 01 and 02.

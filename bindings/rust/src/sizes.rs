@@ -4,6 +4,8 @@
 pub const ROW: usize = 200;
 /// Bytes of a record of a batch, a reject file and a reconciliation file.
 pub const RECORD: usize = 245;
+/// Bytes of the output of `records_to`: four records.
+pub const RECORDS: usize = 980;
 /// Bytes of a contact record, in a file and in a table.
 pub const CONTACT: usize = 220;
 /// Bytes of a record of a collection file.

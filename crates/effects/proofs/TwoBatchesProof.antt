@@ -32,7 +32,7 @@ module _ (c : Call) (o : Outcome) (i : IsOutcome c o) (t : isCarriedOut (o .resu
   facts : Known c
   facts = carried-known c o i t
 
-  start-fit : Fit (startRows c)
+  pub start-fit : Fit (startRows c)
   start-fit = record { wide = blocks-wide 200 (c .rows) (c .master) (facts .rows-in); sound = facts .sound }
 
   pub records : All IsRecord (detailsOf (c .batch))
@@ -80,10 +80,10 @@ module _ (c : Call) (o : Outcome) (i : IsOutcome c o) (t : isCarriedOut (o .resu
   left-by-machine = record { row = λ key k. row-by-machine key; verdicts = λ key k. verdicts-by-machine key }
 
   -- the rows are as many as the result says, and rise
-  count-left : rowCount (o .result) ≡ length (rowsLeft o)
+  pub count-left : rowCount (o .result) ≡ length (rowsLeft o)
   count-left = count-read ∙ ap length (sym rows-read)
 
-  left-rise : rising (keysOf (rowsLeft o)) ≡ true
+  pub left-rise : rising (keysOf (rowsLeft o)) ≡ true
   left-rise = subst (λ (rows : List (List ℕ)). rising (keysOf rows) ≡ true) (sym rows-read) (rows-rise (callRows c) (end-fit .sound))
 
   -- without details the starting row is the end; what has details is a key of twelve bytes

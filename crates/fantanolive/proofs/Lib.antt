@@ -5,3 +5,4 @@ pub mod PostingCallsLaws
 pub mod JournalCallsLaws
 pub mod LookupCallsLaws
 pub mod TotallingCallsLaws
+pub mod RecordsCallsLaws

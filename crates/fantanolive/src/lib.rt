@@ -5,6 +5,7 @@ pub mod contacts_calls;
 pub mod journal_calls;
 pub mod lookup_calls;
 pub mod posting_calls;
+pub mod records_calls;
 pub mod totalling_calls;
 
 use batch::apply;

@@ -8,6 +8,7 @@ use generator::rng::{mix, Rng};
 
 use crate::run::journal;
 use crate::run::many;
+use crate::run::records_to;
 use crate::run::several;
 use crate::SHOWN;
 
@@ -16,6 +17,7 @@ const RUNS: &[Run] = &[
     journal::TAKE_BACK,
     journal::THERE_AND_BACK,
     many::FIND_MANY,
+    records_to::RECORDS_TO,
     several::SEVERAL,
     several::TOTALS,
 ];

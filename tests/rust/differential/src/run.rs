@@ -4,6 +4,7 @@ mod contacts;
 pub mod journal;
 pub mod many;
 mod posting;
+pub mod records_to;
 pub mod several;
 
 use generator::text::shown;

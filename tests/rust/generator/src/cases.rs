@@ -240,7 +240,7 @@ fn wrong_year(rng: &mut Rng) -> u64 {
     }
 }
 
-fn damage_list(rng: &mut Rng, list: &mut Vec<u8>) {
+pub fn damage_list(rng: &mut Rng, list: &mut Vec<u8>) {
     let length = list.len();
     match rng.below(6) {
         0 => list.push(0xF9),

@@ -9,6 +9,7 @@ pub mod journal;
 pub mod many;
 pub mod posting;
 pub mod records;
+pub mod records_to;
 pub mod rng;
 pub mod rows;
 pub mod several;

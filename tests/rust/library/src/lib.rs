@@ -3,10 +3,12 @@
 
 mod journal;
 mod many;
+mod records_to;
 mod totals;
 
 pub use journal::{apply_journaled, take_back};
 pub use many::find_many;
+pub use records_to::records_to;
 pub use totals::totals;
 
 extern "C" {

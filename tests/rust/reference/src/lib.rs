@@ -12,6 +12,7 @@ pub mod lookup;
 pub mod machine;
 pub mod many;
 pub mod posting;
+pub mod records_to;
 pub mod row;
 pub mod text;
 pub mod totals;
@@ -22,6 +23,7 @@ pub use journal::{apply_journaled, take_back};
 pub use lookup::{find, reconcile};
 pub use many::find_many;
 pub use posting::{add_cents, post};
+pub use records_to::records_to;
 pub use totals::totals;
 
 #[cfg(test)]

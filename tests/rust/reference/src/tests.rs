@@ -7,6 +7,7 @@ mod journal;
 mod many;
 mod names;
 mod posting;
+mod records_to;
 mod several;
 mod totals;
 

@@ -1,0 +1,3 @@
+pub mod Leads
+pub mod Theorem
+pub mod WholeBatch
