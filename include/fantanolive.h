@@ -1,6 +1,6 @@
 /* fantanolive.h: the C interface of the Fantanolive library, libfantanolive.a and libfantanolive.so.
  *
- * The library keeps a state's copy of the federal offset case master. It has fourteen calls:
+ * The library keeps a state's copy of the federal offset case master. It has fifteen calls:
  *
  *     fantanolive_apply            applies a submission batch to a master
  *     fantanolive_apply_journaled  the same, with a journal of what the batch changes
@@ -9,6 +9,7 @@
  *     fantanolive_find             finds a case's row in a master
  *     fantanolive_find_many        finds the rows of many cases in one walk
  *     fantanolive_reconcile        writes the reconciliation file of a state
+ *     fantanolive_pages            prints the live cases of a master, page by page
  *     fantanolive_add_cents        gives a master whose rows have no cents 00 cents
  *     fantanolive_post             posts a weekly collection file to a master
  *     fantanolive_to_ebcdic        turns a file from ASCII into EBCDIC
@@ -23,7 +24,7 @@
  * Bytes. All text is EBCDIC: letters C1-C9, D1-D9, E2-E9, digits F0-F9, space 40, hyphen 60, comma 6B (hexadecimal).
  * A batch typed in ASCII is turned into EBCDIC by fantanolive_to_ebcdic first; the other calls convert nothing.
  *
- * Answers. Each call answers 0 (FANTANOLIVE_DONE) when it was carried out, else the number of a refusal, 1 to 30. A
+ * Answers. Each call answers 0 (FANTANOLIVE_DONE) when it was carried out, else the number of a refusal, 1 to 31. A
  * call answers the first refusal that holds, in the order that is given with it. On a refusal nothing at all is
  * written: no byte of any buffer, and no number of the result but the place that goes with refusal 16.
  * fantanolive_text.h has the refusals and the codes of a verdict in words.
@@ -41,8 +42,8 @@
  * overlap each other: a key may be a pointer into the master that it is looked for in.
  *
  * Threads. There is no global state. Calls may run at once in several threads, as long as no buffer that one of them
- * writes is read or written by another. Any number of fantanolive_find, fantanolive_find_many and fantanolive_reconcile
- * calls may read the same master at once.
+ * writes is read or written by another. Any number of fantanolive_find, fantanolive_find_many, fantanolive_reconcile and
+ * fantanolive_pages calls may read the same master at once.
  *
  * Stack. fantanolive_contacts_update takes some 270 kilobytes of stack, the other calls a few.
  *
@@ -82,6 +83,10 @@ extern "C" {
 /* Size in bytes of a record of a collection file. */
 #define FANTANOLIVE_LINE 240
 
+/* Size in bytes of a line of a case page, and how many lines for cases a full page has between its heading and its foot. */
+#define FANTANOLIVE_PAGE_LINE 132
+#define FANTANOLIVE_PAGE_CASES 58
+
 /* Sizes in bytes of a key (columns 1-12 of a row), a state, a date and a local code. */
 #define FANTANOLIVE_KEY 12
 #define FANTANOLIVE_STATE 2
@@ -101,6 +106,7 @@ extern "C" {
  *                                   FANTANOLIVE_MAX_ROWS rows
  *   places of fantanolive_find_many:  one number per key; fewer are refused (28)
  *   out of fantanolive_reconcile:   FANTANOLIVE_OUT_SIZE(rows) bytes
+ *   out of fantanolive_pages:       FANTANOLIVE_PAGES_SIZE(rows) bytes
  *   table of fantanolive_contacts_update:   FANTANOLIVE_TABLE_SIZE(count + records of the file) bytes
  *   faulty of fantanolive_contacts_update:  one number per record of the file; fewer are refused (19)
  *   out of fantanolive_contacts_codes:      FANTANOLIVE_CODES_SIZE(count) bytes
@@ -111,6 +117,8 @@ extern "C" {
 #define FANTANOLIVE_REJECTS_SIZE(details) ((size_t)FANTANOLIVE_RECORD * ((size_t)(details) + 1))
 #define FANTANOLIVE_JOURNAL_SIZE(details) ((size_t)12 + (size_t)204 * (size_t)(details))
 #define FANTANOLIVE_OUT_SIZE(rows) ((size_t)FANTANOLIVE_RECORD * ((size_t)(rows) + 1))
+#define FANTANOLIVE_PAGES(cases) (((size_t)(cases) + FANTANOLIVE_PAGE_CASES - 1) / FANTANOLIVE_PAGE_CASES)
+#define FANTANOLIVE_PAGES_SIZE(cases) ((size_t)FANTANOLIVE_PAGE_LINE * ((size_t)(cases) + 2 * FANTANOLIVE_PAGES(cases)))
 #define FANTANOLIVE_TABLE_SIZE(records) ((size_t)FANTANOLIVE_CONTACT * (size_t)(records))
 #define FANTANOLIVE_CODES_SIZE(records) ((size_t)FANTANOLIVE_LOCAL_CODE * (size_t)(records))
 #define FANTANOLIVE_RECORDS_SIZE 980
@@ -173,6 +181,7 @@ extern "C" {
 #define FANTANOLIVE_SHORT_PLACES 28   /* answer list shorter than the keys */
 #define FANTANOLIVE_NO_RECORDS 29     /* no list of C, L, R and M records leads from the row to the wanted row */
 #define FANTANOLIVE_SHORT_RECORDS 30  /* output of records below 980 bytes */
+#define FANTANOLIVE_SHORT_PAGES 31    /* buffer too short for the pages */
 
 /* A verdict is a number of 64 bits: the sum of 2 to the power c over the codes c that the detail got. Errors are the
  * codes 1 to 18, warnings 51 and 52; a verdict of 0 has none. A detail with an error is rejected and changes nothing.
@@ -392,6 +401,33 @@ uint64_t fantanolive_reconcile(
     const uint8_t *date, size_t date_length,
     uint8_t *out, size_t out_length,
     uint64_t *records);
+
+/* fantanolive_pages: prints the live cases of a master, whatever their state, in key order.
+ *
+ * A page is in EBCDIC and has lines of 132 columns, without line ends: a heading, 58 lines for cases (on the last page
+ * perhaps fewer, never none), and a foot. A case's line has the key in columns 1-12, the local code in 14-16, the last name
+ * in 18-37, the first name in 39-53, the arrearage (dollars) in 55-62, all as in the row, and in 64 the number of bits that
+ * are set in its exclusion set. The heading has CASES in 1-5 and the page's number in 7-11, the first being 00001; the foot
+ * TOTAL in 1-5 and the number of this page's cases in 7-10. All other columns are spaces.
+ *
+ * master, master_length   The rows, 200 bytes each; the length is in bytes and a multiple of 200.
+ * rows                    How many rows the master has, deleted ones included.
+ * out, out_length         Where the pages go. The length is in bytes, at least 132 x (live rows + 2 x pages).
+ * pages                   Where the number of pages goes.
+ *
+ * Returns, in the order of checking:
+ *   3   FANTANOLIVE_WRONG_MASTER    master_length no multiple of 200, or rows above master_length / 200 or 65,535
+ *   4   FANTANOLIVE_UNSOUND_ROW     one of the rows is not sound, or their keys do not strictly rise
+ *   31  FANTANOLIVE_SHORT_PAGES     out_length below 132 x (live rows + 2 x pages); without a live row an empty buffer does
+ *   0   FANTANOLIVE_DONE            carried out
+ *
+ * Written when carried out: the pages, one behind the other, 60 lines each but the last, which has two more than its cases;
+ * *pages, how many there are, 0 where no row is live.
+ * Kept: the bytes of out behind the pages; all else. */
+uint64_t fantanolive_pages(
+    const uint8_t *master, size_t master_length, size_t rows,
+    uint8_t *out, size_t out_length,
+    uint64_t *pages);
 
 /* fantanolive_add_cents: gives the rows of a master that have no cents yet 00 cents.
  *

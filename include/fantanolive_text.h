@@ -34,11 +34,11 @@ static const struct fantanolive_text fantanolive_refusal_texts[] = {
      "write each code as three EBCDIC digits with nothing between them or behind them, lowest first, none twice; an empty list is allowed"},
     {3,
      "master length no multiple of 200, or row count above length / 200 or above 65,535",
-     "apply, take_back, find, find_many, reconcile, add_cents, post: the master as a whole, and its row count",
+     "apply, take_back, find, find_many, reconcile, pages, add_cents, post: the master as a whole, and its row count",
      "check that the file is a master and was copied whole, byte by byte; a row has 200 bytes and no line end, a master at most 65,535 rows"},
     {4,
      "a row that is not sound, or rows not in strictly rising order of key",
-     "apply, take_back, find, find_many, reconcile, add_cents, post: a row's columns 1-12 (key), 13-15, 31-34, 66-73, 79-90 or 196-200, or the order of the rows; records_to: these columns of the row, then of the wanted row, or a row not of 200 bytes",
+     "apply, take_back, find, find_many, reconcile, pages, add_cents, post: a row's columns 1-12 (key), 13-15, 31-34, 66-73, 79-90 or 196-200, or the order of the rows; records_to: these columns of the row, then of the wanted row, or a row not of 200 bytes",
      "take the last good copy of the master; if columns 197-200 are spaces in every row, run add_cents once (add_cents takes only such a master and refuses one that has its cents)"},
     {5,
      "batch empty, its length no multiple of 245, or over 65,536 records",
@@ -144,6 +144,10 @@ static const struct fantanolive_text fantanolive_refusal_texts[] = {
      "output for the records below 980 bytes",
      "records_to: the length of the output",
      "lend 980 bytes, space for four records, however few come"},
+    {31,
+     "buffer too short for the pages",
+     "pages: the output, below 132 x (live rows + 2 x pages) bytes",
+     "lend 132 bytes for each row and 264 for each page, a page for every 58 rows or part of them"},
 };
 
 /* The codes, in rising order of number. */

@@ -25,6 +25,7 @@ CALLS = {
     "find": BUFFER + COUNT + BUFFER + RESULT,
     "find_many": BUFFER + COUNT + BUFFER + BUFFER + RESULT,
     "reconcile": BUFFER + COUNT + BUFFER + BUFFER + BUFFER + RESULT,
+    "pages": BUFFER + COUNT + BUFFER + RESULT,
     "add_cents": BUFFER + COUNT,
     "post": BUFFER + COUNT + BUFFER + BUFFER + RESULT,
     "to_ebcdic": BUFFER + BUFFER + RESULT,

@@ -93,6 +93,14 @@ def reconcile(master, rows, state, date, out):
     return records.value
 
 
+def pages(master, rows, out):
+    """Prints the live rows of a master in key order. Returns the number of pages."""
+    count = ctypes.c_uint64()
+    with Call("pages") as call:
+        call.run(*call.read("master", master), number("rows", rows), *call.write("out", out), ctypes.byref(count))
+    return count.value
+
+
 def add_cents(master, rows):
     """Gives the rows of a master that have no cents yet 00 cents."""
     with Call("add_cents") as call:

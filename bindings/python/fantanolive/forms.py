@@ -8,6 +8,8 @@ from ._lending import view_of
 
 TYPE_COLUMN = 73
 TYPE_A = 0xC1
+STATUS_COLUMN = 196
+LIVE = 0x40
 
 # What apply leaves: the new master and the reject file (bytes), a 64-bit verdict per detail (array), and the Counts.
 Applied = collections.namedtuple("Applied", "master rejects verdicts counts")
@@ -62,6 +64,15 @@ def reconcile(master, state, date):
     out = bytearray(_header.RECORD * (rows + 1))
     records = calls.reconcile(master, rows, state, date, out)
     return _front(out, _header.RECORD * (records + 1))
+
+
+def pages(master):
+    """The pages of a master: lines of 132 EBCDIC bytes without line ends, as many as its live rows take."""
+    rows = _count("master", master, _header.ROW)
+    live = _bytes("master", master)[STATUS_COLUMN - 1 :: _header.ROW].count(LIVE)
+    out = bytearray(_header.PAGE_LINE * (live + 2 * -(-live // _header.PAGE_CASES)))
+    calls.pages(master, rows, out)
+    return bytes(out)
 
 
 def add_cents(master):

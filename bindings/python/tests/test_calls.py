@@ -65,6 +65,12 @@ class Carried(unittest.TestCase):
         self.assertEqual(calls.reconcile(row(), 1, ebcdic("OH"), ebcdic("20070102"), out), 1)
         self.assertEqual(out[:3] + out[245:248] + out[490:], ebcdic("RECRCT") + b"\xee" * 10)
 
+    def test_pages(self):
+        out = bytearray(b"\xee" * 400)
+        self.assertEqual(calls.pages(row() + row("123456790", 0, "D00  "), 2, out), 1)
+        line = f"OH123456789N 000 {'SMITH':20} {'JOHN':15} 00000025 0"
+        self.assertEqual(out, ebcdic(f"{'CASES 00001':132}{line:132}{'TOTAL 0001':132}") + b"\xee" * 4)
+
     def test_add_cents(self):
         master = bytearray(row(end="     ") + b"\xee" * 200)
         self.assertIsNone(calls.add_cents(master, 1))
@@ -192,6 +198,16 @@ class Refusals(unittest.TestCase):
         ]
         for number, changed in refused:
             self.refused(calls.reconcile, good, number, **changed)
+
+    def test_pages(self):
+        def good():
+            return {"master": row(), "rows": 1, "out": bytearray(b"\xee" * 396)}
+
+        refused = [
+            (3, {"master": bytes(201)}), (3, {"rows": 2}), (4, {"master": bytes(200)}), (31, {"out": bytearray(b"\xee" * 395)}),
+        ]
+        for number, changed in refused:
+            self.refused(calls.pages, good, number, **changed)
 
     def test_add_cents(self):
         def good():

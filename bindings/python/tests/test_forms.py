@@ -59,6 +59,15 @@ class Forms(unittest.TestCase):
         self.assertEqual(len(file), 490)
         self.assertEqual(file[245:285], ebcdic("RCTOH00000000000000000100000000120070102"))
 
+    def test_pages(self):
+        self.assertEqual(fantanolive.pages(b""), b"")
+        self.assertEqual(fantanolive.pages(row(dollars=0, end="D00  ")), b"")
+        for live, pages in ((1, 1), (58, 1), (59, 2)):
+            printed = fantanolive.pages(b"".join(row(f"1{i:04d}1111") for i in range(1001, 1001 + live)))
+            self.assertEqual(len(printed), 132 * (live + 2 * pages))
+            self.assertEqual(printed[-132:-122], ebcdic(f"TOTAL {(live - 1) % 58 + 1:04d}"))
+        self.assertEqual(self.refusal(fantanolive.pages, bytes(200)), 4)
+
     def test_add_cents_and_post(self):
         master = fantanolive.add_cents(row(end="     "))
         self.assertEqual(master, row())

@@ -79,6 +79,15 @@ extern "C" {
         records: *mut u64,
     ) -> u64;
 
+    pub fn fantanolive_pages(
+        master: *const u8,
+        master_length: usize,
+        rows: usize,
+        out: *mut u8,
+        out_length: usize,
+        pages: *mut u64,
+    ) -> u64;
+
     pub fn fantanolive_add_cents(master: *mut u8, master_length: usize, rows: usize) -> u64;
 
     pub fn fantanolive_post(

@@ -283,6 +283,32 @@ pub fn reconcile(
     Ok(records)
 }
 
+/// Prints the live rows of a master, whatever their state, in key order, and answers the number of pages.
+///
+/// `master` has `rows` rows of 200 bytes. `out` takes the pages one behind the other, in EBCDIC, lines of 132 bytes without line
+/// ends: a heading, 58 lines for rows (on the last page perhaps fewer) and a foot; bytes behind them are kept.
+/// [`crate::pages_size`] of the rows is always enough.
+///
+/// # Errors
+///
+/// Refusals 3, 4 and 31, the first that holds; `out` is then as before.
+pub fn pages(master: &[u8], rows: usize, out: &mut [u8]) -> Result<u64, Refusal> {
+    let mut pages = 0;
+    // SAFETY: as in `apply`; only `out` and `pages` are written.
+    let answer = unsafe {
+        c::fantanolive_pages(
+            master.as_ptr(),
+            master.len(),
+            rows,
+            out.as_mut_ptr(),
+            out.len(),
+            &mut pages,
+        )
+    };
+    done(answer)?;
+    Ok(pages)
+}
+
 /// Gives the rows of a master from before the cents 00 cents. It is to be called once; a master with rows that have cents is
 /// refused (4).
 ///

@@ -11,13 +11,14 @@ mod texts;
 mod verdict;
 
 pub use calls::{
-    add_cents, apply, apply_journaled, contacts_codes, contacts_update, find, find_many, post,
-    reconcile, records_to, take_back, to_ascii, to_ebcdic, totals, ContactCounts, Counts, Totals,
+    add_cents, apply, apply_journaled, contacts_codes, contacts_update, find, find_many, pages,
+    post, reconcile, records_to, take_back, to_ascii, to_ebcdic, totals, ContactCounts, Counts,
+    Totals,
 };
 pub use refusal::{NotConverted, Refusal};
 pub use sizes::{
-    journal_size, CONTACT, DATE, KEY, LINE, LOCAL_CODE, MAX_CONTACTS, MAX_RECORDS, MAX_ROWS,
-    NO_PLACE, RECORD, RECORDS, ROW, STATE,
+    journal_size, pages_size, CONTACT, DATE, KEY, LINE, LOCAL_CODE, MAX_CONTACTS, MAX_RECORDS,
+    MAX_ROWS, NO_PLACE, PAGE_CASES, PAGE_LINE, RECORD, RECORDS, ROW, STATE,
 };
 pub use texts::{code_text, refusal_text, Text, VERSION};
 pub use verdict::{codes, has_code, ERRORS, WARNINGS};

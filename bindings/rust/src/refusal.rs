@@ -69,11 +69,13 @@ pub enum Refusal {
     NoRecords = 29,
     /// Output of records below 980 bytes.
     ShortRecords = 30,
+    /// Buffer too short for the pages.
+    ShortPages = 31,
 }
 
 impl Refusal {
     /// Every refusal, in rising order of number.
-    pub const ALL: [Refusal; 30] = [
+    pub const ALL: [Refusal; 31] = [
         Refusal::WrongYear,
         Refusal::WrongLocals,
         Refusal::WrongMaster,
@@ -104,6 +106,7 @@ impl Refusal {
         Refusal::ShortPlaces,
         Refusal::NoRecords,
         Refusal::ShortRecords,
+        Refusal::ShortPages,
     ];
 
     /// The refusal's number in documents 01 and 02.

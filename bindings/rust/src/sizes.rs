@@ -31,3 +31,12 @@ pub const fn journal_size(details: usize) -> usize {
 }
 /// The place that [`crate::find_many`] tells for a key without a row.
 pub const NO_PLACE: u32 = 4_294_967_295;
+/// Bytes of a line of a case page.
+pub const PAGE_LINE: usize = 132;
+/// Lines for cases on a full page, between its heading and its foot.
+pub const PAGE_CASES: usize = 58;
+
+/// Bytes of the pages of so many live rows.
+pub fn pages_size(cases: usize) -> usize {
+    PAGE_LINE * (cases + 2 * cases.div_ceil(PAGE_CASES))
+}

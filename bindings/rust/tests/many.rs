@@ -121,7 +121,7 @@ fn as_many_places_as_keys() {
 }
 
 #[test]
-fn refusals_in_order() {
+fn refusals_of_find_many_in_order() {
     let refused = |rows, keys: &str, length: usize| {
         let mut places = vec![KEPT; length];
         let refusal = find_many(&master(), rows, &ebcdic(keys), &mut places);

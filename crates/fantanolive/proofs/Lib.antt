@@ -6,3 +6,4 @@ pub mod JournalCallsLaws
 pub mod LookupCallsLaws
 pub mod TotallingCallsLaws
 pub mod RecordsCallsLaws
+pub mod PagesCallsLaws

@@ -2,7 +2,7 @@
 -- the records are written to. Assumes nothing.
 use Prim.Native.Nat.{ℕ, _+_, _-_, _*_, _≤_, _<_}
 use mathlib.Core.Path.{_≡_, refl, sym, ap, _∙_}
-use mathlib.Core.List.{List, [], _∷_, _++_, append-assoc, append-nil}
+use mathlib.Core.List.{List, [], _∷_, _++_, map, append-assoc, append-nil}
 use mathlib.Core.Bool.{Bool, true, false, cond, _&&_}
 use native.Mathlib.Omega.{arith}
 use borrow.Rule.Slice.PartMut.{putMid, post-is}
@@ -12,7 +12,7 @@ use Rattle.text.specs.Characters.{A, N}
 use Rattle.text.specs.Fields.{columns, placed, digitField, spaces}
 use Rattle.exclusionsets.specs.Exclusions.{exclusionColumns}
 use Rattle.text.specs.Blocks.{blocks, spliced, Holds}
-use Rattle.casemaster.specs.Master.{rowsOf}
+use Rattle.casemaster.specs.Master.{rowsOf, rowsThat}
 use Rattle.text.proofs.FieldsLaws.{one-column}
 use Rattle.text.proofs.NumberLaws.{length-digits}
 use Rattle.text.proofs.BlocksLaws.{blocks-next, length-blocks, holds-append}
@@ -90,24 +90,30 @@ rct-counted state date rows tanf nonTanf total control a n l e = e ∙ rw (a, n,
 
 module _ (state : List ℕ) where
   rec-cons : (row : List ℕ) (rows : List (List ℕ)) → recRecords state (row ∷ rows) ≡ recRecords state (row ∷ []) ++ recRecords state rows
-  unfolding recRecords
-  rec-cons row rows = rw (append-nil (cond (isReported state row) (recRecord row ∷ []) []))
+  unfolding recRecords rowsThat
+  rec-cons row rows = go (isReported state row)
+    where
+      go : (b : Bool)
+          → map recRecord (cond b (row ∷ []) [] ++ rowsThat (isReported state) rows)
+          ≡ map recRecord (cond b (row ∷ []) [] ++ []) ++ map recRecord (rowsThat (isReported state) rows)
+      go true = refl
+      go false = refl
 
   -- a row that is not reported, and one that is
   rec-none : (row : List ℕ) → isReported state row ≡ false → recRecords state (row ∷ []) ≡ []
-  unfolding recRecords
+  unfolding recRecords rowsThat
   rec-none row t = rw t
 
   pub rec-one : (row : List ℕ) → isReported state row ≡ true → recRecords state (row ∷ []) ≡ recRecord row ∷ []
-  unfolding recRecords
+  unfolding recRecords rowsThat
   rec-one row t = rw t
 
   -- how many records a row has
   rec-count : (row : List ℕ) → length (recRecords state (row ∷ [])) ≡ cond (isReported state row) 1 0
-  unfolding recRecords
+  unfolding recRecords rowsThat
   rec-count row = go (isReported state row)
     where
-      go : (b : Bool) → length (cond b (recRecord row ∷ []) [] ++ []) ≡ cond b 1 0
+      go : (b : Bool) → length (map recRecord (cond b (row ∷ []) [] ++ [])) ≡ cond b 1 0
       go true = refl
       go false = refl
 
@@ -118,7 +124,7 @@ module _ (state : List ℕ) where
     rec-next l = rw (blocks-next 200 n m i l) (rec-cons (take 200 (drop (i * 200) m)) (drop (i + 1) (rowsOf n m)))
 
     pub rec-end : n ≤ i → recRecords state (drop i (rowsOf n m)) ≡ []
-    unfolding recRecords
+    unfolding recRecords rowsThat
     rec-end l = rw (drop-of-length-le (rowsOf n m) {i = i} (rw (length-blocks 200 n m) l))
 
     pub count-next : i < n

@@ -1,6 +1,6 @@
 -- Document 01, "Reconciliation": Charts 0-6 and 0-7. Assumes nothing.
 use Prim.Native.Nat.{ℕ, _+_, _*_}
-use mathlib.Core.List.{List, [], _∷_, _++_}
+use mathlib.Core.List.{List, [], _∷_, _++_, map}
 use mathlib.Core.Bool.{Bool, not, cond, _&&_}
 use lib.Dec.{eqb, ltb}
 use lib.ListN.{length, getD}
@@ -12,7 +12,7 @@ use Rattle.layout.specs.Calendar.{isDate}
 use Rattle.exclusionsets.specs.Exclusions.{exclusionColumns}
 use Rattle.text.specs.Blocks.{joined, over}
 use Rattle.casemaster.specs.Row.{rowState, rowSsn, rowCaseType, rowLocalCode, rowCaseId, rowLastName, rowArrearage, rowDateIssued, rowExclusions, isLive}
-use Rattle.casemaster.specs.Master.{rowsOf}
+use Rattle.casemaster.specs.Master.{rowsOf, rowsThat}
 use Rattle.reconciliation.specs.declared.reconcile.Reconciled.{Reconciled}
 use Rattle.reconciliation.specs.declared.reconcile.Reconciled.the-variants.{Done, Refused}
 use Rattle.casemaster.specs.Refusals.{orElse, masterRefusal}
@@ -35,8 +35,7 @@ recRecord row =
 
 -- a REC record per live row of that state, in key order
 unfoldable pub recRecords : List ℕ → List (List ℕ) → List (List ℕ)
-recRecords state [] = []
-recRecords state (row ∷ rows) = cond (isReported state row) (recRecord row ∷ []) [] ++ recRecords state rows
+recRecords state rows = map recRecord (rowsThat (isReported state) rows)
 
 -- how many of them are of a case type
 unfoldable pub reportedOf : ℕ → List ℕ → List (List ℕ) → ℕ

@@ -2,6 +2,7 @@
 
 use crate::journal;
 use crate::many;
+use crate::pages;
 use crate::totals;
 
 /// What a request measures, as lines to print.
@@ -11,6 +12,7 @@ const REQUESTS: &[Measured] = &[
     // A line each.
     journal::measured,
     many::measured,
+    pages::measured,
     totals::measured,
 ];
 

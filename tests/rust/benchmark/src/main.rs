@@ -13,6 +13,7 @@ mod journal;
 mod later;
 mod many;
 mod once;
+mod pages;
 mod posting;
 mod totals;
 

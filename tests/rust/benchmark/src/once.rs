@@ -12,6 +12,7 @@ use crate::convert::BYTES;
 use crate::input::{adds, changes, falling, lookup, renames, scattered, Input, MOST, STATE};
 use crate::journal;
 use crate::many;
+use crate::pages;
 use crate::totals;
 use crate::{run, Buffers};
 
@@ -51,6 +52,7 @@ pub fn once(case: &str, engine: &str) {
         "take-back-19660-adds" => journal::once_take_back(&adds(case, 45_875, 19_660, false)),
         "find-10-keys" => many::once(10),
         "find-65535-keys" => many::once(MOST),
+        "pages" => pages::once(),
         "totals" => totals::once(),
         "100-changes" => apply(&changes(case, MOST, 100), speed),
         "65535-changes" => apply(&changes(case, MOST, MOST), speed),

@@ -8,6 +8,7 @@ use generator::rng::{mix, Rng};
 
 use crate::run::journal;
 use crate::run::many;
+use crate::run::pages;
 use crate::run::records_to;
 use crate::run::several;
 use crate::SHOWN;
@@ -17,6 +18,7 @@ const RUNS: &[Run] = &[
     journal::TAKE_BACK,
     journal::THERE_AND_BACK,
     many::FIND_MANY,
+    pages::PAGES,
     records_to::RECORDS_TO,
     several::SEVERAL,
     several::TOTALS,

@@ -3,6 +3,7 @@
 mod contacts;
 pub mod journal;
 pub mod many;
+pub mod pages;
 mod posting;
 pub mod records_to;
 pub mod several;

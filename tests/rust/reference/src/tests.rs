@@ -6,6 +6,7 @@ mod exclusions;
 mod journal;
 mod many;
 mod names;
+mod pages;
 mod posting;
 mod records_to;
 mod several;

@@ -1,0 +1,81 @@
+-- Document 02, item 12: the pages of a master, and the outcome of the call, down to every byte lent. Assumes nothing.
+use Prim.Native.Nat.{ℕ, zero, suc, _+_, _*_, _/_}
+use mathlib.Core.List.{List, [], _∷_, _++_, map}
+use mathlib.Core.Bool.{cond}
+use lib.Dec.{eqb, ltb}
+use lib.ListN.{length, take, drop}
+use Rattle.text.specs.Blocks.{joined, over}
+use Rattle.layout.specs.Limits.{maxRows}
+use Rattle.casemaster.specs.Row.{isLive}
+use Rattle.casemaster.specs.Master.{rowsOf, rowsThat}
+use Rattle.casemaster.specs.Refusals.{orElse, masterRefusal}
+use Rattle.pages.specs.Forms.{lineWidth, caseLine, heading, foot}
+use Rattle.pages.specs.declared.printing.Printed.{Printed}
+use Rattle.pages.specs.declared.printing.Printed.the-variants.{Done, Refused}
+
+-- ---- pages
+
+-- the lines of the live rows in key order
+unfoldable pub caseLines : List (List ℕ) → List (List ℕ)
+caseLines rows = map caseLine (rowsThat isLive rows)
+
+-- the lines of the first n pages, 58 on each while there are lines
+unfoldable pub firstPages : ℕ → List (List ℕ) → List (List (List ℕ))
+firstPages zero lines = []
+firstPages (suc n) lines = take 58 lines ∷ firstPages n (drop 58 lines)
+
+-- how many pages so many lines take: on the last page perhaps fewer than 58, never none
+abbrev pub pageCount : ℕ → ℕ
+pageCount lines = (lines + 57) / 58
+
+-- the lines of each page
+abbrev pub pagesOf : List (List ℕ) → List (List (List ℕ))
+pagesOf lines = firstPages (pageCount (length lines)) lines
+
+-- a page: a heading, its lines, and a foot
+abbrev pub page : ℕ → List (List ℕ) → List (List ℕ)
+page number lines = heading number ∷ (lines ++ foot (length lines) ∷ [])
+
+-- one page behind the other; page numbers rise by one
+unfoldable pub printedFrom : ℕ → List (List (List ℕ)) → List (List ℕ)
+printedFrom number [] = []
+printedFrom number (lines ∷ pages) = page number lines ++ printedFrom (suc number) pages
+
+-- page numbers begin at 00001
+abbrev pub printed : List (List ℕ) → List (List ℕ)
+printed rows = printedFrom 1 (pagesOf (caseLines rows))
+
+-- ---- the call
+
+-- refused, in order: 3; 4; 31, a buffer too short for the pages
+unfoldable pub pagesRefusal : List ℕ → ℕ → List ℕ → ℕ
+pagesRefusal master rows out =
+    masterRefusal maxRows master rows (orElse (ltb (length out) (length (printed (rowsOf rows master)) * lineWidth)) 31 0)
+
+-- the result counts the pages, or is a refusal's number
+pub data PagesResult : Type 0 where
+  pages : ℕ → PagesResult
+  refused : ℕ → PagesResult
+
+-- what each answer of the call stands for
+abbrev pub pagesAnswered : Printed → PagesResult
+pagesAnswered (Done n) = pages n
+pagesAnswered (Refused n) = refused n
+
+pub record PagesOutcome : Type 0 where
+  pub result : PagesResult
+  pub out : List ℕ
+
+-- the answer of the call and the buffer that it leaves
+abbrev pub pagesAs : Printed → List ℕ → PagesOutcome
+pagesAs answer out = record { result = pagesAnswered answer; out = out }
+
+-- bytes behind the pages are kept; a refusal leaves the buffer alone
+unfoldable pub pagesOutcome : List ℕ → ℕ → List ℕ → PagesOutcome
+pagesOutcome master rows out =
+    cond (eqb (pagesRefusal master rows out) 0)
+    (record {
+      result = pages (length (pagesOf (caseLines (rowsOf rows master))));
+      out = over (joined (printed (rowsOf rows master))) out;
+    })
+    (record { result = refused (pagesRefusal master rows out); out = out })
