@@ -1,11 +1,12 @@
 /* fantanolive.h: the C interface of the Fantanolive library, libfantanolive.a and libfantanolive.so.
  *
- * The library keeps a state's copy of the federal offset case master. It has fifteen calls:
+ * The library keeps a state's copy of the federal offset case master. It has sixteen calls:
  *
  *     fantanolive_apply            applies a submission batch to a master
  *     fantanolive_apply_journaled  the same, with a journal of what the batch changes
  *     fantanolive_take_back        takes a batch back with its journal
  *     fantanolive_totals           adds up the totals of a batch's details
+ *     fantanolive_merge            merges two batches into one
  *     fantanolive_find             finds a case's row in a master
  *     fantanolive_find_many        finds the rows of many cases in one walk
  *     fantanolive_reconcile        writes the reconciliation file of a state
@@ -24,7 +25,7 @@
  * Bytes. All text is EBCDIC: letters C1-C9, D1-D9, E2-E9, digits F0-F9, space 40, hyphen 60, comma 6B (hexadecimal).
  * A batch typed in ASCII is turned into EBCDIC by fantanolive_to_ebcdic first; the other calls convert nothing.
  *
- * Answers. Each call answers 0 (FANTANOLIVE_DONE) when it was carried out, else the number of a refusal, 1 to 31. A
+ * Answers. Each call answers 0 (FANTANOLIVE_DONE) when it was carried out, else the number of a refusal, 1 to 33. A
  * call answers the first refusal that holds, in the order that is given with it. On a refusal nothing at all is
  * written: no byte of any buffer, and no number of the result but the place that goes with refusal 16.
  * fantanolive_text.h has the refusals and the codes of a verdict in words.
@@ -112,6 +113,7 @@ extern "C" {
  *   out of fantanolive_contacts_codes:      FANTANOLIVE_CODES_SIZE(count) bytes
  *   lines of fantanolive_post:              one number per line of the file; fewer are refused (24)
  *   out of fantanolive_records_to:          FANTANOLIVE_RECORDS_SIZE bytes, four records; fewer are refused (30)
+ *   out of fantanolive_merge:               first_length + second_length - FANTANOLIVE_RECORD bytes; fewer are refused (33)
  * The details of a batch are its records less one: batch_length / FANTANOLIVE_RECORD - 1. */
 #define FANTANOLIVE_MASTER_SIZE(rows) ((size_t)FANTANOLIVE_ROW * (size_t)(rows))
 #define FANTANOLIVE_REJECTS_SIZE(details) ((size_t)FANTANOLIVE_RECORD * ((size_t)(details) + 1))
@@ -142,6 +144,7 @@ extern "C" {
 
 /* The place that fantanolive_find_many tells for a key without a row. */
 #define FANTANOLIVE_NO_PLACE 4294967295
+
 /* The numbers of fantanolive_totals, by their index: those that a control record states, in its order. */
 #define FANTANOLIVE_TANF_COUNT 0      /* details of case type A */
 #define FANTANOLIVE_NON_TANF_COUNT 1  /* details of case type N */
@@ -176,12 +179,14 @@ extern "C" {
 #define FANTANOLIVE_WRONG_TOTAL 23    /* its last record not TOTAL with the numbers of adjustments and collections */
 #define FANTANOLIVE_SHORT_LINES 24    /* line list shorter than the lines */
 #define FANTANOLIVE_SHORT_JOURNAL 25  /* journal buffer below 12 + 204 x details */
-#define FANTANOLIVE_WRONG_JOURNAL 26  /* no journal, or not one of this master, or what it would leave is not sound */
+#define FANTANOLIVE_WRONG_JOURNAL 26  /* no journal, or one that does not fit the master, or what it would leave is not sound */
 #define FANTANOLIVE_WRONG_KEYS 27     /* list of keys not made of sound keys, twelve bytes each, strictly rising */
 #define FANTANOLIVE_SHORT_PLACES 28   /* answer list shorter than the keys */
 #define FANTANOLIVE_NO_RECORDS 29     /* no list of C, L, R and M records leads from the row to the wanted row */
 #define FANTANOLIVE_SHORT_RECORDS 30  /* output of records below 980 bytes */
 #define FANTANOLIVE_SHORT_PAGES 31    /* buffer too short for the pages */
+#define FANTANOLIVE_CANNOT_MERGE 32   /* two states, over 65,535 details together, or an amount above eleven digits */
+#define FANTANOLIVE_SHORT_BATCH 33    /* output shorter than the merged batch */
 
 /* A verdict is a number of 64 bits: the sum of 2 to the power c over the codes c that the detail got. Errors are the
  * codes 1 to 18, warnings 51 and 52; a verdict of 0 has none. A detail with an error is rejected and changes nothing.
@@ -249,7 +254,8 @@ uint64_t fantanolive_apply(
 /* fantanolive_apply_journaled: applies a batch to a master, and writes a journal with which it can be taken back.
  *
  * All arguments but the last three are those of fantanolive_apply, and rows, verdicts, rejects and counts come out as
- * they do there. Keep the journal with the master that the batch leaves: it fits no other.
+ * they do there. Keep the journal with the master that the batch leaves, and use it with no other: fantanolive_take_back
+ * looks at row counts, places, marks and what would be left, and cannot tell whose journal it is.
  *
  * journal, journal_length  Where the journal goes. The length is in bytes, at least 12 + 204 x details, however few rows
  *                          change.
@@ -305,8 +311,9 @@ uint64_t fantanolive_take_back(
 /* fantanolive_totals: adds up the totals of a batch's details, whatever its last record says.
  *
  * They are the totals that refusals 7 and 8 of fantanolive_apply hold against the control record: with them written into
- * its columns 6-14, 15-23, 24-34 and 35-45 (9, 9, 11 and 11 digits) a control record has none of the two. All records but
- * the last are details. Documents 01 and 02 have no such call.
+ * its columns 6-14, 15-23, 24-34 and 35-45 (9, 9, 11 and 11 digits) a control record has none of the two, where each amount
+ * has at most eleven digits; a larger one no control record can state. All records but the last are details. Documents 01
+ * and 02 have no such call.
  *
  * batch, batch_length     The records, 245 bytes each: the details, then a last record, which may be anything. The length is
  *                         in bytes.
@@ -320,6 +327,39 @@ uint64_t fantanolive_take_back(
 uint64_t fantanolive_totals(
     const uint8_t *batch, size_t batch_length,
     uint64_t totals[FANTANOLIVE_TOTALS]);
+
+/* fantanolive_merge: merges two batches of one state into one.
+ *
+ * The merged batch has the first's details, the second's, and a control record with the state of both and the sums of
+ * their totals. Applied, it leaves the master and gives the verdicts that the first and then the second would, where all of
+ * them are carried out from the same master with the same year and codes, and no key with a B record has records in both.
+ *
+ * first, first_length     The first batch, 245 bytes a record: details, then the control record. The length is in bytes.
+ * second, second_length   The second batch.
+ * out, out_length         Where the merged batch goes. The length is in bytes, at least
+ *                         first_length + second_length - 245.
+ * records                 Where the number of records goes.
+ *
+ * Returns, in the order of checking; the first batch wholly before the second:
+ *   5   FANTANOLIVE_WRONG_BATCH     length 0, no multiple of 245, or over 65,536 records
+ *   6   FANTANOLIVE_NO_CTL          columns 3-5 of the last record, the control record, are not CTL
+ *   20  FANTANOLIVE_CONTROL_STATE   its state, columns 1-2, is not in the table of 54
+ *   21  FANTANOLIVE_CONTROL_FORM    its totals, columns 6-45, are not all digits, or its filler, columns 46-245, not all
+ *                                   spaces
+ *   7   FANTANOLIVE_WRONG_COUNT     its count of TANF or of Non-TANF records differs from the details'
+ *   8   FANTANOLIVE_WRONG_AMOUNT    its amount for TANF or for Non-TANF differs from the details' (types A and M)
+ *   32  FANTANOLIVE_CANNOT_MERGE    the states of the control records differ, the details are over 65,535 together, or a
+ *                                   summed amount, of TANF or of Non-TANF, has more than eleven digits
+ *   33  FANTANOLIVE_SHORT_BATCH     out_length below first_length + second_length - 245
+ *   0   FANTANOLIVE_DONE            carried out
+ *
+ * Written when carried out: the merged batch at the front of out; *records, how many records it has, the control record
+ * included. Kept: the bytes of out behind them; first and second. */
+uint64_t fantanolive_merge(
+    const uint8_t *first, size_t first_length,
+    const uint8_t *second, size_t second_length,
+    uint8_t *out, size_t out_length,
+    uint64_t *records);
 
 /* fantanolive_find: finds the row of a key.
  *
@@ -354,7 +394,7 @@ uint64_t fantanolive_find(
  * master, master_length   The rows, 200 bytes each; the length is in bytes and a multiple of 200.
  * rows                    How many rows the master has, deleted ones included.
  * keys, keys_length       The keys, twelve bytes each, strictly rising in byte order, nothing between them. The length is in
- *                         bytes; 0 for an empty list, which is looked up.
+ *                         bytes; 0 for an empty list, which passes.
  * places, places_length   Where the answers go. The length counts numbers, not bytes; at least one per key.
  * comparisons             Where the number of comparisons of a key with a row goes.
  *

@@ -30,6 +30,7 @@ later=
 later+=" journaled-100-changes journaled-65535-changes journaled-65535-adds"
 later+=" take-back-100-changes take-back-65535-changes take-back-19660-adds"
 later+=" find-10-keys find-65535-keys"
+later+=" merge"
 later+=" pages"
 later+=" totals"
 [ "$#" -gt 0 ] || set -- $both $later

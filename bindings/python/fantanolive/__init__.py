@@ -21,6 +21,7 @@ from .forms import (
     contacts_update,
     find,
     find_many,
+    merge,
     pages,
     post,
     reconcile,
@@ -35,6 +36,6 @@ __all__ = [
     "Applied", "CONTACT", "ContactCounts", "Counts", "FoundMany", "Journaled", "JournaledCounts", "KEY", "LINE", "LOCAL_CODE",
     "MAX_CONTACTS", "MAX_RECORDS", "MAX_ROWS", "NO_PLACE", "Posted", "RECORD", "ROW", "Refused", "Text", "Totals", "Updated",
     "__version__", "add_cents", "apply", "apply_journaled", "calls", "code_text", "codes_of", "contacts_codes",
-    "contacts_update", "find", "find_many", "pages", "post", "reconcile", "records_to", "refusal_text", "take_back",
+    "contacts_update", "find", "find_many", "merge", "pages", "post", "reconcile", "records_to", "refusal_text", "take_back",
     "to_ascii", "to_ebcdic", "totals",
 ]

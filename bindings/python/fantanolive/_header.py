@@ -69,62 +69,64 @@ SHORT_PLACES = 28
 NO_RECORDS = 29
 SHORT_RECORDS = 30
 SHORT_PAGES = 31
+CANNOT_MERGE = 32
+SHORT_BATCH = 33
 
 # A number's words: what is wrong, where, how to mend it.
 REFUSAL_TEXTS = {
     1: (
         'year outside 1900 to 9999',
-        'apply: the year',
+        'apply, apply_journaled: the year',
         'give the current calendar year in four digits',
     ),
     2: (
         'list of local codes not made of three-digit codes, three bytes each, strictly rising',
-        'apply, records_to: the list of local codes',
+        'apply, apply_journaled, records_to: the list of local codes',
         'write each code as three EBCDIC digits with nothing between them or behind them, lowest first, none twice; an empty list is allowed',
     ),
     3: (
         'master length no multiple of 200, or row count above length / 200 or above 65,535',
-        'apply, take_back, find, find_many, reconcile, pages, add_cents, post: the master as a whole, and its row count',
+        'apply, apply_journaled, take_back, find, find_many, reconcile, pages, add_cents, post: the master as a whole, and its row count',
         'check that the file is a master and was copied whole, byte by byte; a row has 200 bytes and no line end, a master at most 65,535 rows',
     ),
     4: (
         'a row that is not sound, or rows not in strictly rising order of key',
-        "apply, take_back, find, find_many, reconcile, pages, add_cents, post: a row's columns 1-12 (key), 13-15, 31-34, 66-73, 79-90 or 196-200, or the order of the rows; records_to: these columns of the row, then of the wanted row, or a row not of 200 bytes",
+        "apply, apply_journaled, take_back, find, find_many, reconcile, pages, add_cents, post: a row's columns 1-12 (key), 13-15, 31-34, 66-73, 79-90 or 196-200, or the order of the rows; records_to: these columns of the row, then of the wanted row, or a row not of 200 bytes",
         'take the last good copy of the master; if columns 197-200 are spaces in every row, run add_cents once (add_cents takes only such a master and refuses one that has its cents)',
     ),
     5: (
         'batch empty, its length no multiple of 245, or over 65,536 records',
-        'apply, totals: the batch as a whole',
+        'apply, apply_journaled, totals, merge: the batch as a whole; merge looks at the first batch wholly before the second',
         'write every record with 245 bytes and no line end, details first, the control record last; send more than 65,535 details in several batches',
     ),
     6: (
         'CTL is missing in the last record',
-        "apply: the batch's last record, columns 3-5",
+        "apply, apply_journaled, merge: the batch's last record, columns 3-5",
         'put the control record, with CTL in columns 3-5, behind the last detail; if the batch is in ASCII, convert it to EBCDIC first',
     ),
     7: (
         'a record count of the control record differs from the details',
-        "apply: the control record's columns 6-14 (TANF records) and 15-23 (Non-TANF records)",
+        "apply, apply_journaled, merge: the control record's columns 6-14 (TANF records) and 15-23 (Non-TANF records)",
         'count the details with A in column 74 and those with N, whatever errors they have; details with another case type count in neither',
     ),
     8: (
         'an amount of the control record differs from the details',
-        "apply: the control record's columns 24-34 (TANF amount) and 35-45 (Non-TANF amount)",
+        "apply, apply_journaled, merge: the control record's columns 24-34 (TANF amount) and 35-45 (Non-TANF amount)",
         'sum columns 65-72 over the details of types A and M alone, where they are eight digits, by case type A and N, whatever errors they have',
     ),
     9: (
         'no room for new rows: rows plus details of type A whose key has no row exceed master length / 200 or 65,535',
-        "apply: the master's length, and the details with A in column 73",
+        "apply, apply_journaled: the master's length, and the details with A in column 73",
         "lend a master with 200 bytes behind its rows for each such detail, repeated and faulty ones counted; a master can't have more than 65,535 rows",
     ),
     10: (
         'verdict list shorter than the details',
-        'apply: the length of the verdict list, counted in numbers',
+        'apply, apply_journaled: the length of the verdict list, counted in numbers',
         'lend one 64-bit number for each detail of the batch',
     ),
     11: (
         'output too short',
-        'apply: the reject buffer, below 245 x (details + 1) bytes; reconcile: the output, below 245 x (live rows of the state + 1) bytes',
+        'apply, apply_journaled: the reject buffer, below 245 x (details + 1) bytes; reconcile: the output, below 245 x (live rows of the state + 1) bytes',
         'lend 245 bytes for each detail (apply) or row (reconcile) and 245 more',
     ),
     12: (
@@ -169,12 +171,12 @@ REFUSAL_TEXTS = {
     ),
     20: (
         'state of the control record not in the table of 54',
-        "apply: the control record's columns 1-2",
+        "apply, apply_journaled, merge: the control record's columns 1-2",
         'put the two-letter code of the submitting state there, in upper case',
     ),
     21: (
         'a total of the control record is not digits, or its filler is not spaces',
-        "apply: the control record's columns 6-45 (four totals) and 46-245 (filler)",
+        "apply, apply_journaled, merge: the control record's columns 6-45 (four totals) and 46-245 (filler)",
         'write the totals right-justified with leading zeros, in 9, 9, 11 and 11 digits, and spaces behind them up to column 245',
     ),
     22: (
@@ -198,12 +200,12 @@ REFUSAL_TEXTS = {
         'lend 12 bytes and 204 bytes for each detail (a detail is every record but the last), however few rows change',
     ),
     26: (
-        'not a journal, not one of this master, or the rows that it would leave are not sound or not in order',
+        'not a journal, one that does not fit the master, or the rows that it would leave are not sound or not in order',
         'take_back: the journal, its length, or the master and row count that it goes with',
-        "take the journal's bytes, all of them and no more, and the master and row count that its batch left; nothing may have changed the master since, and a batch is taken back once",
+        "take the journal's bytes, all of them and no more, and the master and row count that its batch left; nothing may have changed the master since; take a batch back once, and only with its own journal",
     ),
     27: (
-        'list of keys with a key that is not sound, or not in strictly rising order',
+        'list of keys of a length no multiple of 12, with a key that is not sound, or not in strictly rising order',
         'find_many: the keys, twelve bytes each: state (1-2), SSN (3-11) and case type (12)',
         'write each key as for find, with nothing between them or behind them, lowest first in byte order (letters before digits), none twice; an empty list is allowed',
     ),
@@ -214,8 +216,8 @@ REFUSAL_TEXTS = {
     ),
     29: (
         'no list of C, L, R and M records leads from the row to the wanted row',
-        'records_to: the row deleted, or what is wanted in a column other than 13-30, 66-73 and 195-198, in 13-15 (code), 16-30 (case ID), 195 (exclusions) or 197-198 (cents)',
-        "want the changes alone that such records can make: a case ID that isn't blank, a local code 000 or listed, ADM with RET, VEN and SAL, 00 cents where the balance changes; names, address and the rest go by A, B, S, T or Z",
+        'records_to: a deleted row, a wanted change outside columns 13-30, 66-73 and 195-198, or one inside them that no such record brings',
+        "want the changes alone that such records can make: a case ID that isn't blank, a local code 000 or listed, ADM with RET, VEN and SAL, 00 cents where the balance changes; names, payment, transfer and address go by B, S, T and Z, a new case by A",
     ),
     30: (
         'output for the records below 980 bytes',
@@ -226,6 +228,16 @@ REFUSAL_TEXTS = {
         'buffer too short for the pages',
         'pages: the output, below 132 x (live rows + 2 x pages) bytes',
         'lend 132 bytes for each row and 264 for each page, a page for every 58 rows or part of them',
+    ),
+    32: (
+        "batches that can't be merged: two states, over 65,535 details together, or an amount total above eleven digits",
+        'merge: columns 1-2 of both control records, the numbers of details, and the sums of columns 24-34 and of columns 35-45',
+        'send the batches one behind the other; only batches of one state can be merged, and amounts to 99,999,999,999 dollars',
+    ),
+    33: (
+        'output shorter than the merged batch',
+        "merge: the output's length",
+        'lend as many bytes as both batches have, less 245',
     ),
 }
 

@@ -22,6 +22,7 @@ CALLS = {
     "apply_journaled": BUFFER + COUNT + BUFFER + BUFFER + YEAR + BUFFER + BUFFER + BUFFER + RESULT,
     "take_back": BUFFER + COUNT + BUFFER + RESULT,
     "totals": BUFFER + RESULT,
+    "merge": BUFFER + BUFFER + BUFFER + RESULT,
     "find": BUFFER + COUNT + BUFFER + RESULT,
     "find_many": BUFFER + COUNT + BUFFER + BUFFER + RESULT,
     "reconcile": BUFFER + COUNT + BUFFER + BUFFER + BUFFER + RESULT,

@@ -62,6 +62,14 @@ def totals(batch):
     return Totals(*result)
 
 
+def merge(first, second, out):
+    """Merges two batches of one state into one. Returns how many records it has."""
+    records = ctypes.c_uint64()
+    with Call("merge") as call:
+        call.run(*call.read("first", first), *call.read("second", second), *call.write("out", out), ctypes.byref(records))
+    return records.value
+
+
 def find(master, rows, key):
     """Finds the row of a key. Returns its place, the first being 0."""
     place = ctypes.c_uint64()

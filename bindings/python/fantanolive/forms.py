@@ -46,6 +46,13 @@ def take_back(master, journal):
     return _front(space, _header.ROW * calls.take_back(space, rows, journal))
 
 
+def merge(first, second):
+    """Two batches of one state merged into one."""
+    out = bytearray(_count("first", first, 1) + _count("second", second, 1))
+    records = calls.merge(first, second, out)
+    return _front(out, _header.RECORD * records)
+
+
 def find(master, key):
     """Finds the row of a key. Returns its place, the first being 0."""
     return calls.find(master, _count("master", master, _header.ROW), key)

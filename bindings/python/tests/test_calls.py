@@ -45,6 +45,12 @@ class Carried(unittest.TestCase):
         self.assertEqual(calls.totals(batch), (2, 0, 30, 0))
         self.assertEqual(calls.totals(bytes(245)).non_tanf_amount, 0)
 
+    def test_merge(self):
+        other = detail("SMITH", 7, "A", ssn="123456780") + control(1, 7)
+        out = bytearray(b"\xee" * 990)
+        self.assertEqual(calls.merge(PAPER_BATCH, other, out), 4)
+        self.assertEqual(bytes(out), PAPER_BATCH[:490] + other[:245] + control(3, 132) + b"\xee" * 10)
+
     def test_find(self):
         master = row("123456780") + row() + b"\xee" * 200
         self.assertEqual(calls.find(master, 2, ebcdic("OH123456789N")), 1)
@@ -163,6 +169,22 @@ class Refusals(unittest.TestCase):
 
         for batch in (b"", PAPER_BATCH[:-1], bytes(245 * 65537)):
             self.refused(calls.totals, good, 5, batch=batch)
+
+    def test_merge(self):
+        def good():
+            return {"first": PAPER_BATCH, "second": control(0, 0), "out": bytearray(b"\xee" * 735)}
+
+        self.assertEqual(calls.merge(**good()), 3)
+        details = PAPER_BATCH[:490]
+        refused = [
+            (5, {"first": b"", "second": b""}), (6, {"first": details, "second": b""}), (7, {"first": details + control(1, 125)}),
+            (20, {"first": details + control(2, 125, state="XX")}), (21, {"first": details + control(2, 125)[:-1] + b"\0"}),
+            (8, {"first": details + control(2, 124), "second": b""}), (5, {"second": PAPER_BATCH[1:]}),
+            (8, {"second": details + control(2, 124)}), (32, {"second": control(0, 0, state="AL"), "out": bytearray()}),
+            (33, {"out": bytearray(734)}),
+        ]
+        for number, changed in refused:
+            self.refused(calls.merge, good, number, **changed)
 
     def test_find(self):
         def good():

@@ -43,6 +43,11 @@ class Forms(unittest.TestCase):
         self.assertEqual(self.refusal(fantanolive.apply, row()[:-1], PAPER_BATCH, b"", 2007), 3)
         self.assertEqual(self.refusal(fantanolive.apply, bytes(200), PAPER_BATCH, b"", 2007), 4)
 
+    def test_totals_and_merge(self):
+        self.assertEqual(fantanolive.totals(PAPER_BATCH).non_tanf_count, 2)
+        self.assertEqual(fantanolive.merge(PAPER_BATCH, control(0, 0)), PAPER_BATCH)
+        self.assertEqual(self.refusal(fantanolive.merge, PAPER_BATCH, control(0, 0, state="AL")), 32)
+
     def test_find(self):
         self.assertEqual(fantanolive.find(row("123456780") + row(), ebcdic("OH123456789N")), 1)
         self.assertEqual(self.refusal(fantanolive.find, b"", ebcdic("OH123456789N")), 15)

@@ -22,7 +22,7 @@ class Words(unittest.TestCase):
     def test_texts(self):
         self.assertEqual(fantanolive.refusal_text(1).wrong, "year outside 1900 to 9999")
         self.assertEqual(fantanolive.code_text(17).number, 17)
-        for number in (0, 32, 99):
+        for number in (0, 34, 99):
             self.assertIsNone(fantanolive.refusal_text(number))
         for number in (0, 19, 50, 53):
             self.assertIsNone(fantanolive.code_text(number))

@@ -46,6 +46,16 @@ extern "C" {
 
     pub fn fantanolive_totals(batch: *const u8, batch_length: usize, totals: *mut u64) -> u64;
 
+    pub fn fantanolive_merge(
+        first: *const u8,
+        first_length: usize,
+        second: *const u8,
+        second_length: usize,
+        out: *mut u8,
+        out_length: usize,
+        records: *mut u64,
+    ) -> u64;
+
     pub fn fantanolive_find(
         master: *const u8,
         master_length: usize,

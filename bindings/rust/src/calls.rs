@@ -190,6 +190,33 @@ pub fn totals(batch: &[u8]) -> Result<Totals, Refusal> {
     })
 }
 
+/// Merges two batches of one state into one and answers how many records it has: the first's details, the second's, and a
+/// control record with the sums of their totals.
+///
+/// `out` takes at least `first.len() + second.len() - 245` bytes; bytes behind the merged batch are kept.
+///
+/// # Errors
+///
+/// Refusals 5, 6, 20, 21, 7 and 8 of the first batch, then of the second, then 32 and 33, the first that holds in this
+/// order; `out` is then as before.
+pub fn merge(first: &[u8], second: &[u8], out: &mut [u8]) -> Result<u64, Refusal> {
+    let mut records = 0;
+    // SAFETY: as in `apply`; only `out` and `records` are written.
+    let answer = unsafe {
+        c::fantanolive_merge(
+            first.as_ptr(),
+            first.len(),
+            second.as_ptr(),
+            second.len(),
+            out.as_mut_ptr(),
+            out.len(),
+            &mut records,
+        )
+    };
+    done(answer)?;
+    Ok(records)
+}
+
 /// Finds the row of a key, deleted or not, and answers its place, the first being 0.
 ///
 /// `master` has `rows` rows of 200 bytes; `key` is state, SSN and case type, twelve bytes.

@@ -11,9 +11,9 @@ mod texts;
 mod verdict;
 
 pub use calls::{
-    add_cents, apply, apply_journaled, contacts_codes, contacts_update, find, find_many, pages,
-    post, reconcile, records_to, take_back, to_ascii, to_ebcdic, totals, ContactCounts, Counts,
-    Totals,
+    add_cents, apply, apply_journaled, contacts_codes, contacts_update, find, find_many, merge,
+    pages, post, reconcile, records_to, take_back, to_ascii, to_ebcdic, totals, ContactCounts,
+    Counts, Totals,
 };
 pub use refusal::{NotConverted, Refusal};
 pub use sizes::{

@@ -59,7 +59,7 @@ pub enum Refusal {
     ShortLines = 24,
     /// Journal buffer below 12 + 204 × details.
     ShortJournal = 25,
-    /// No journal, or not one of this master, or what it would leave is not sound.
+    /// No journal, or one that does not fit the master, or what it would leave is not sound.
     WrongJournal = 26,
     /// List of keys not made of sound keys, twelve bytes each, strictly rising.
     WrongKeys = 27,
@@ -71,11 +71,15 @@ pub enum Refusal {
     ShortRecords = 30,
     /// Buffer too short for the pages.
     ShortPages = 31,
+    /// Two states, over 65,535 details together, or an amount total above eleven digits.
+    CannotMerge = 32,
+    /// Output shorter than the merged batch.
+    ShortBatch = 33,
 }
 
 impl Refusal {
     /// Every refusal, in rising order of number.
-    pub const ALL: [Refusal; 31] = [
+    pub const ALL: [Refusal; 33] = [
         Refusal::WrongYear,
         Refusal::WrongLocals,
         Refusal::WrongMaster,
@@ -107,6 +111,8 @@ impl Refusal {
         Refusal::NoRecords,
         Refusal::ShortRecords,
         Refusal::ShortPages,
+        Refusal::CannotMerge,
+        Refusal::ShortBatch,
     ];
 
     /// The refusal's number in documents 01 and 02.

@@ -14,14 +14,14 @@ fn header(name: &str) -> String {
 
 #[test]
 fn numbers_of_refusals() {
-    for number in 1..=31 {
-        let refusal = Refusal::of_number(number).expect("1 to 31 are refusals");
+    for number in 1..=33 {
+        let refusal = Refusal::of_number(number).expect("1 to 33 are refusals");
         assert_eq!(refusal.number(), number);
         assert_eq!(u64::from(refusal.text().number), number);
     }
     assert_eq!(Refusal::of_number(0), None);
-    assert_eq!(Refusal::of_number(32), None);
-    assert!(refusal_text(0).is_none() && refusal_text(32).is_none());
+    assert_eq!(Refusal::of_number(34), None);
+    assert!(refusal_text(0).is_none() && refusal_text(34).is_none());
 }
 
 #[test]

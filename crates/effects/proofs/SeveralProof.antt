@@ -16,7 +16,7 @@ use Rattle.turns.specs.Settings.{Settings, settingsOf}
 use Rattle.turns.proofs.AppendLaws.{final-append, verdicts-append, Agree, final-same, verdicts-same, under-append}
 use Rattle.batch.specs.Call.{callSettings}
 use Rattle.batch.specs.Apply.{callRows}
-use Rattle.effects.specs.Several.{Sent, IsApplied, WasCarriedOut, SameState, SameYear, SameCodes, Each, Master, masterFound, masterLeft, OneBehindTheOther, lastMaster, detailsSent, joinedDetails, verdictsSent, joinedVerdicts, anyB, batchesWith, Several}
+use Rattle.effects.specs.Several.{Sent, IsApplied, WasCarriedOut, SameState, SameYear, SameCodes, EachSent, Master, masterFound, masterLeft, OneBehindTheOther, lastMaster, detailsSent, joinedDetails, verdictsSent, joinedVerdicts, anyB, batchesWith, Several}
 use Rattle.effects.proofs.TwoBatchesProof.{records, count-read, rows-read, verdicts-read}
 use Rattle.effects.proofs.PartsLaws.{oneIfAny, one-append, part-agrees}
 
@@ -56,12 +56,12 @@ record IsPart (whole s : Sent) : Type 0 where
   year : SameYear whole s
   codes : SameCodes whole s
 
-parts-of : (whole : Sent) (parts : List Sent) → Each IsApplied parts → Each WasCarriedOut parts → Each (SameState whole) parts
-    → Each (SameYear whole) parts → Each (SameCodes whole) parts → Each (IsPart whole) parts
-parts-of whole [] i t a b c = tt
-parts-of whole (s ∷ rest) i t a b c = (
+all-parts : (whole : Sent) (parts : List Sent) → EachSent IsApplied parts → EachSent WasCarriedOut parts → EachSent (SameState whole) parts
+    → EachSent (SameYear whole) parts → EachSent (SameCodes whole) parts → EachSent (IsPart whole) parts
+all-parts whole [] i t a b c = tt
+all-parts whole (s ∷ rest) i t a b c = (
   record { is = i .0; carried = t .0; state = a .0; year = b .0; codes = c .0 },
-  parts-of whole rest (i .1) (t .1) (a .1) (b .1) (c .1),
+  all-parts whole rest (i .1) (t .1) (a .1) (b .1) (c .1),
 )
 
 -- the first of them and the others
@@ -78,8 +78,9 @@ joined-few : (key : List ℕ) (parts : List Sent) → oneIfAny (detailsUnder key
 unfolding joinedDetails batchesWith detailsUnder
 joined-few key [] = omega arith
 joined-few key (s ∷ rest) =
-    rw (under-append key (detailsSent s) (joinedDetails rest))
-    (omega (arith, one-append (detailsUnder key (detailsSent s)) (detailsUnder key (joinedDetails rest)), joined-few key rest))
+    let both = ap (λ (z : List (List ℕ)). oneIfAny (detailsUnder key z)) (details-more s rest) in
+    let apart = ap oneIfAny (under-append key (detailsSent s) (joinedDetails rest)) in
+    omega (arith, one-append (detailsUnder key (detailsSent s)) (detailsUnder key (joinedDetails rest)), joined-few key rest)
 
 module _ (whole : Sent) (details : List (List ℕ)) where
   -- the whole's settings, were these its details
@@ -108,7 +109,7 @@ module _ (whole : Sent) (details : List (List ℕ)) where
     master-is : lastMaster master parts ≡ counted (finalRows settings (master .rows) (joinedDetails parts))
     verdicts-are : joinedVerdicts parts ≡ verdictsOn settings (master .rows) (joinedDetails parts)
 
-  walk : (before : List (List ℕ)) (master : Master) (parts : List Sent) → Each (IsPart whole) parts → OneBehindTheOther master parts
+  walk : (before : List (List ℕ)) (master : Master) (parts : List Sent) → EachSent (IsPart whole) parts → OneBehindTheOther master parts
       → master .count ≡ length (master .rows) → before ++ joinedDetails parts ≡ details → Few before parts
       → Reached master parts
   unfolding finalRows verdictsOn joinedDetails joinedVerdicts batchesWith
@@ -134,7 +135,8 @@ module _ (whole : Sent) (details : List (List ℕ)) where
             ∙ ap (λ (z : List (List ℕ)). counted (finalRows settings z behind)) rows-left
             ∙ ap counted (sym (final-append settings (master .rows) own behind));
         verdicts-are =
-            ap₂ (λ (x y : List Judgement). x ++ y) said
+            verdicts-more s rest
+            ∙ ap₂ (λ (x y : List Judgement). x ++ y) said
             (on .verdicts-are ∙ ap (λ (z : List (List ℕ)). verdictsOn settings z behind) rows-left)
             ∙ sym (verdicts-append settings (master .rows) own behind);
       }
@@ -154,7 +156,7 @@ several whole parts iw ip tw tp a b c o e f =
     let rows : List (List ℕ) = rowsFound whole in
     let own : List (List ℕ) = detailsSent whole in
     let w : Reached whole own (masterFound whole) parts =
-    walk whole own [] (masterFound whole) parts (parts-of whole parts ip tp a b c) o
+    walk whole own [] (masterFound whole) parts (all-parts whole parts ip tp a b c) o
     (sym (length-blocks 200 (whole .call .rows) (whole .call .master))) e (λ key k h. let n = f key k (rw e h) in omega arith) in
     record {
       master =

@@ -1,2 +1,3 @@
 pub mod TwoBatches
 pub mod Several
+pub mod TwoIntoOne

@@ -40,9 +40,9 @@ abbrev pub SameCodes : Sent → Sent → Type 0
 SameCodes s t = s .call .locals ≡ t .call .locals
 
 -- of each batch of a list
-abbrev pub Each : (Sent → Type 0) → List Sent → Type 0
-Each P [] = Unit {0}
-Each P (s ∷ rest) = P s × Each P rest
+abbrev pub EachSent : (Sent → Type 0) → List Sent → Type 0
+EachSent P [] = Unit {0}
+EachSent P (s ∷ rest) = P s × EachSent P rest
 
 -- ---- one behind the other
 
@@ -117,12 +117,12 @@ abbrev pub Several : Type 0
 Several =
     (whole : Sent) (parts : List Sent)
     → IsApplied whole
-    → Each IsApplied parts
+    → EachSent IsApplied parts
     → WasCarriedOut whole
-    → Each WasCarriedOut parts
-    → Each (SameState whole) parts
-    → Each (SameYear whole) parts
-    → Each (SameCodes whole) parts
+    → EachSent WasCarriedOut parts
+    → EachSent (SameState whole) parts
+    → EachSent (SameYear whole) parts
+    → EachSent (SameCodes whole) parts
     → OneBehindTheOther (masterFound whole) parts
     → joinedDetails parts ≡ detailsSent whole
     → NoBInTwo parts

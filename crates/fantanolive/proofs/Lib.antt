@@ -7,3 +7,4 @@ pub mod LookupCallsLaws
 pub mod TotallingCallsLaws
 pub mod RecordsCallsLaws
 pub mod PagesCallsLaws
+pub mod MergingCallsLaws

@@ -4,6 +4,7 @@ pub mod codepage_calls;
 pub mod contacts_calls;
 pub mod journal_calls;
 pub mod lookup_calls;
+pub mod merging_calls;
 pub mod pages_calls;
 pub mod posting_calls;
 pub mod records_calls;

@@ -1,4 +1,4 @@
--- Each premise of `Several` is needed: the examples' calls and what they leave are computed. Assumes nothing.
+-- Premises of `Several` that are needed: the examples' calls and what they leave are computed. Assumes nothing.
 use Prim.Native.Nat.{ℕ, _+_, _≤_}
 use mathlib.Core.Path.{_≡_, refl, sym, ap, _∙_}
 use mathlib.Core.Bool.{Bool, true, false, cond, false≢true}
@@ -43,7 +43,7 @@ use Rattle.reporting.specs.Counts.{howMany, countsOf, controlRecord}
 use Rattle.batch.specs.Refusals.{refusal1, refusal2, refusal9, refusal10, refusal11, spaceRefusal, applyRefusal}
 use Rattle.batch.specs.Apply.{carriedOut, applyOutcome}
 use Rattle.effects.specs.TwoBatches.{readVerdicts}
-use Rattle.effects.specs.Several.{Sent, WasCarriedOut, SameState, Each, Master, masterFound, masterLeft, OneBehindTheOther, detailsSent, joinedDetails, verdictsSent, joinedVerdicts, anyB, anyRecord, batchesWith, NoBInTwo}
+use Rattle.effects.specs.Several.{Sent, WasCarriedOut, SameState, EachSent, Master, masterFound, masterLeft, OneBehindTheOther, detailsSent, joinedDetails, verdictsSent, joinedVerdicts, anyB, anyRecord, batchesWith, NoBInTwo}
 use Rattle.premises.specs.Premises.{batchOf, callWith, sent, sentTo, deletes, renames, together, deletesAlone, renamesAlone, addsTwice, adds, addsAgain, addsNowhere, amends, alabama, pays, relocates, amendsNothing, PremisesNeeded}
 
 -- ---- the proviso where it holds
@@ -58,11 +58,11 @@ few-alone s key k b = go (anyRecord (detailsUnder key (detailsSent s)))
     go false = omega arith
 
 -- without a B record no key has one
-none-under : (key : List ℕ) (recs : List (List ℕ)) → anyB recs ≡ false → anyB (detailsUnder key recs) ≡ false
+no-b-under : (key : List ℕ) (recs : List (List ℕ)) → anyB recs ≡ false → anyB (detailsUnder key recs) ≡ false
 unfolding anyB detailsUnder
-none-under key [] e = refl
-none-under key (rec ∷ recs) e =
-    go (isUnder key rec) (or-left (isType B rec) (anyB recs) e) (none-under key recs (or-right (isType B rec) (anyB recs) e))
+no-b-under key [] e = refl
+no-b-under key (rec ∷ recs) e =
+    go (isUnder key rec) (or-left (isType B rec) (anyB recs) e) (no-b-under key recs (or-right (isType B rec) (anyB recs) e))
   where
     go : (t : Bool) → isType B rec ≡ false → anyB (detailsUnder key recs) ≡ false
         → anyB (cond t (rec ∷ detailsUnder key recs) (detailsUnder key recs)) ≡ false
@@ -70,14 +70,14 @@ none-under key (rec ∷ recs) e =
     go false b h = h
 
 few-without : (parts : List Sent) → anyB (joinedDetails parts) ≡ false → NoBInTwo parts
-few-without parts e key k b = absurd (false≢true (sym (none-under key (joinedDetails parts) e) ∙ b))
+few-without parts e key k b = absurd (false≢true (sym (no-b-under key (joinedDetails parts) e) ∙ b))
 
 -- ---- the conclusion where it fails
 
 -- how many codes the first verdict has
-abbrev firstCodes : List Judgement → ℕ
-firstCodes [] = 0
-firstCodes (v ∷ vs) = length (v .codes)
+abbrev firstVerdictCodes : List Judgement → ℕ
+firstVerdictCodes [] = 0
+firstVerdictCodes (v ∷ vs) = length (v .codes)
 
 abbrev stateOf : Sent → List ℕ
 stateOf s = submittingState (s .call .batch)
@@ -85,15 +85,15 @@ stateOf s = submittingState (s .call .batch)
 -- what the calls leave, so far as it is wanted: two batches for one
 record Computed : Type 0 where
   together-done : WasCarriedOut together
-  apart-done : Each WasCarriedOut (deletesAlone ∷ renamesAlone ∷ [])
+  apart-done : EachSent WasCarriedOut (deletesAlone ∷ renamesAlone ∷ [])
   together-state : stateOf together ≡ ohio
   deletes-state : stateOf deletesAlone ≡ ohio
   renames-state : stateOf renamesAlone ≡ ohio
   apart-masters : OneBehindTheOther (masterFound together) (deletesAlone ∷ renamesAlone ∷ [])
   apart-details : joinedDetails (deletesAlone ∷ renamesAlone ∷ []) ≡ detailsSent together
-  apart-codes : firstCodes (joinedVerdicts (deletesAlone ∷ renamesAlone ∷ [])) ≡ 1
-  together-codes : firstCodes (verdictsSent together) ≡ 0
-  adds-done : Each WasCarriedOut (adds ∷ addsAgain ∷ [])
+  apart-codes : firstVerdictCodes (joinedVerdicts (deletesAlone ∷ renamesAlone ∷ [])) ≡ 1
+  together-codes : firstVerdictCodes (verdictsSent together) ≡ 0
+  adds-done : EachSent WasCarriedOut (adds ∷ addsAgain ∷ [])
   twice-state : stateOf addsTwice ≡ ohio
   adds-state : stateOf adds ≡ ohio
   again-state : stateOf addsAgain ≡ ohio
@@ -111,27 +111,27 @@ record Computed : Type 0 where
   ohio-done : WasCarriedOut (amends ohio)
   alabama-done : WasCarriedOut (amends alabama)
   amends-details : joinedDetails (amends alabama ∷ []) ≡ detailsSent (amends ohio)
-  alabama-codes : firstCodes (joinedVerdicts (amends alabama ∷ [])) ≡ 1
-  ohio-codes : firstCodes (verdictsSent (amends ohio)) ≡ 0
+  alabama-codes : firstVerdictCodes (joinedVerdicts (amends alabama ∷ [])) ≡ 1
+  ohio-codes : firstVerdictCodes (verdictsSent (amends ohio)) ≡ 0
   paid-done : WasCarriedOut (pays 2008)
   unpaid-done : WasCarriedOut (pays 2007)
   paid-state : stateOf (pays 2008) ≡ ohio
   unpaid-state : stateOf (pays 2007) ≡ ohio
   pays-details : joinedDetails (pays 2007 ∷ []) ≡ detailsSent (pays 2008)
-  unpaid-codes : firstCodes (joinedVerdicts (pays 2007 ∷ [])) ≡ 1
-  paid-codes : firstCodes (verdictsSent (pays 2008)) ≡ 0
+  unpaid-codes : firstVerdictCodes (joinedVerdicts (pays 2007 ∷ [])) ≡ 1
+  paid-codes : firstVerdictCodes (verdictsSent (pays 2008)) ≡ 0
   listed-done : WasCarriedOut (relocates (digitField 3 1))
   unlisted-done : WasCarriedOut (relocates [])
   listed-state : stateOf (relocates (digitField 3 1)) ≡ ohio
   unlisted-state : stateOf (relocates []) ≡ ohio
   relocates-details : joinedDetails (relocates [] ∷ []) ≡ detailsSent (relocates (digitField 3 1))
-  unlisted-codes : firstCodes (joinedVerdicts (relocates [] ∷ [])) ≡ 1
-  listed-codes : firstCodes (verdictsSent (relocates (digitField 3 1))) ≡ 0
+  unlisted-codes : firstVerdictCodes (joinedVerdicts (relocates [] ∷ [])) ≡ 1
+  listed-codes : firstVerdictCodes (verdictsSent (relocates (digitField 3 1))) ≡ 0
   nothing-done : WasCarriedOut amendsNothing
   ohio-state : stateOf (amends ohio) ≡ ohio
   nothing-state : stateOf amendsNothing ≡ ohio
   nothing-details : joinedDetails (amendsNothing ∷ []) ≡ detailsSent (amends ohio)
-  nothing-codes : firstCodes (joinedVerdicts (amendsNothing ∷ [])) ≡ 1
+  nothing-codes : firstVerdictCodes (joinedVerdicts (amendsNothing ∷ [])) ≡ 1
 
 computed : Computed
 unfolding
@@ -201,8 +201,8 @@ computed =
     }
 
 -- two lists of verdicts, the first of which have a code and none
-codes-differ : (xs ys : List Judgement) → firstCodes xs ≡ 1 → firstCodes ys ≡ 0 → xs ≡ ys → ⊥
-codes-differ xs ys a b e = let c = ap firstCodes e in omega arith
+codes-differ : (xs ys : List Judgement) → firstVerdictCodes xs ≡ 1 → firstVerdictCodes ys ≡ 0 → xs ≡ ys → ⊥
+codes-differ xs ys a b e = let c = ap firstVerdictCodes e in omega arith
 
 counts-differ : (m n : Master) (a b : ℕ) → m .count ≡ a → n .count ≡ b → (a ≡ b → ⊥) → m ≡ n → ⊥
 counts-differ m n a b ea eb d e = d (sym ea ∙ ap (λ (z : Master). z .count) e ∙ eb)

@@ -12,7 +12,7 @@ use Rattle.control.specs.Totals.{countOf, amountOf}
 use Rattle.control.specs.Stated.{totalsRecord}
 use Rattle.batch.specs.Call.{Call}
 use Rattle.batch.specs.Apply.{applyOutcome}
-use Rattle.effects.specs.Several.{Sent, IsApplied, WasCarriedOut, SameState, SameYear, SameCodes, Each, masterFound, OneBehindTheOther, detailsSent, joinedDetails, NoBInTwo, SameAsWhole}
+use Rattle.effects.specs.Several.{Sent, IsApplied, WasCarriedOut, SameState, SameYear, SameCodes, EachSent, masterFound, OneBehindTheOther, detailsSent, joinedDetails, NoBInTwo, SameAsWhole}
 
 -- ---- the claim without a premise
 
@@ -21,12 +21,12 @@ abbrev pub WithoutProviso : Type 0
 WithoutProviso =
     (whole : Sent) (parts : List Sent)
     → IsApplied whole
-    → Each IsApplied parts
+    → EachSent IsApplied parts
     → WasCarriedOut whole
-    → Each WasCarriedOut parts
-    → Each (SameState whole) parts
-    → Each (SameYear whole) parts
-    → Each (SameCodes whole) parts
+    → EachSent WasCarriedOut parts
+    → EachSent (SameState whole) parts
+    → EachSent (SameYear whole) parts
+    → EachSent (SameCodes whole) parts
     → OneBehindTheOther (masterFound whole) parts
     → joinedDetails parts ≡ detailsSent whole
     → SameAsWhole whole parts
@@ -36,11 +36,11 @@ abbrev pub WithoutWholeCarriedOut : Type 0
 WithoutWholeCarriedOut =
     (whole : Sent) (parts : List Sent)
     → IsApplied whole
-    → Each IsApplied parts
-    → Each WasCarriedOut parts
-    → Each (SameState whole) parts
-    → Each (SameYear whole) parts
-    → Each (SameCodes whole) parts
+    → EachSent IsApplied parts
+    → EachSent WasCarriedOut parts
+    → EachSent (SameState whole) parts
+    → EachSent (SameYear whole) parts
+    → EachSent (SameCodes whole) parts
     → OneBehindTheOther (masterFound whole) parts
     → joinedDetails parts ≡ detailsSent whole
     → NoBInTwo parts
@@ -51,11 +51,11 @@ abbrev pub WithoutPartsCarriedOut : Type 0
 WithoutPartsCarriedOut =
     (whole : Sent) (parts : List Sent)
     → IsApplied whole
-    → Each IsApplied parts
+    → EachSent IsApplied parts
     → WasCarriedOut whole
-    → Each (SameState whole) parts
-    → Each (SameYear whole) parts
-    → Each (SameCodes whole) parts
+    → EachSent (SameState whole) parts
+    → EachSent (SameYear whole) parts
+    → EachSent (SameCodes whole) parts
     → OneBehindTheOther (masterFound whole) parts
     → joinedDetails parts ≡ detailsSent whole
     → NoBInTwo parts
@@ -66,11 +66,11 @@ abbrev pub WithoutState : Type 0
 WithoutState =
     (whole : Sent) (parts : List Sent)
     → IsApplied whole
-    → Each IsApplied parts
+    → EachSent IsApplied parts
     → WasCarriedOut whole
-    → Each WasCarriedOut parts
-    → Each (SameYear whole) parts
-    → Each (SameCodes whole) parts
+    → EachSent WasCarriedOut parts
+    → EachSent (SameYear whole) parts
+    → EachSent (SameCodes whole) parts
     → OneBehindTheOther (masterFound whole) parts
     → joinedDetails parts ≡ detailsSent whole
     → NoBInTwo parts
@@ -81,11 +81,11 @@ abbrev pub WithoutYear : Type 0
 WithoutYear =
     (whole : Sent) (parts : List Sent)
     → IsApplied whole
-    → Each IsApplied parts
+    → EachSent IsApplied parts
     → WasCarriedOut whole
-    → Each WasCarriedOut parts
-    → Each (SameState whole) parts
-    → Each (SameCodes whole) parts
+    → EachSent WasCarriedOut parts
+    → EachSent (SameState whole) parts
+    → EachSent (SameCodes whole) parts
     → OneBehindTheOther (masterFound whole) parts
     → joinedDetails parts ≡ detailsSent whole
     → NoBInTwo parts
@@ -96,11 +96,11 @@ abbrev pub WithoutCodes : Type 0
 WithoutCodes =
     (whole : Sent) (parts : List Sent)
     → IsApplied whole
-    → Each IsApplied parts
+    → EachSent IsApplied parts
     → WasCarriedOut whole
-    → Each WasCarriedOut parts
-    → Each (SameState whole) parts
-    → Each (SameYear whole) parts
+    → EachSent WasCarriedOut parts
+    → EachSent (SameState whole) parts
+    → EachSent (SameYear whole) parts
     → OneBehindTheOther (masterFound whole) parts
     → joinedDetails parts ≡ detailsSent whole
     → NoBInTwo parts
@@ -111,12 +111,12 @@ abbrev pub WithoutMasters : Type 0
 WithoutMasters =
     (whole : Sent) (parts : List Sent)
     → IsApplied whole
-    → Each IsApplied parts
+    → EachSent IsApplied parts
     → WasCarriedOut whole
-    → Each WasCarriedOut parts
-    → Each (SameState whole) parts
-    → Each (SameYear whole) parts
-    → Each (SameCodes whole) parts
+    → EachSent WasCarriedOut parts
+    → EachSent (SameState whole) parts
+    → EachSent (SameYear whole) parts
+    → EachSent (SameCodes whole) parts
     → joinedDetails parts ≡ detailsSent whole
     → NoBInTwo parts
     → SameAsWhole whole parts

@@ -2,6 +2,7 @@
 
 use crate::journal;
 use crate::many;
+use crate::merge;
 use crate::pages;
 use crate::totals;
 
@@ -12,6 +13,7 @@ const REQUESTS: &[Measured] = &[
     // A line each.
     journal::measured,
     many::measured,
+    merge::measured,
     pages::measured,
     totals::measured,
 ];

@@ -12,6 +12,7 @@ mod input;
 mod journal;
 mod later;
 mod many;
+mod merge;
 mod once;
 mod pages;
 mod posting;

@@ -12,6 +12,7 @@ use crate::convert::BYTES;
 use crate::input::{adds, changes, falling, lookup, renames, scattered, Input, MOST, STATE};
 use crate::journal;
 use crate::many;
+use crate::merge;
 use crate::pages;
 use crate::totals;
 use crate::{run, Buffers};
@@ -52,6 +53,7 @@ pub fn once(case: &str, engine: &str) {
         "take-back-19660-adds" => journal::once_take_back(&adds(case, 45_875, 19_660, false)),
         "find-10-keys" => many::once(10),
         "find-65535-keys" => many::once(MOST),
+        "merge" => merge::once(),
         "pages" => pages::once(),
         "totals" => totals::once(),
         "100-changes" => apply(&changes(case, MOST, 100), speed),

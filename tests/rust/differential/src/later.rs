@@ -6,8 +6,10 @@ use std::process::ExitCode;
 
 use generator::rng::{mix, Rng};
 
+use crate::run::chained;
 use crate::run::journal;
 use crate::run::many;
+use crate::run::merge;
 use crate::run::pages;
 use crate::run::records_to;
 use crate::run::several;
@@ -18,6 +20,8 @@ const RUNS: &[Run] = &[
     journal::TAKE_BACK,
     journal::THERE_AND_BACK,
     many::FIND_MANY,
+    merge::MERGE,
+    chained::MERGED,
     pages::PAGES,
     records_to::RECORDS_TO,
     several::SEVERAL,

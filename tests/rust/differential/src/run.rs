@@ -1,8 +1,10 @@
 //! Runs one case on both sides and compares the number answered, the results and every byte lent.
 
+pub mod chained;
 mod contacts;
 pub mod journal;
 pub mod many;
+pub mod merge;
 pub mod pages;
 mod posting;
 pub mod records_to;

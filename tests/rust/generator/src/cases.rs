@@ -340,7 +340,7 @@ pub fn damage_rows(rng: &mut Rng, master: &mut [u8], rows: usize) {
     }
 }
 
-fn damage_batch_length(rng: &mut Rng, batch: &mut Vec<u8>) {
+pub fn damage_batch_length(rng: &mut Rng, batch: &mut Vec<u8>) {
     match rng.below(5) {
         0 => batch.clear(),
         1 => {
@@ -365,7 +365,7 @@ fn last_record(batch: &mut [u8]) -> Option<&mut [u8]> {
 }
 
 /// Damages one part of the control record, two or all three, or writes another state of the table.
-fn damage_control(rng: &mut Rng, batch: &mut [u8]) {
+pub fn damage_control(rng: &mut Rng, batch: &mut [u8]) {
     let Some(record) = last_record(batch) else {
         return;
     };
@@ -412,7 +412,7 @@ fn damage_rest(rng: &mut Rng, record: &mut [u8]) {
 }
 
 /// Changes one of `fields` totals of a width, the first at a column.
-fn damage_totals(rng: &mut Rng, batch: &mut [u8], column: usize, width: usize, fields: usize) {
+pub fn damage_totals(rng: &mut Rng, batch: &mut [u8], column: usize, width: usize, fields: usize) {
     let Some(record) = last_record(batch) else {
         return;
     };

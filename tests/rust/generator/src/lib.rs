@@ -7,6 +7,7 @@ pub mod crowd;
 pub mod files;
 pub mod journal;
 pub mod many;
+pub mod merge;
 pub mod pages;
 pub mod posting;
 pub mod records;

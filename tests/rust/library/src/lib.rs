@@ -3,12 +3,14 @@
 
 mod journal;
 mod many;
+mod merge;
 mod pages;
 mod records_to;
 mod totals;
 
 pub use journal::{apply_journaled, take_back};
 pub use many::find_many;
+pub use merge::merge;
 pub use pages::pages;
 pub use records_to::records_to;
 pub use totals::totals;

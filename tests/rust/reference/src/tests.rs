@@ -5,6 +5,7 @@ mod control;
 mod exclusions;
 mod journal;
 mod many;
+mod merge;
 mod names;
 mod pages;
 mod posting;

@@ -1,0 +1,4 @@
+pub mod CopyLaws
+pub mod MergeLaws
+pub mod TheoremProof
+pub mod ExamplesProof
