@@ -10,7 +10,7 @@ use Rattle.casemaster.specs.Row.{rowKey}
 use Rattle.casemaster.specs.Rows.{rowWith}
 use Rattle.journal.specs.Numbers.{numberBytes, Read, unread, read, readNumber}
 
--- a place after the batch and the old row there, or none where the row is new
+-- a place after the batch and the row that its key had before, or none where the row is new
 pub record Entry : Type 0 where
   pub place : ℕ
   pub old : Option (List ℕ)

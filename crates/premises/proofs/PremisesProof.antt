@@ -210,7 +210,7 @@ counts-differ m n a b ea eb d e = d (sym ea ∙ ap (λ (z : Master). z .count) e
 same-state : (s t : Sent) → stateOf s ≡ ohio → stateOf t ≡ ohio → SameState s t
 same-state s t a b = a ∙ sym b
 
--- ---- each premise is needed
+-- ---- these premises are needed
 
 pub premises-needed : PremisesNeeded
 unfolding sent callWith sentTo together deletesAlone renamesAlone addsTwice adds addsAgain addsNowhere amends pays relocates amendsNothing

@@ -213,7 +213,7 @@ relocates codes = sent liveRow 1 ohio 2007 codes (placed 3 5 (digitField 3 1) (b
 unfoldable pub amendsNothing : Sent
 amendsNothing = sentTo [] 0 (base M ∷ [])
 
--- ---- each of them is needed
+-- ---- these are needed
 
 pub record PremisesNeeded : Type 0 where
   pub proviso : WithoutProviso → ⊥

@@ -1,1 +1,1 @@
-// Why each premise of a theorem of `effects` is there; there is no code here.
+// Why the premises of a theorem of `effects` are there; there is no code here.

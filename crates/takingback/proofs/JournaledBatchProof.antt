@@ -22,7 +22,7 @@ use Rattle.batch.specs.Apply.{Outcome, IsOutcome, isCarriedOut, callRows, carri
 use Rattle.batch.proofs.ApplyLaws.{outcome-done, outcome-refused}
 use Rattle.journaledapply.specs.Journaled.{JournaledCall, refusal25, journaledRefusal, callJournal, JournaledOutcome, journaledOutcome}
 use Rattle.takingback.specs.TakenBack.{rowsBefore, takenBack, journalLeft}
-use Rattle.takingback.specs.JournaledBatch.{journalWritten, IsDone, EveryJournaledBatch, EveryBuffer, JournalLength, RoomToday, SameAsPlain, DoneAsPlain}
+use Rattle.takingback.specs.JournaledBatch.{journalWritten, IsDone, EveryJournaledBatch, EveryBuffer, JournalLength, EnoughRoom, SameAsPlain, DoneAsPlain}
 use Rattle.takingback.proofs.LeftLaws.{length-over, start-fit, rows-are, before-limit, after-limit, entries-few}
 use Rattle.takingback.proofs.TakenBackProof.{every-batch}
 
@@ -94,8 +94,9 @@ module _ (j : JournaledCall) (o : JournaledOutcome) (d : IsDone j o) where
 
 -- the two calls
 pub every-journaled-batch : EveryJournaledBatch
-every-journaled-batch j o d =
-    ap (takenBack (j .call) (o .outcome)) (written j o d ∙ left j o d) ∙ every-batch (j .call) (o .outcome) (is-outcome j o d) (d .done)
+every-journaled-batch j o d master h =
+    ap (takenBack (j .call) (o .outcome) master) (written j o d ∙ left j o d)
+    ∙ every-batch (j .call) (o .outcome) (is-outcome j o d) (d .done) master h
 
 pub every-buffer : EveryBuffer
 every-buffer j o d room =
@@ -112,9 +113,9 @@ journal-bound j o d k l = bound j o d k l
 few-groups : maxRows < 128 ^ 3
 few-groups = subst (λ (n : ℕ). n < 128 ^ 3) (sym max-rows) (lit< tt)
 
-pub room-today : RoomToday
+pub enough-room : EnoughRoom
 unfolding refusal25
-room-today j o d l =
+enough-room j o d l =
     let r = ltb-false (length (j .journal)) (12 + 204 * detailCount (j .call .batch)) (not-25 j o d) in
     omega (arith, r, bound j o d 2 (omega (arith, l, few-groups)))
 

@@ -2,7 +2,7 @@
 -- Assumes nothing.
 use Prim.Native.Nat.{ℕ, suc, _+_, _*_, _/_, _%_, _≤_}
 use mathlib.Core.Path.{_≡_, refl, sym, ap, _∙_, subst}
-use mathlib.Core.Bool.{true}
+use mathlib.Core.Bool.{true, false}
 use mathlib.Core.List.{List, [], _∷_}
 use mathlib.Core.Option.{Option, none}
 use native.Mathlib.Omega.{arith}
@@ -31,7 +31,7 @@ use Rattle.takeback.specs.Theorem.{AreWide, Follows, IsLeftBy}
 use Rattle.batch.specs.Call.{Call, callSettings}
 use Rattle.batch.specs.Apply.{Outcome, IsOutcome, isCarriedOut, rowCount, callRows, carriedOut}
 use Rattle.batch.proofs.KnownLaws.{Known, carried-known, carried-is}
-use Rattle.takingback.specs.TakenBack.{rowsBefore, rowsAfter}
+use Rattle.takingback.specs.TakenBack.{rowsBefore, rowsAfter, HasRowsLeft}
 
 -- a run that ends without a row began without one
 run-none : (setting : Setting) (o : Option (List ℕ)) (details : List (List ℕ)) → runRow setting o details ≡ none → o ≡ none
@@ -56,11 +56,17 @@ rows-over : (rows : List (List ℕ)) (old : List ℕ) → All IsWide rows → ro
 unfolding over
 rows-over rows old w = blocks-joined 200 rows (drop (length (joined rows)) old) w
 
--- a master that 3 and 4 let pass
-passes : (limit : ℕ) (master : List ℕ) (rows : ℕ) → length master % 200 ≡ 0 → rows ≤ length master / 200 → rows ≤ limit
-    → areSoundRows (rowsOf rows master) ≡ true → masterRefusal limit master rows 0 ≡ 0
-unfolding masterRefusal refusal3 refusal4
-passes limit master rows a b c s = rw (eq-eqb (length master % 200) 0 a, le-ltb (length master / 200) rows b, le-ltb limit rows c, s)
+-- a master that 3 lets pass
+passes-3 : (limit : ℕ) (master : List ℕ) (rows : ℕ) → length master % 200 ≡ 0 → rows ≤ length master / 200 → rows ≤ limit
+    → refusal3 limit master rows ≡ false
+unfolding refusal3
+passes-3 limit master rows a b c = rw (eq-eqb (length master % 200) 0 a, le-ltb (length master / 200) rows b, le-ltb limit rows c)
+
+-- and 4 too
+passes : (limit : ℕ) (master : List ℕ) (rows : ℕ) → refusal3 limit master rows ≡ false → areSoundRows (rowsOf rows master) ≡ true
+    → masterRefusal limit master rows 0 ≡ 0
+unfolding masterRefusal refusal4
+passes limit master rows a s = rw (a, s)
 
 -- each detail makes at most one more entry
 count-after : (settings : Settings) (old rows : List (List ℕ)) (d : List ℕ) → entryCount old (afterDetail settings rows d) ≤ suc (entryCount old rows)
@@ -142,16 +148,21 @@ module _ (c : Call) (o : Outcome) (i : IsOutcome c o) (t : isCarriedOut (o .resu
             (sym (found-final (callSettings c) key (rowsBefore c) (detailsOf (c .batch)) records (start-fit .wide)) ∙ e);
       }
 
-  pub left-by : IsLeftBy (c .limit) (rowsBefore c) (o .master) (rowCount (o .result))
-  left-by =
+  pub own-passes : refusal3 (c .limit) (o .master) (rowCount (o .result)) ≡ false
+  own-passes =
+      passes-3 (c .limit) (o .master) (rowCount (o .result)) (ap (λ (n : ℕ). n % 200) same-length ∙ facts .master-whole)
+      (omega (arith, count-is, few, facts .room, same-length)) (omega (arith, count-is, after-limit))
+
+  pub left-by : (master : List ℕ) → HasRowsLeft c o master → IsLeftBy (c .limit) (rowsBefore c) master (rowCount (o .result))
+  left-by master h =
+      let e : rowsOf (rowCount (o .result)) master ≡ callRows c = h .rows ∙ rows-are in
       record {
         wide = are-wide (rowsBefore c) (start-fit .wide);
         sound = start-fit .sound;
         passed =
-            passes (c .limit) (o .master) (rowCount (o .result)) (ap (λ (n : ℕ). n % 200) same-length ∙ facts .master-whole)
-            (omega (arith, count-is, few, facts .room, same-length)) (omega (arith, count-is, after-limit))
-            (subst (λ (rows : List (List ℕ)). areSoundRows rows ≡ true) (sym rows-are) (end-fit .sound));
-        follows = subst (λ (rows : List (List ℕ)). Follows (rowsBefore c) rows) (sym rows-are) follows;
+            passes (c .limit) master (rowCount (o .result)) (h .passes-3)
+            (subst (λ (rows : List (List ℕ)). areSoundRows rows ≡ true) (sym e) (end-fit .sound));
+        follows = subst (λ (rows : List (List ℕ)). Follows (rowsBefore c) rows) (sym e) follows;
       }
 
   pub count-before : length (rowsBefore c) ≡ c .rows

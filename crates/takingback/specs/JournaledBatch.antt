@@ -9,7 +9,7 @@ use Rattle.layout.specs.Limits.{maxRows}
 use Rattle.layout.specs.Batch.{detailCount}
 use Rattle.batch.specs.Apply.{Outcome, IsOutcome, isCarriedOut}
 use Rattle.journaledapply.specs.Journaled.{JournaledCall, JournaledOutcome, IsJournaled, refusal25, callJournal}
-use Rattle.takingback.specs.TakenBack.{takenBack, asBefore}
+use Rattle.takingback.specs.TakenBack.{HasRowsLeft, takenBack, asBefore}
 
 -- the journal that a call left at the front of its buffer
 abbrev pub journalWritten : JournaledOutcome → List ℕ
@@ -20,10 +20,12 @@ pub record IsDone (j : JournaledCall) (o : JournaledOutcome) : Type 0 where
   pub is : IsJournaled j o
   pub done : isCarriedOut (o .outcome .result) ≡ true
 
--- the bytes that it wrote take it back
+-- the bytes that it wrote take it back, from every master with the rows and the row count that it left. Where the buffer has no room for the
+-- journal, which no call of the code meets, the statement says nothing that could be seen: see `HasRoom` below
 abbrev pub EveryJournaledBatch : Type 0
 EveryJournaledBatch =
-    (j : JournaledCall) (o : JournaledOutcome) → IsDone j o → takenBack (j .call) (o .outcome) (journalWritten o) ≡ asBefore (j .call) (o .outcome)
+    (j : JournaledCall) (o : JournaledOutcome) → IsDone j o → (master : List ℕ) → HasRowsLeft (j .call) (o .outcome) master
+    → takenBack (j .call) (o .outcome) master (journalWritten o) ≡ asBefore (j .call) master
 
 -- ---- the journal's buffer
 
@@ -40,15 +42,15 @@ pub record InBuffer (j : JournaledCall) (o : JournaledOutcome) : Type 0 where
 abbrev pub EveryBuffer : Type 0
 EveryBuffer = (j : JournaledCall) (o : JournaledOutcome) → IsDone j o → HasRoom j → InBuffer j o
 
--- where each row count up to the limit has at most k groups: at most 2 × k + (k + 201) × (details) bytes
+-- where each row count up to the limit has at most k + 1 groups: at most 2 × (k + 1) + (k + 202) × (details) bytes
 abbrev pub JournalLength : Type 0
 JournalLength =
     (j : JournaledCall) (o : JournaledOutcome) → IsDone j o → (k : ℕ) → j .call .limit < 128 ^ suc k
     → length (callJournal (j .call)) ≤ suc k + suc k + (suc k + 201) * detailCount (j .call .batch)
 
--- so 12 + 204 × (details) is room at today's limit
-abbrev pub RoomToday : Type 0
-RoomToday = (j : JournaledCall) (o : JournaledOutcome) → IsDone j o → j .call .limit ≤ maxRows → HasRoom j
+-- so 12 + 204 × (details) is room at the limit of the code
+abbrev pub EnoughRoom : Type 0
+EnoughRoom = (j : JournaledCall) (o : JournaledOutcome) → IsDone j o → j .call .limit ≤ maxRows → HasRoom j
 
 -- ---- beside `apply`
 

@@ -1,12 +1,13 @@
 -- Document 02, item 8: for every batch carried out, taking it back with its journal, from the master it left, gives the old row count and rows;
--- bytes past them are kept, as the batch left them. Over any limit and any buffer: nothing is said of how the journal came there.
+-- bytes past them are kept. Over any limit and any buffer: nothing is said of how the journal came there.
 -- Assumes nothing.
 use Prim.Native.Nat.{ℕ}
 use mathlib.Core.Path.{_≡_}
-use mathlib.Core.Bool.{true}
+use mathlib.Core.Bool.{true, false}
 use mathlib.Core.List.{List}
 use Rattle.text.specs.Blocks.{joined, over}
 use Rattle.casemaster.specs.Master.{rowsOf}
+use Rattle.casemaster.specs.Refusals.{refusal3}
 use Rattle.journal.specs.Journal.{journalOf, journalBytes}
 use Rattle.takeback.specs.TakeBack.{done, TakeBackOutcome, takeBackOutcome}
 use Rattle.batch.specs.Call.{Call}
@@ -23,14 +24,25 @@ rowsAfter o = rowsOf (rowCount (o .result)) (o .master)
 abbrev pub journalLeft : Call → Outcome → List ℕ
 journalLeft c o = journalBytes (journalOf (rowsBefore c) (rowsAfter o))
 
--- taking back with a journal, from the master and the row count that the batch left
-abbrev pub takenBack : Call → Outcome → List ℕ → TakeBackOutcome
-takenBack c o journal = takeBackOutcome (c .limit) (o .master) (rowCount (o .result)) journal
+-- a master with the rows and the row count that the batch left; its buffer may be of another length, if 3 lets it pass, and the bytes behind
+-- the rows may be any
+pub record HasRowsLeft (c : Call) (o : Outcome) (master : List ℕ) : Type 0 where
+  pub rows : rowsOf (rowCount (o .result)) master ≡ rowsAfter o
+  pub passes-3 : refusal3 (c .limit) master (rowCount (o .result)) ≡ false
 
--- carried out, with the old row count and the old rows; the bytes past them are the batch's
-abbrev pub asBefore : Call → Outcome → TakeBackOutcome
-asBefore c o = record { result = done (c .rows); master = over (joined (rowsBefore c)) (o .master) }
+-- taking back with a journal, from such a master
+abbrev pub takenBack : Call → Outcome → List ℕ → List ℕ → TakeBackOutcome
+takenBack c o master journal = takeBackOutcome (c .limit) master (rowCount (o .result)) journal
+
+-- carried out, with the old row count and the old rows; the bytes past them are those of the master handed in
+abbrev pub asBefore : Call → List ℕ → TakeBackOutcome
+asBefore c master = record { result = done (c .rows); master = over (joined (rowsBefore c)) master }
 
 abbrev pub EveryBatch : Type 0
 EveryBatch =
-    (c : Call) (o : Outcome) → IsOutcome c o → isCarriedOut (o .result) ≡ true → takenBack c o (journalLeft c o) ≡ asBefore c o
+    (c : Call) (o : Outcome) → IsOutcome c o → isCarriedOut (o .result) ≡ true → (master : List ℕ) → HasRowsLeft c o master
+    → takenBack c o master (journalLeft c o) ≡ asBefore c master
+
+-- the master that the batch left is such a one
+abbrev pub LeavesRows : Type 0
+LeavesRows = (c : Call) (o : Outcome) → IsOutcome c o → isCarriedOut (o .result) ≡ true → HasRowsLeft c o (o .master)
