@@ -69,9 +69,9 @@ extern "C" {
 
 /* The version of the library that this header goes with, as text and as numbers. CHANGELOG.md says how versions are
  * counted. */
-#define FANTANOLIVE_VERSION "1.9.0"
+#define FANTANOLIVE_VERSION "1.15.0"
 #define FANTANOLIVE_VERSION_MAJOR 1
-#define FANTANOLIVE_VERSION_MINOR 9
+#define FANTANOLIVE_VERSION_MINOR 15
 #define FANTANOLIVE_VERSION_PATCH 0
 
 /* Sizes in bytes of a row of the master, and of a record of a batch, a reject file and a reconciliation file. */

@@ -39,6 +39,13 @@ make_weekly | ebcdic >"$work/inputs/weekly.bin"
 make_contacts | ebcdic >"$work/inputs/contacts.bin"
 : >"$work/inputs/table.bin"
 printf '000123' | ebcdic >"$work/inputs/locals.bin"
+# what a batch leaves, and its journal
+(
+    cd "$work/inputs" || exit 2
+    cp master.bin left.bin
+    "$work/fantanolive" apply left.bin batch.bin --locals locals.bin --year 2007 --rejects left.rejects --journal back.bin >"$out"
+    rm left.rejects left.bin.log
+)
 cp -r "$work/inputs" "$work/start"
 chmod 640 "$work/start/"*
 
@@ -60,15 +67,22 @@ choose() {
         outputs=(rejects.bin master.bin)
         made=rejects.bin
         ;;
+    journal)
+        arguments=(apply master.bin batch.bin --locals locals.bin --year 2007 --rejects rejects.bin --journal journal.bin)
+        outputs=(rejects.bin journal.bin master.bin)
+        made='rejects.bin journal.bin'
+        ;;
+    take-back) arguments=(take-back left.bin back.bin) outputs=(left.bin) clean=0 ;;
     post) arguments=(post master.bin weekly.bin) outputs=(master.bin) ;;
     add-cents) arguments=(add-cents old.bin) outputs=(old.bin) clean=0 ;;
     contacts) arguments=(contacts table.bin contacts.bin --new) outputs=(table.bin) ;;
     reconcile) arguments=(reconcile master.bin --state OH --date 20071231 --out rec.bin) outputs=(rec.bin) made=rec.bin clean=0 ;;
     to-ascii) arguments=(to-ascii batch.bin --out batch.txt) outputs=(batch.txt) made=batch.txt clean=0 ;;
+    split) arguments=(split batch.bin --at 40 --out part) outputs=(part001 part002) made='part001 part002' clean=0 ;;
     esac
     program=("$work/fantanolive" "${arguments[@]}")
 }
-commands='apply post add-cents contacts reconcile to-ascii'
+commands='apply journal take-back post add-cents contacts reconcile to-ascii split'
 
 # Runs a command in $dir.
 run() {
@@ -151,9 +165,10 @@ want_done() {
 
 # The run after: fresh inputs beside what the last run left, but for a file that it made.
 want_next() {
+    local file
     [ -n "$wrong" ] && return
     cp -p "$work/inputs/"* "$dir"
-    [ -z "$made" ] || rm -f "$dir/$made"
+    for file in $made; do rm -f "$dir/$file"; done
     run "${program[@]}"
     want_done
     [ -n "$wrong" ] && wrong="the next run: $wrong"
@@ -182,7 +197,7 @@ for each in $commands; do
     for file in "${outputs[@]}"; do
         sum_of "$dir/$file" && new_sum[$name_of/$file]=$sum
         want "$file" "$([ "$sum" = "${old_sum[$name_of/$file]}" ] && echo unchanged)" ''
-        want "mode of $file" "$(stat -c %a "$dir/$file")" "$([ "$file" = "$made" ] && echo 600 || echo 640)"
+        want "mode of $file" "$(stat -c %a "$dir/$file")" "$([[ " $made " == *" $file "* ]] && echo 600 || echo 640)"
     done
     want_done
     end
@@ -444,6 +459,14 @@ terminals() {
     want colours "$(grep -c "$escape" "$out")" 0
     end
 
+    begin 'pages on a terminal'
+    on_terminal "$work/fantanolive pages master.bin --out - --text"
+    want message "$(grep -c 'pages hold SSNs whole' "$out")" 1
+    want SSNs "$(grep -c '^[A-Z]*[0-9]\{9\}[AN] ' "$out")" 0
+    on_terminal "$work/fantanolive pages master.bin --out - --text --full"
+    want SSNs "$(($(grep -c '^[A-Z]*[0-9]\{9\}[AN] ' "$out") > 0))" 1
+    end
+
     begin 'no terminal'
     run "${program[@]}"
     want colours "$(grep -c "$escape" "$out")" 0
@@ -581,7 +604,8 @@ trace_all() {
     begin "the trace of $name_of"
     case $name_of in
     apply) want order "$order" 'sync sync sync rename rename rename sync report ' ;;
-    post) want order "$order" 'sync sync rename rename sync report ' ;;
+    journal) want order "$order" 'sync sync sync sync rename rename sync rename rename sync report ' ;;
+    post | split | take-back) want order "$order" 'sync sync rename rename sync report ' ;;
     *) want order "$order" 'sync rename sync report ' ;;
     esac
     want changes "$((${#changes[@]} > 8))" 1
@@ -636,7 +660,7 @@ else
     removed_lock
     choose apply
     trace_all ENOSPC EROFS
-    for each in post contacts to-ascii; do
+    for each in journal take-back post contacts to-ascii split; do
         choose "$each"
         trace_all
     done

@@ -32,6 +32,16 @@ impl Arguments {
         Path::new(self.operand(number))
     }
 
+    /// The operands from a number on.
+    pub fn operands_from(&self, number: usize) -> &[OsString] {
+        &self.operands[number..]
+    }
+
+    /// All operands, where all are files.
+    pub fn paths(&self) -> Vec<&Path> {
+        self.operands.iter().map(Path::new).collect()
+    }
+
     pub fn value(&self, name: &str) -> Option<&OsStr> {
         let given = self.options.iter().find(|(option, _)| *option == name);
         given.map(|(_, value)| value.as_os_str())
@@ -78,10 +88,7 @@ impl Arguments {
         let Some(value) = self.value(name) else {
             return Ok(None);
         };
-        let digits = value.to_str().filter(|text| {
-            !text.is_empty() && text.len() < 19 && text.bytes().all(|b| b.is_ascii_digit())
-        });
-        match digits.and_then(|text| text.parse().ok()) {
+        match value.to_str().and_then(number_of) {
             Some(number) => Ok(Some(number)),
             None => Err(self.wrong(format!(
                 "{name} wants a number, not '{}'",
@@ -89,6 +96,27 @@ impl Arguments {
             ))),
         }
     }
+
+    /// The numbers that an option gives, with commas between them.
+    pub fn numbers(&self, name: &str) -> Result<Option<Vec<u64>>, Failure> {
+        let Some(value) = self.value(name) else {
+            return Ok(None);
+        };
+        let list = value.to_str().map(|text| text.split(',').map(number_of));
+        match list.and_then(Iterator::collect) {
+            Some(numbers) => Ok(Some(numbers)),
+            None => Err(self.wrong(format!(
+                "{name} wants numbers with commas between them, not '{}'",
+                value.to_string_lossy()
+            ))),
+        }
+    }
+}
+
+/// The number that digits are.
+fn number_of(text: &str) -> Option<u64> {
+    let is_number = !text.is_empty() && text.len() < 19 && text.bytes().all(|b| b.is_ascii_digit());
+    text.parse().ok().filter(|_| is_number)
 }
 
 fn wrong(command: Option<&'static Command>, message: impl Into<String>) -> Failure {
@@ -220,10 +248,11 @@ fn take_option(
 /// Sees that every operand and every option that is needed is there.
 fn complete(arguments: &Arguments) -> Result<(), Failure> {
     let (command, given) = (arguments.command, arguments.operands.len());
-    if let Some(name) = command.operands.get(given) {
+    if let Some(name) = command.needed_operands().get(given) {
         return Err(arguments.wrong(format!("{name} is missing")));
     }
-    if let Some(extra) = arguments.operands.get(command.operands.len()) {
+    let extra = arguments.operands.get(command.operands.len());
+    if let Some(extra) = extra.filter(|_| !command.takes_several()) {
         let shown = extra.to_string_lossy();
         return Err(arguments.wrong(format!("'{shown}' is one argument too many")));
     }
@@ -241,9 +270,12 @@ fn complete(arguments: &Arguments) -> Result<(), Failure> {
 fn see_standard(arguments: &Arguments) -> Result<(), Failure> {
     let command = arguments.command;
     let is_standard = |place: &&OsString| **place == STANDARD;
-    let operands = command.operands.iter().zip(&arguments.operands);
-    for (name, _) in operands.clone().filter(|(_, given)| is_standard(given)) {
-        if command.kept.contains(name) {
+    let named = |(number, given)| (command.operand(number).unwrap_or_default(), given);
+    let operands = arguments.operands.iter().enumerate().map(named);
+    let options = arguments.options.iter().map(|(name, given)| (*name, given));
+    let all = operands.clone().chain(options);
+    for (name, _) in all.filter(|(_, given)| is_standard(given)) {
+        if command.kept.contains(&name) {
             let what = format!("{name} can't be -: it is no file to be read or written once");
             return Err(arguments.wrong(what));
         }

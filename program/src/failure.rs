@@ -45,7 +45,7 @@ pub const STATUSES: [(Status, &str); 7] = [
         Status::Busy,
         "busy: another run holds the file; --wait SECONDS waits for it",
     ),
-    (Status::NotFound, "not found (find)"),
+    (Status::NotFound, "not found (find, edit)"),
 ];
 
 impl Status {
@@ -84,6 +84,8 @@ pub enum Failure {
         refusal: Refusal,
         notes: Vec<String>,
     },
+    /// The run isn't carried out for reasons that the notes give.
+    Stopped { message: String, notes: Vec<String> },
     /// Standard output takes no more; whether a file was changed before.
     Output { error: io::Error, changed: bool },
 }
@@ -98,7 +100,9 @@ impl Failure {
             Failure::Refused { .. } => Status::Refused,
             Failure::Busy(_) => Status::Busy,
             Failure::Output { changed, .. } => Status::of_lost_report(*changed),
-            Failure::Argument { .. } | Failure::File(_) => Status::Problem,
+            Failure::Argument { .. } | Failure::File(_) | Failure::Stopped { .. } => {
+                Status::Problem
+            }
         }
     }
 

@@ -68,7 +68,8 @@ pub fn of_program() -> String {
              Files are in EBCDIC, without line ends; --ascii is for files in ASCII, but a\n\
              master and a table of contact records are always in EBCDIC. SSNs are printed\n\
              with their last four digits alone unless --full is given. - is standard input\n\
-             or output in the place of any file but a master or a table that is kept.\n\n";
+             or output in the place of any file but a master, or a table or journal that is\n\
+             kept.\n\n";
     text += &statuses(|_| true);
     text
 }

@@ -9,8 +9,9 @@ pub struct Command {
     pub name: &'static str,
     /// What it is for, in a line of the overall help.
     pub purpose: &'static str,
+    /// What must be given; the last one in brackets may be left out, or stand several times.
     pub operands: &'static [&'static str],
-    /// The operands that are masters or tables, which are kept and never `-`.
+    /// The operands that are masters or tables, which are kept, and the options that name files to be kept: never `-`.
     pub kept: &'static [&'static str],
     pub options: &'static [Opt],
     /// The options that name files to be read, and those that name files to be made.
@@ -67,6 +68,11 @@ const LOCALS: Opt = needed(
     "FILE",
     "the list of local codes; an empty file is an empty list",
 );
+const CODES: Opt = optional(
+    "--locals",
+    "FILE",
+    "the list of local codes; without it none is listed",
+);
 const YEAR: Opt = needed("--year", "YYYY", "the current calendar year");
 const NEW: Opt = flag("--new", "start from no file: MASTER is missing or empty");
 const ASCII: Opt = flag(
@@ -89,6 +95,7 @@ const WAIT: Opt = optional(
     "SECONDS",
     "wait so long while another run is at work",
 );
+const DRY_RUN: Opt = flag("--dry-run", "say what would be done, and write nothing");
 const AGAIN: Opt = flag("--again", "do it although the log has it as done before");
 
 /// What commands that write end with.
@@ -113,7 +120,7 @@ pub const COMMANDS: &[Command] = &[
         name: "apply",
         purpose: "judge a batch and apply it to a master",
         operands: &["MASTER", "BATCH"],
-        kept: &["MASTER"],
+        kept: &["MASTER", "--journal"],
         options: &[
             LOCALS,
             YEAR,
@@ -122,6 +129,7 @@ pub const COMMANDS: &[Command] = &[
                 "FILE",
                 "the reject file to make; - is standard output",
             ),
+            optional("--journal", "FILE", "the journal to make, for `take-back`"),
             NEW,
             AGAIN,
             FORCE,
@@ -132,16 +140,17 @@ pub const COMMANDS: &[Command] = &[
             FULL,
         ],
         read: &["--locals"],
-        made: &["--rejects"],
+        made: &["--rejects", "--journal"],
         help: "\
 Judges each record of BATCH, applies the accepted ones to MASTER and writes the
 reject file. Prints the counts, then each record with an error or a warning.
+With --journal it also writes what `take-back` needs to give the old MASTER.
 
-The reject file, a line of MASTER.log, then MASTER are put in place whole: each
-is written under its name with .tmp behind it, then renamed. A run that is
-refused, or cut off before MASTER is renamed, leaves MASTER as it was, and
-`fantanolive log MASTER` says whether a run was carried out. A batch that was
-applied to MASTER before is not applied again without --again.",
+The reject file, the journal, a line of MASTER.log, then MASTER are put in place
+whole: each is written under its name with .tmp behind it, then renamed. A run
+that is refused, or cut off before MASTER is renamed, leaves MASTER as it was,
+and `fantanolive log MASTER` says whether a run was carried out. A batch that
+was applied to MASTER before is not applied again without --again.",
         statuses: WRITES_WITH_REJECTS,
         run: commands::apply::apply,
     },
@@ -158,6 +167,7 @@ applied to MASTER before is not applied again without --again.",
                 "FILE",
                 "taken as apply takes it; nothing is written",
             ),
+            optional("--journal", "FILE", "the same"),
             NEW,
             ASCII,
             JSON,
@@ -177,21 +187,121 @@ mended in which record. No file is written or locked.",
         run: commands::apply::check,
     },
     Command {
-        name: "find",
-        purpose: "find a case in a master",
-        operands: &["MASTER", "KEY"],
-        kept: &["MASTER"],
-        options: &[JSON, FULL],
+        name: "split",
+        purpose: "cut a batch into parts that do what it does",
+        operands: &["BATCH"],
+        kept: &[],
+        options: &[
+            optional(
+                "--at",
+                "N,..",
+                "cut behind these records, the first being 1",
+            ),
+            optional("--records", "N", "cut into parts of at most N records"),
+            needed("--out", "PREFIX", "name the parts PREFIX001, PREFIX002, .."),
+            FORCE,
+            MODE,
+            WAIT,
+            flag("--ascii", "BATCH and the parts are in ASCII"),
+            JSON,
+            FULL,
+        ],
         read: &[],
+        made: &[],
+        help: "\
+Cuts BATCH into parts, each with its control record. Applied one behind the
+other, with the same list and year, the parts leave the rows and give the
+verdicts that BATCH does where all are carried out. So that this holds, all
+records of a key that has a B go into one part: --at is refused elsewhere, with
+the keys that stop it, and --records cuts earlier. BATCH must have a control
+record that is right. There are at most 999 parts.",
+        statuses: WRITES,
+        run: commands::split::run,
+    },
+    Command {
+        name: "merge",
+        purpose: "merge two batches of a state, or more, into one",
+        operands: &["FIRST", "SECOND", "[MORE ..]"],
+        kept: &[],
+        options: &[
+            OUT,
+            flag(
+                "--anyway",
+                "merge although a key with a B is in several files",
+            ),
+            FORCE,
+            MODE,
+            WAIT,
+            flag("--ascii", "the batches and the merged one are in ASCII"),
+            JSON,
+            FULL,
+        ],
+        read: &[],
+        made: &["--out"],
+        help: "\
+Writes one batch: the details of FIRST, those of SECOND and so on, and a control
+record with the sums of their totals. Applied, it leaves the rows and gives the
+verdicts that the batches give one behind the other, with the same list and
+year, where all are carried out and no key with a B has records in two of them.
+Where one has, nothing is written without --anyway.",
+        statuses: WRITES,
+        run: commands::merge::run,
+    },
+    Command {
+        name: "take-back",
+        purpose: "take a batch back with its journal",
+        operands: &["MASTER", "JOURNAL"],
+        kept: &["MASTER"],
+        options: &[
+            DRY_RUN,
+            flag(
+                "--anyway",
+                "do it although the log has another run on MASTER since",
+            ),
+            WAIT,
+            JSON,
+            FULL,
+        ],
+        read: &[],
+        made: &[],
+        help: "\
+Gives the rows that MASTER had before a batch, from the MASTER that the batch
+left and the JOURNAL that `apply --journal` wrote, and replaces MASTER whole,
+with a line in MASTER.log. Prints the row counts, then each row that is changed
+back, with its fields, and each row that is taken out, by their places in MASTER
+before that.
+
+A journal that doesn't fit MASTER is refused (26). Where the log has MASTER as
+left by another run than the one that wrote JOURNAL, a posting say, nothing is
+taken back without --anyway: what that run changed in the batch's rows would be
+lost.",
+        statuses: WRITES,
+        run: commands::take_back::run,
+    },
+    Command {
+        name: "find",
+        purpose: "find cases in a master",
+        operands: &["MASTER", "[KEY ..]"],
+        kept: &["MASTER"],
+        options: &[
+            optional("--keys", "FILE", "a file with a key in each line, in ASCII"),
+            JSON,
+            FULL,
+        ],
+        read: &["--keys"],
         made: &[],
         help: "\
 Prints the row with this key, the first row being 1, and its fields. A deleted
 row (status D) is found like a live one.
 
-KEY is state, SSN and case type (A or N), twelve characters: OH123456789N. With
-- in its place the keys are read from standard input, one in a line, and every
-one is answered, so that no SSN stands in the list of processes or the shell's
-history. The status is then 6 where one isn't found, 2 where one is no key.",
+KEY is state, SSN and case type (A or N), twelve characters: OH123456789N. Of
+several keys, in any order, every one is answered, in the order given; they are
+looked up together, in one walk over MASTER. The status is then 6 where one
+isn't found, 2 where one is no key.
+
+With --keys the keys are read from FILE, one in a line; - in the place of KEY or
+FILE is standard input. So no SSN stands in the list of processes or the shell's
+history.",
         statuses: &[
             Status::Done,
             Status::Refused,
@@ -199,6 +309,79 @@ history. The status is then 6 where one isn't found, 2 where one is no key.",
             Status::NotFound,
         ],
         run: commands::find::run,
+    },
+    Command {
+        name: "edit",
+        purpose: "write the batch that leads a case to wanted values",
+        operands: &["MASTER", "KEY"],
+        kept: &["MASTER"],
+        options: &[
+            optional("--case-id", "ID", "the case ID, at most 15 characters"),
+            optional(
+                "--local-code",
+                "NNN",
+                "the local code: 000, or one of the list",
+            ),
+            optional(
+                "--exclusions",
+                "WORDS",
+                "all exclusions, commas between; '' for none",
+            ),
+            optional("--amount", "N", "the arrearage in whole dollars; 0 deletes"),
+            CODES,
+            OUT,
+            FORCE,
+            MODE,
+            WAIT,
+            flag("--ascii", "the list and the batch are in ASCII"),
+            JSON,
+            FULL,
+        ],
+        read: &["--locals"],
+        made: &["--out"],
+        help: "\
+Writes a batch that, applied to MASTER with the same list, gives the case the
+values that the options name and leaves all else: C, L, R and M records, each
+only where its value differs, and the control record. MASTER isn't changed. What
+no such records can do is refused (29): names, addresses, a case that is
+deleted, a blank case ID, a code that isn't in the list.
+
+KEY is state, SSN and case type, as for `find`; with - in its place it is read
+from standard input.",
+        statuses: &[
+            Status::Done,
+            Status::Refused,
+            Status::Problem,
+            Status::Unreported,
+            Status::Busy,
+            Status::NotFound,
+        ],
+        run: commands::edit::run,
+    },
+    Command {
+        name: "records",
+        purpose: "write the records that lead from a row to a wanted row",
+        operands: &["ROW-FILE", "WANTED-FILE"],
+        kept: &[],
+        options: &[
+            CODES,
+            OUT,
+            FORCE,
+            MODE,
+            WAIT,
+            flag("--ascii", "the list and the records are in ASCII"),
+            JSON,
+            FULL,
+        ],
+        read: &["--locals"],
+        made: &["--out"],
+        help: "\
+Writes the C, L, R and M records that lead from the row in ROW-FILE to the one
+in WANTED-FILE, 200 bytes each as in a master, or says that there are none (29).
+They are details; with a control record behind them they are a batch, which
+`edit` writes.",
+        statuses: WRITES,
+        run: commands::records::run,
     },
     Command {
         name: "reconcile",
@@ -223,12 +406,41 @@ Writes a REC record for each live row of the state, and the RCT record.",
         run: commands::reconcile::run,
     },
     Command {
+        name: "pages",
+        purpose: "write the live cases of a master in pages, to be printed",
+        operands: &["MASTER"],
+        kept: &["MASTER"],
+        options: &[
+            OUT,
+            flag("--text", "write ASCII with line ends and form feeds"),
+            FORCE,
+            MODE,
+            WAIT,
+            JSON,
+            FULL,
+        ],
+        read: &[],
+        made: &["--out"],
+        help: "\
+Writes a line for each live row of MASTER, whatever its state, in order of key:
+key, local code, last name, first name, dollars and how many exclusions it has.
+A page has 58 of them, the last one perhaps fewer, between a heading with the
+page's number and a foot with the number of its lines.
+
+FILE is in EBCDIC, 132 columns a line and no line ends. With --text it is in
+ASCII, with a line feed behind each line and a form feed behind each page, as a
+printer takes it; a byte that is no character is a full stop there. The lines
+hold SSNs whole, so standard output can't be a terminal without --full.",
+        statuses: WRITES,
+        run: commands::pages::run,
+    },
+    Command {
         name: "post",
         purpose: "post a weekly collection file to a master",
         operands: &["MASTER", "FILE"],
         kept: &["MASTER"],
         options: &[
-            flag("--dry-run", "say what would be posted, and write nothing"),
+            DRY_RUN,
             AGAIN,
             WAIT,
             flag("--ascii", "FILE is in ASCII"),
@@ -268,7 +480,8 @@ and replaces MASTER whole. A master that has its cents is refused (4).",
         made: &[],
         help: "\
 Prints the runs that MASTER.log has: when, what, on which file, its counts, and
-what became of it. A run was carried out where MASTER has it in it; it was not
+what became of it. A run was carried out where MASTER has it in it, and taken
+back where `take-back` gave what was there before it; it was not carried out
 where MASTER is what it was before; else MASTER was changed otherwise since, and
 it is unknown.",
         statuses: &[Status::Done, Status::Problem],
@@ -393,9 +606,8 @@ or line ends, or the last record of another KIND, every digit is masked, unless
         read: &[],
         made: &[],
         help: "\
-Prints what is wrong, where, and how to mend it. Refusals are the numbers 1 to
-24 of whole calls; codes, 1 to 18 (errors), 51 and 52 (warnings), those of a
-record.",
+Prints what is wrong, where, and how to mend it. Refusals are the numbers of
+whole calls; codes, 1 to 18 (errors), 51 and 52 (warnings), those of a record.",
         statuses: &[Status::Done, Status::Problem],
         run: commands::explain::run,
     },
@@ -406,6 +618,24 @@ pub fn command(name: &str) -> Option<&'static Command> {
 }
 
 impl Command {
+    /// Whether its last operand may be left out, or stand several times.
+    pub fn takes_several(&self) -> bool {
+        let last = self.operands.last();
+        last.is_some_and(|name| name.starts_with('['))
+    }
+
+    /// The operands that must be there.
+    pub fn needed_operands(&self) -> &'static [&'static str] {
+        let all: &'static [&'static str] = self.operands;
+        &all[..all.len() - usize::from(self.takes_several())]
+    }
+
+    /// The name of an operand by its number; none where there may be no such operand.
+    pub fn operand(&self, number: usize) -> Option<&'static str> {
+        let last = self.operands.last().filter(|_| self.takes_several());
+        self.operands.get(number).or(last).copied()
+    }
+
     pub fn option(&self, name: &str) -> Option<&'static Opt> {
         let options: &'static [Opt] = self.options;
         options.iter().find(|option| option.name == name)

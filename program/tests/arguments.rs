@@ -8,11 +8,17 @@ use std::os::unix::ffi::OsStrExt;
 
 use common::*;
 
-const COMMANDS: [&str; 13] = [
+const COMMANDS: [&str; 19] = [
     "apply",
     "check",
+    "take-back",
+    "split",
+    "merge",
     "find",
+    "edit",
+    "records",
     "reconcile",
+    "pages",
     "post",
     "add-cents",
     "log",
@@ -91,6 +97,16 @@ fn arguments_of_a_command() {
         "unknown option '-x'",
         "See `fantanolive find --help`.",
     );
+    let of_find = "See `fantanolive find --help`.";
+    wrong(&["find"], "MASTER is missing", of_find);
+    wrong(&["find", "m"], "KEY is missing, or --keys FILE", of_find);
+    let both = ["find", "m", "k", "--keys", "f"];
+    wrong(&both, "give one alone", of_find);
+    for several in [&["find", "m", "k", "-"], &["find", "m", "-", "k"]] {
+        wrong(several, "- is standard input", of_find);
+    }
+    let dashes = ["find", "m", "-", "--keys", "-"];
+    wrong(&dashes, "- is standard input", of_find);
 }
 
 #[test]
@@ -130,7 +146,7 @@ fn kinds_and_numbers_to_explain() {
         "always in EBCDIC",
         "show --help",
     );
-    for number in ["0", "25", "50", "53", "4294967296", "x", ""] {
+    for number in ["0", "99", "50", "53", "4294967296", "x", ""] {
         wrong(&["explain", number], "", "explain --help");
     }
     wrong(
@@ -140,7 +156,7 @@ fn kinds_and_numbers_to_explain() {
     );
     wrong(
         &["explain", "51", "--refusal"],
-        "no such number: 51",
+        "no such number: 51; refusals are 1 to ",
         "explain --help",
     );
 }
@@ -226,7 +242,7 @@ fn a_report_into_a_file_that_is_written() {
 #[test]
 fn every_refusal_and_code_is_explained() {
     let folder = Folder::new("arguments-explain");
-    for number in 1..=24 {
+    for number in fantanolive::Refusal::ALL.map(|refusal| refusal.number()) {
         let ran = folder.run(&["explain", &number.to_string(), "--refusal"]);
         assert!(ran.out.starts_with(&format!("refusal {number}: ")));
         assert!(!ran.out.contains("\ncode "));

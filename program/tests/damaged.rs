@@ -50,7 +50,7 @@ fn command(numbers: &mut Numbers) -> Vec<&'static str> {
     let out = ["--out", "out.bin"];
     let rejects = with(&lists, &["--rejects", "rejects.bin"]);
     let date = with(&["--state", "OH", "--date", "20071231"], &out);
-    let mut words = match numbers.below(12) {
+    let mut words = match numbers.below(15) {
         0 => with(&["apply", "master.bin", "batch.bin"], &rejects),
         1 => with(&["check", "master.bin", "batch.bin"], &lists),
         2 => vec!["find", "master.bin", "OH123456789N"],
@@ -61,6 +61,8 @@ fn command(numbers: &mut Numbers) -> Vec<&'static str> {
         7 => with(&["codes", "table.bin", "--state", "OH"], &out),
         8 => with(&["to-ascii", FILES[numbers.below(6)]], &out),
         9 => with(&["to-ebcdic", FILES[numbers.below(6)]], &out),
+        10 => with(&["split", "batch.bin", "--records", "1"], &out),
+        11 => with(&["merge", "batch.bin", "batch.bin"], &out),
         _ => {
             let kinds = ["master", "batch", "rejects", "reconciliation", "contacts"];
             let more = ["collections", "locals"];
@@ -94,7 +96,8 @@ fn run(folder: &Folder, words: &[&str]) -> i32 {
     if ran.status > 1 {
         let after = FILES.iter().map(|name| folder.read(name));
         assert!(after.eq(before), "{words:?} changed a file");
-        assert!(!folder.has("out.bin") && !folder.has("rejects.bin"));
+        let made = ["out.bin", "out.bin001", "rejects.bin"];
+        assert!(!made.iter().any(|name| folder.has(name)), "{words:?}");
     }
     ran.status
 }
@@ -122,8 +125,9 @@ fn damaged_files() {
         }
         let words = command(&mut numbers);
         statuses[run(&folder, &words) as usize] += 1;
-        for name in ["out.bin", "rejects.bin"] {
-            let _ = std::fs::remove_file(folder.path(name));
+        let is_made = |name: &String| name.starts_with("out.bin") || name == "rejects.bin";
+        for name in folder.names().into_iter().filter(is_made) {
+            let _ = std::fs::remove_file(folder.path(&name));
         }
     }
     assert!(statuses.iter().all(|&count| count > 10), "{statuses:?}");

@@ -76,6 +76,38 @@ fn paper_example_refused() {
 }
 
 #[test]
+fn pages_of_a_master() {
+    let folder = Folder::new("golden-pages");
+    folder.write("two.bin", &two_rows("00"));
+    let pages = ["pages", "two.bin", "--out", "pages.txt", "--text"];
+    compare(&folder, &pages, 0, "pages.txt");
+    let text = String::from_utf8(folder.read("pages.txt")).expect("it is ASCII");
+    assert_eq!(text, expected("page.txt"));
+}
+
+#[test]
+fn journaled_and_taken_back() {
+    let folder = Folder::with_example("golden-back");
+    folder.write("two.bin", &two_rows("00"));
+    folder.write("second.bin", &second_batch());
+    compare(&folder, &JOURNALED, 0, "apply-journal.txt");
+    assert_eq!(folder.read("two.bin"), second_rows());
+    assert_eq!(folder.read("journal.bin"), second_journal());
+    let back = ["take-back", "two.bin", "journal.bin"];
+    compare(&folder, &back, 0, "take-back.txt");
+    assert_eq!(folder.read("two.bin"), two_rows("00"));
+}
+
+#[test]
+fn several_keys() {
+    let folder = Folder::new("golden-keys");
+    folder.write("two.bin", &two_rows("00"));
+    let keys = ["OH987654321A", "OH123456789A", "OH12345678N"];
+    let find = with(&["find", "two.bin"], &keys);
+    compare(&folder, &find, 2, "find-keys.txt");
+}
+
+#[test]
 fn found_and_reconciled() {
     let folder = Folder::with_master("golden-find");
     compare(

@@ -65,6 +65,9 @@ fn folder(name: &str) -> Folder {
     folder.write("contacts.bin", &contact_file());
     folder.write("table.bin", &contact_table());
     folder.write("a\"b\\c.bin", &paper_row());
+    folder.write("left.bin", &second_rows());
+    folder.write("journal.bin", &second_journal());
+    folder.write("keys.txt", b"OH123456789N\nOH987654321A\n");
     folder
 }
 
@@ -120,7 +123,34 @@ fn every_command() {
         (vec!["explain", "52"], 0, "carried out"),
         (vec!["explain", "99"], 3, "failed"),
         (vec!["apply", "master.bin"], 3, "failed"),
-        (vec!["find", "master.bin", "a", "b"], 3, "failed"),
+        (vec!["find", "master.bin", "a", "b"], 2, "carried out"),
+        (
+            vec!["find", "master.bin", "--keys", "keys.txt"],
+            6,
+            "carried out",
+        ),
+        (
+            vec!["find", "batch.bin", "--keys", "keys.txt"],
+            2,
+            "refused",
+        ),
+        (vec!["find", "master.bin", "--keys", "none"], 3, "failed"),
+        (vec!["find", "master.bin"], 3, "failed"),
+        (with(&["pages", "master.bin"], &out), 0, "carried out"),
+        (with(&["pages", "batch.bin"], &out), 2, "refused"),
+        (with(&["pages", "none"], &out), 3, "failed"),
+        (
+            vec!["take-back", "left.bin", "journal.bin", "--dry-run"],
+            0,
+            "would be carried out",
+        ),
+        (
+            vec!["take-back", "left.bin", "journal.bin"],
+            0,
+            "carried out",
+        ),
+        (vec!["take-back", "left.bin", "journal.bin"], 2, "refused"),
+        (vec!["take-back", "left.bin", "none"], 3, "failed"),
     ] {
         let ran = folder.run(&with(&arguments, &["--json"]));
         assert_eq!(ran.status, status, "{arguments:?}: {ran:?}");

@@ -10,11 +10,15 @@ fn folder(name: &str) -> Folder {
     folder.write("rejects.bin", &paper_rejects());
     folder.write("two.bin", &two_rows("00"));
     folder.write("weekly.bin", &weekly());
+    folder.write("left.bin", &second_rows());
+    folder.write("journal.bin", &second_journal());
     folder.write("rec.bin", &record(&[(1, "RECOH000123456789")]));
     // without their last records, and of a wrong length
     folder.write("no-control.bin", &paper_batch()[..490]);
     folder.write("no-total.bin", &weekly()[..960]);
     folder.write("short.bin", &paper_batch()[..244]);
+    let keys = "OH123456789N\nOH987654321A\n123456789\nOH-987654321-A\n";
+    folder.write("keys.txt", keys.as_bytes());
     let mut unsound = paper_row();
     unsound[12] = 0;
     folder.write("unsound.bin", &unsound);
@@ -32,7 +36,11 @@ fn commands() -> Vec<Vec<&'static str>> {
         }
         list.push(vec!["find", master, "OH123456789N"]);
         list.push(vec!["find", master, "OH123456789X"]);
+        list.push(vec!["find", master, "OH987654321A", "OH123456789N"]);
+        list.push(vec!["find", master, "123456789", "OH123456789NN"]);
+        list.push(vec!["find", master, "--keys", "keys.txt"]);
         list.push(vec!["add-cents", master]);
+        list.push(vec!["pages", master, "--out", "pages.bin", "--force"]);
         list.push(vec!["show", "master", master]);
     }
     for (kind, file) in [
@@ -48,6 +56,8 @@ fn commands() -> Vec<Vec<&'static str>> {
         list.push(vec!["show", kind, file]);
         list.push(vec!["show", kind, file, "--list"]);
     }
+    list.push(vec!["take-back", "left.bin", "journal.bin", "--dry-run"]);
+    list.push(vec!["take-back", "two.bin", "journal.bin", "--dry-run"]);
     list.push(vec!["post", "two.bin", "no-total.bin"]);
     list.push(vec!["post", "two.bin", "weekly.bin"]);
     list
@@ -74,6 +84,7 @@ fn full_ssns_where_they_are_asked_for() {
     for command in [
         with(&["check", "master.bin", "batch.bin"], &LISTS),
         vec!["find", "master.bin", "OH123456789N"],
+        vec!["find", "master.bin", "--keys", "keys.txt"],
         vec!["show", "batch", "batch.bin"],
         vec!["show", "master", "master.bin"],
         vec!["show", "rejects", "rejects.bin", "--list"],
@@ -81,6 +92,7 @@ fn full_ssns_where_they_are_asked_for() {
         vec!["show", "collections", "weekly.bin"],
         vec!["find", "unsound.bin", "OH123456789N"],
         vec!["post", "two.bin", "weekly.bin"],
+        vec!["take-back", "left.bin", "journal.bin"],
     ] {
         let ran = folder.run(&with(&command, &["--full"]));
         let printed = (ran.out + &ran.err).replace("\n   ", "");
@@ -130,15 +142,21 @@ fn no_digit_of_records_out_of_their_columns() {
 #[test]
 fn keys_in_wrong_places() {
     let folder = folder("masks-places");
-    for command in [
-        vec!["find", "master.bin", "OH", "123456789", "N"],
-        vec!["find", "OH123456789N", "master.bin"],
+    for (command, status, shown) in [
+        // three keys, of which none is one
+        (vec!["find", "master.bin", "OH", "123456789", "N"], 2, ""),
+        (vec!["find", "OH123456789N", "master.bin"], 3, "*****6789"),
+        (
+            vec!["find", "master.bin", "--keys", "OH123456789N"],
+            3,
+            "*****6789",
+        ),
     ] {
         for form in [&[][..], &["--json"]] {
             let ran = folder.run(&with(&command, form));
-            assert_eq!(ran.status, 3, "{command:?}");
+            assert_eq!(ran.status, status, "{command:?}");
             let told = ran.out + &ran.err;
-            assert!(told.contains("*****6789"), "{command:?}: {told}");
+            assert!(told.contains(shown), "{command:?}: {told}");
             assert!(!told.contains("12345"), "{command:?}: {told}");
         }
     }

@@ -21,12 +21,16 @@ fn folder(name: &str) -> Folder {
 /// The commands that make a file, which is their last argument.
 fn makers() -> Vec<Vec<&'static str>> {
     let reconcile = ["reconcile", "two.bin", "--state", "OH", "--date"];
+    let edit = ["edit", "two.bin", "OH123456789N"];
     vec![
         APPLY.to_vec(),
         with(&reconcile, &["20071231", "--out", ""]),
         vec!["codes", "table.bin", "--state", "OH", "--out", ""],
         vec!["to-ascii", "batch.bin", "--out", ""],
         vec!["to-ebcdic", "text.txt", "--out", ""],
+        with(&edit, &["--amount", "7", "--out", ""]),
+        vec!["records", "master.bin", "master.bin", "--out", ""],
+        vec!["merge", "batch.bin", "batch.bin", "--out", ""],
     ]
 }
 

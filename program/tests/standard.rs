@@ -13,6 +13,8 @@ fn folder(name: &str) -> Folder {
     folder.write("weekly.bin", &weekly());
     folder.write("contacts.bin", &contact_file());
     folder.write("table.bin", &contact_table());
+    folder.write("left.bin", &second_rows());
+    folder.write("journal.bin", &second_journal());
     folder.write("text.txt", b"ABC 123");
     folder
 }
@@ -36,12 +38,15 @@ fn run(folder: &Folder, arguments: &[&str], input: &[u8]) -> (i32, Vec<u8>, Stri
 
 #[test]
 fn every_input_may_be_standard_input() {
+    let records = ["records", "master.bin", "master.bin"];
+    let merge = ["merge", "batch.bin", "batch.bin", "batch.bin"];
     for (arguments, place) in [
         (APPLY.to_vec(), 2),
         (APPLY.to_vec(), 4),
         (CHECK.to_vec(), 2),
         (CHECK.to_vec(), 4),
         (vec!["post", "two.bin", "weekly.bin"], 2),
+        (vec!["take-back", "left.bin", "journal.bin"], 2),
         (vec!["contacts", "table.bin", "contacts.bin"], 2),
         (
             vec!["codes", "table.bin", "--state", "OH", "--out", "out.bin"],
@@ -51,6 +56,10 @@ fn every_input_may_be_standard_input() {
         (vec!["to-ascii", "batch.bin", "--out", "out.bin"], 1),
         (vec!["show", "batch", "batch.bin"], 2),
         (vec!["show", "contacts", "table.bin"], 2),
+        (with(&records, &["--out", "out.bin"]), 1),
+        (with(&records, &["--out", "out.bin"]), 2),
+        (with(&merge, &["--out", "out.bin"]), 1),
+        (with(&merge, &["--out", "out.bin"]), 3),
     ] {
         let (plain, folder) = (folder("standard-file"), folder("standard-input"));
         let wanted = plain.run(&arguments);
@@ -68,13 +77,18 @@ fn every_input_may_be_standard_input() {
 
 #[test]
 fn every_file_made_may_be_standard_output() {
+    let edit = ["edit", "master.bin", "OH123456789N"];
     let reconcile = ["reconcile", "two.bin", "--state", "OH", "--date"];
     for arguments in [
         APPLY.to_vec(),
         with(&reconcile, &["20071231", "--out", "out.bin"]),
+        vec!["pages", "two.bin", "--out", "out.bin"],
+        vec!["pages", "two.bin", "--text", "--out", "out.bin"],
         vec!["codes", "table.bin", "--state", "OH", "--out", "out.bin"],
         vec!["to-ebcdic", "text.txt", "--out", "out.bin"],
         vec!["to-ascii", "batch.bin", "--out", "out.bin"],
+        with(&edit, &["--amount", "7", "--out", "out.bin"]),
+        vec!["merge", "batch.bin", "batch.bin", "--out", "out.bin"],
     ] {
         let (plain, folder) = (folder("standard-made"), folder("standard-output"));
         let wanted = plain.run(&arguments);
@@ -137,6 +151,9 @@ fn masters_and_two_inputs_are_no_standard_input() {
         with(&reconcile, &["--out", "out.bin"]),
         vec!["post", "-", "weekly.bin"],
         vec!["add-cents", "-"],
+        vec!["pages", "-", "--out", "out.bin"],
+        vec!["take-back", "-", "journal.bin"],
+        with(&APPLY, &["--journal", "-"]),
         vec!["log", "-"],
         vec!["contacts", "-", "contacts.bin", "--new"],
         vec!["show", "master", "-"],
@@ -185,6 +202,13 @@ fn every_key_of_standard_input_is_answered() {
         out.contains("\"keys\":2,\"found\":1,\"not_found\":1,\"refused\":0"),
         "{out}"
     );
+    // the file of --keys too
+    let (same, out_of_file, _) = run(
+        &folder,
+        &["find", "two.bin", "--keys", "-", "--json"],
+        b"OH900000001N\nOH123456789N\n",
+    );
+    assert_eq!((same, out_of_file), (status, out.clone().into_bytes()));
     assert!(out.contains(
         "{\"line\":2,\"answer\":\"found\",\"status\":0,\"key\":\"OH*****6789N\",\"row\":1,"
     ));

@@ -25,6 +25,10 @@ fn all_files(name: &str) -> Folder {
     folder.write("weekly.bin", &weekly());
     folder.write("contacts.bin", &contact_file());
     folder.write("table.bin", &contact_table());
+    folder.write("second.bin", &second_batch());
+    folder.write("left.bin", &second_rows());
+    folder.write("back.bin", &second_journal());
+    folder.write("keys.txt", b"OH123456789N\n");
     folder.write("text.txt", b"ABC 123");
     folder
 }
@@ -41,6 +45,9 @@ fn unchanged(folder: &Folder, arguments: &[&str], status: i32, message: &str) {
 
 /// The commands, each with the place of its files among its arguments.
 fn commands() -> Vec<(Vec<&'static str>, Vec<usize>)> {
+    let edit = ["edit", "master.bin", "OH123456789N"];
+    let records = ["records", "master.bin", "master.bin"];
+    let merge = ["merge", "batch.bin", "batch.bin", "batch.bin"];
     let reconcile = [
         "reconcile",
         "master.bin",
@@ -55,9 +62,16 @@ fn commands() -> Vec<(Vec<&'static str>, Vec<usize>)> {
         (APPLY.to_vec(), vec![1, 2, 4]),
         (CHECK.to_vec(), vec![1, 2, 4]),
         (vec!["find", "master.bin", "OH123456789N"], vec![1]),
+        (vec!["find", "master.bin", "--keys", "keys.txt"], vec![1, 3]),
         (reconcile.to_vec(), vec![1]),
         (vec!["post", "two.bin", "weekly.bin"], vec![1, 2]),
         (vec!["add-cents", "old.bin"], vec![1]),
+        (
+            vec!["pages", "two.bin", "--text", "--out", "out.bin"],
+            vec![1],
+        ),
+        (JOURNALED.to_vec(), vec![1, 2, 4]),
+        (vec!["take-back", "left.bin", "back.bin"], vec![1, 2]),
         (vec!["contacts", "table.bin", "contacts.bin"], vec![1, 2]),
         (
             vec!["codes", "table.bin", "--state", "OH", "--out", "out.bin"],
@@ -66,6 +80,9 @@ fn commands() -> Vec<(Vec<&'static str>, Vec<usize>)> {
         (vec!["to-ebcdic", "text.txt", "--out", "out.bin"], vec![1]),
         (vec!["to-ascii", "batch.bin", "--out", "out.bin"], vec![1]),
         (vec!["show", "master", "master.bin"], vec![2]),
+        (with(&edit, &["--amount", "7", "--out", "out.bin"]), vec![1]),
+        (with(&records, &["--out", "out.bin"]), vec![1, 2]),
+        (with(&merge, &["--out", "out.bin"]), vec![1, 2, 3]),
     ]
 }
 
@@ -107,8 +124,9 @@ fn folders_in_the_place_of_files() {
 fn outputs_that_can_not_be_written() {
     let folder = all_files("statuses-outputs");
     for (arguments, _) in commands() {
-        let options = ["--rejects", "--out"];
-        let Some(at) = arguments.iter().position(|a| options.contains(a)) else {
+        let options = ["--journal", "--out", "--rejects"];
+        // of several the last: the journal
+        let Some(at) = arguments.iter().rposition(|a| options.contains(a)) else {
             continue;
         };
         for (name, message) in [
@@ -322,7 +340,20 @@ fn parts_of_the_control_record_are_shown() {
     );
     let amount = with_control(&[(45, "6")]);
     assert!(amount.contains("refused 8: "));
-    assert!(amount.contains("'00000000126' as Total Non-TANF Amount (35-45)"));
+    let total = "batch.bin: Total Non-TANF Amount (35-45): stated 126, counted 125, difference 1\n";
+    assert!(amount.contains(total), "{amount}");
+    assert!(!amount.contains("Total TANF"), "{amount}");
+    // all that differ are named with the first refusal
+    let count = with_control(&[(6, "000000001000000004"), (24, "99999999999")]);
+    for total in [
+        "refused 7: ",
+        "Total TANF Records (6-14): stated 1, counted 0, difference 1\n",
+        "Total Non-TANF Records (15-23): stated 4, counted 2, difference 2\n",
+        "(24-34): stated 99,999,999,999, counted 0, difference 99,999,999,999\n",
+    ] {
+        assert!(count.contains(total), "{count}");
+    }
+    assert!(!count.contains("(35-45)"), "{count}");
 }
 
 /// The commands that write, each with the file that it locks first, and its status.
@@ -332,6 +363,9 @@ fn writers() -> Vec<(Vec<&'static str>, &'static str, i32)> {
         (APPLY.to_vec(), "master.bin", 1),
         (vec!["post", "two.bin", "weekly.bin"], "two.bin", 1),
         (vec!["add-cents", "old.bin"], "old.bin", 0),
+        (vec!["pages", "two.bin", "--out", "out.bin"], "out.bin", 0),
+        (JOURNALED.to_vec(), "two.bin", 0),
+        (vec!["take-back", "left.bin", "back.bin"], "left.bin", 0),
         (
             vec!["contacts", "table.bin", "contacts.bin"],
             "table.bin",

@@ -1,10 +1,10 @@
 """What the C headers say: the version, the numbers and the words. Written by ../generate; not to be edited."""
 
-VERSION = '1.9.0'
+VERSION = '1.15.0'
 
 # The constants of fantanolive.h, without FANTANOLIVE_ in front.
 VERSION_MAJOR = 1
-VERSION_MINOR = 9
+VERSION_MINOR = 15
 VERSION_PATCH = 0
 ROW = 200
 RECORD = 245
@@ -76,57 +76,57 @@ SHORT_BATCH = 33
 REFUSAL_TEXTS = {
     1: (
         'year outside 1900 to 9999',
-        'apply, apply_journaled: the year',
+        'apply: the year',
         'give the current calendar year in four digits',
     ),
     2: (
         'list of local codes not made of three-digit codes, three bytes each, strictly rising',
-        'apply, apply_journaled, records_to: the list of local codes',
+        'apply, records_to: the list of local codes',
         'write each code as three EBCDIC digits with nothing between them or behind them, lowest first, none twice; an empty list is allowed',
     ),
     3: (
         'master length no multiple of 200, or row count above length / 200 or above 65,535',
-        'apply, apply_journaled, take_back, find, find_many, reconcile, pages, add_cents, post: the master as a whole, and its row count',
+        'apply, take_back, find, find_many, reconcile, pages, add_cents, post: the master as a whole, and its row count',
         'check that the file is a master and was copied whole, byte by byte; a row has 200 bytes and no line end, a master at most 65,535 rows',
     ),
     4: (
         'a row that is not sound, or rows not in strictly rising order of key',
-        "apply, apply_journaled, take_back, find, find_many, reconcile, pages, add_cents, post: a row's columns 1-12 (key), 13-15, 31-34, 66-73, 79-90 or 196-200, or the order of the rows; records_to: these columns of the row, then of the wanted row, or a row not of 200 bytes",
+        "apply, take_back, find, find_many, reconcile, pages, add_cents, post: a row's columns 1-12 (key), 13-15, 31-34, 66-73, 79-90 or 196-200, or the order of the rows; records_to: these columns of the row, then of the wanted row, or a row not of 200 bytes",
         'take the last good copy of the master; if columns 197-200 are spaces in every row, run add_cents once (add_cents takes only such a master and refuses one that has its cents)',
     ),
     5: (
         'batch empty, its length no multiple of 245, or over 65,536 records',
-        'apply, apply_journaled, totals, merge: the batch as a whole; merge looks at the first batch wholly before the second',
+        'apply, totals, merge: the batch as a whole; merge looks at the first batch wholly before the second',
         'write every record with 245 bytes and no line end, details first, the control record last; send more than 65,535 details in several batches',
     ),
     6: (
         'CTL is missing in the last record',
-        "apply, apply_journaled, merge: the batch's last record, columns 3-5",
+        "apply, merge: the batch's last record, columns 3-5",
         'put the control record, with CTL in columns 3-5, behind the last detail; if the batch is in ASCII, convert it to EBCDIC first',
     ),
     7: (
         'a record count of the control record differs from the details',
-        "apply, apply_journaled, merge: the control record's columns 6-14 (TANF records) and 15-23 (Non-TANF records)",
+        "apply, merge: the control record's columns 6-14 (TANF records) and 15-23 (Non-TANF records)",
         'count the details with A in column 74 and those with N, whatever errors they have; details with another case type count in neither',
     ),
     8: (
         'an amount of the control record differs from the details',
-        "apply, apply_journaled, merge: the control record's columns 24-34 (TANF amount) and 35-45 (Non-TANF amount)",
+        "apply, merge: the control record's columns 24-34 (TANF amount) and 35-45 (Non-TANF amount)",
         'sum columns 65-72 over the details of types A and M alone, where they are eight digits, by case type A and N, whatever errors they have',
     ),
     9: (
         'no room for new rows: rows plus details of type A whose key has no row exceed master length / 200 or 65,535',
-        "apply, apply_journaled: the master's length, and the details with A in column 73",
+        "apply: the master's length, and the details with A in column 73",
         "lend a master with 200 bytes behind its rows for each such detail, repeated and faulty ones counted; a master can't have more than 65,535 rows",
     ),
     10: (
         'verdict list shorter than the details',
-        'apply, apply_journaled: the length of the verdict list, counted in numbers',
+        'apply: the length of the verdict list, counted in numbers',
         'lend one 64-bit number for each detail of the batch',
     ),
     11: (
         'output too short',
-        'apply, apply_journaled: the reject buffer, below 245 x (details + 1) bytes; reconcile: the output, below 245 x (live rows of the state + 1) bytes',
+        'apply: the reject buffer, below 245 x (details + 1) bytes; reconcile: the output, below 245 x (live rows of the state + 1) bytes',
         'lend 245 bytes for each detail (apply) or row (reconcile) and 245 more',
     ),
     12: (
@@ -171,12 +171,12 @@ REFUSAL_TEXTS = {
     ),
     20: (
         'state of the control record not in the table of 54',
-        "apply, apply_journaled, merge: the control record's columns 1-2",
+        "apply, merge: the control record's columns 1-2",
         'put the two-letter code of the submitting state there, in upper case',
     ),
     21: (
         'a total of the control record is not digits, or its filler is not spaces',
-        "apply, apply_journaled, merge: the control record's columns 6-45 (four totals) and 46-245 (filler)",
+        "apply, merge: the control record's columns 6-45 (four totals) and 46-245 (filler)",
         'write the totals right-justified with leading zeros, in 9, 9, 11 and 11 digits, and spaces behind them up to column 245',
     ),
     22: (

@@ -2,7 +2,7 @@
 
 use std::path::Path;
 
-use fantanolive::{Counts, Refusal, ERRORS, MAX_ROWS, RECORD, ROW};
+use fantanolive::{journal_size, Counts, Refusal, ERRORS, MAX_ROWS, RECORD, ROW};
 
 use crate::arguments::Arguments;
 use crate::code_page::{convert, Charset};
@@ -18,9 +18,9 @@ use crate::progress::Progress;
 use crate::records::columns::control;
 use crate::records::field::{Form, Placeholder};
 use crate::records::kinds::{BATCH, LOCALS};
-use crate::report::notes;
 use crate::report::summary::Summary;
 use crate::report::verdicts::Verdicts;
+use crate::report::{batch_notes, notes};
 
 /// A batch that was carried out in memory.
 struct Judged {
@@ -29,6 +29,8 @@ struct Judged {
     rows_before: usize,
     verdicts: Vec<u64>,
     rejects: Vec<u8>,
+    /// Where one is asked for.
+    journal: Option<Vec<u8>>,
     counts: Counts,
 }
 
@@ -48,7 +50,10 @@ pub fn check(arguments: &Arguments, progress: &Progress) -> Result<Status, Failu
 pub fn apply(arguments: &Arguments, progress: &Progress) -> Result<Status, Failure> {
     let wanted = Wanted {
         state: true,
-        made: &["--rejects"],
+        made: match arguments.flag("--journal") {
+            true => &["--rejects", "--journal"],
+            false => &["--rejects"],
+        },
         inputs: &[arguments.path(1), Path::new(arguments.needed("--locals"))],
     };
     let outputs = Outputs::open(arguments, &wanted)?;
@@ -66,12 +71,16 @@ pub fn apply(arguments: &Arguments, progress: &Progress) -> Result<Status, Failu
     }
     let rows = &judged.master.bytes[..judged.counts.rows as usize * ROW];
     let summary = judged.summary("apply");
+    let mut staged = vec![outputs.stage_bytes("--rejects", progress, &judged.rejects)?];
+    let mut record = record;
+    if let Some(journal) = &judged.journal {
+        record = record.with_journal(Path::new(arguments.needed("--journal")), journal);
+        let file = outputs.stage_bytes("--journal", progress, journal)?;
+        staged.push(file.before_others());
+    }
     let log = record.finish(&summary, rows);
-    let staged = vec![
-        outputs.stage_bytes("--rejects", progress, &judged.rejects)?,
-        outputs.stage_log(progress, &log)?,
-        outputs.stage_state(progress, rows)?,
-    ];
+    staged.push(outputs.stage_log(progress, &log)?);
+    staged.push(outputs.stage_state(progress, rows)?);
     let summary = summary.placed(outputs.put_in_place(staged)?);
     judged.report(arguments, progress, &summary, charset)
 }
@@ -120,17 +129,19 @@ fn judge(files: Files, arguments: &Arguments, progress: &Progress) -> Result<Jud
     let rows_before = master.records();
     let mut verdicts = vec![0; details];
     let mut rejects = vec![0; RECORD * (details + 1)];
+    let wanted = arguments.flag("--journal");
+    let mut journal = wanted.then(|| vec![0; journal_size(details)]);
     progress.now(format!("judging {}", counted(details as u64, "record")));
-    let counts = fantanolive::apply(
-        &mut master.bytes,
-        rows_before,
-        &batch.bytes,
-        &locals.bytes,
+    let call = Call {
+        master: &mut master.bytes,
+        rows: rows_before,
+        batch: &batch.bytes,
+        locals: &locals.bytes,
         year,
-        &mut verdicts,
-        &mut rejects,
-    )
-    .map_err(|refusal| {
+        verdicts: &mut verdicts,
+        rejects: &mut rejects,
+    };
+    let counts = call.make(journal.as_mut()).map_err(|refusal| {
         let full = arguments.flag("--full");
         notes::refused(
             refusal,
@@ -145,8 +156,43 @@ fn judge(files: Files, arguments: &Arguments, progress: &Progress) -> Result<Jud
         rows_before,
         verdicts,
         rejects,
+        journal,
         counts,
     })
+}
+
+/// What is lent to the call.
+struct Call<'a> {
+    master: &'a mut [u8],
+    rows: usize,
+    batch: &'a [u8],
+    locals: &'a [u8],
+    year: u64,
+    verdicts: &'a mut [u64],
+    rejects: &'a mut [u8],
+}
+
+impl Call<'_> {
+    /// Applies the batch, with a journal or without; the journal is then as long as it is.
+    fn make(self, journal: Option<&mut Vec<u8>>) -> Result<Counts, Refusal> {
+        let Call {
+            master,
+            rows,
+            batch,
+            locals,
+            year,
+            verdicts,
+            rejects,
+        } = self;
+        let Some(journal) = journal else {
+            return fantanolive::apply(master, rows, batch, locals, year, verdicts, rejects);
+        };
+        let (counts, length) = fantanolive::apply_journaled(
+            master, rows, batch, locals, year, verdicts, rejects, journal,
+        )?;
+        journal.truncate(length as usize);
+        Ok(counts)
+    }
 }
 
 /// What is known of the files of a batch that was refused.
@@ -157,30 +203,18 @@ fn notes_of(
     locals: &Input,
     full: bool,
 ) -> Vec<String> {
-    let of_control = |fields| notes::of_last_record(batch, fields);
     let rows = master.records();
     match refusal {
         Refusal::WrongLocals => notes::of_locals(locals),
         Refusal::WrongMaster => length::of_length(master),
         Refusal::UnsoundRow => notes::of_rows(master, rows, full),
-        Refusal::WrongBatch => length::of_file(batch),
-        Refusal::NoCtl => [length::of_file(batch), of_control(&[])].concat(),
-        Refusal::ControlState => of_control(&[control::STATE]),
-        Refusal::ControlForm => of_control(&[
-            control::TANF_RECORDS,
-            control::NON_TANF_RECORDS,
-            control::TANF_AMOUNT,
-            control::NON_TANF_AMOUNT,
-        ]),
-        Refusal::WrongCount => of_control(&[control::TANF_RECORDS, control::NON_TANF_RECORDS]),
-        Refusal::WrongAmount => of_control(&[control::TANF_AMOUNT, control::NON_TANF_AMOUNT]),
         Refusal::NoRoom => vec![format!(
             "{}: {}, and a master may have {}",
             master.name(),
             counted(rows as u64, "row"),
             counted(MAX_ROWS as u64, "row")
         )],
-        _ => Vec::new(),
+        _ => batch_notes::of_batch(refusal, batch),
     }
 }
 
@@ -189,7 +223,7 @@ impl Judged {
         let rejected = self.verdicts.iter().any(|verdict| verdict & ERRORS != 0);
         let form = Form::new(Charset::Ebcdic, Placeholder::Dot, false);
         let last = self.batch.last().unwrap_or_default();
-        Summary::new(command, Status::of_rejects(rejected))
+        let summary = Summary::new(command, Status::of_rejects(rejected))
             .text("state", form.field(&control::STATE, last))
             .number("details", self.verdicts.len() as u64)
             .of_which("accepted", self.counts.accepted)
@@ -197,7 +231,11 @@ impl Judged {
             .of_which("rejected", self.counts.rejected)
             .of_which("neither", self.counts.neither)
             .number("rows before", self.rows_before as u64)
-            .number("rows", self.counts.rows)
+            .number("rows", self.counts.rows);
+        match &self.journal {
+            Some(journal) => summary.number("journal bytes", journal.len() as u64),
+            None => summary,
+        }
     }
 
     fn report(

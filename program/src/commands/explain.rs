@@ -2,7 +2,7 @@
 
 use std::io::{self, Write};
 
-use fantanolive::{code_text, refusal_text, Text, VERSION};
+use fantanolive::{code_text, refusal_text, Refusal, Text, VERSION};
 
 use crate::arguments::Arguments;
 use crate::commands::output::printed;
@@ -23,7 +23,7 @@ pub fn run(arguments: &Arguments, progress: &Progress) -> Result<Status, Failure
     let refusal = refusal_text(u64::from(number)).filter(|_| both || refusal);
     let code = code_text(number).filter(|_| both || code);
     if refusal.is_none() && code.is_none() {
-        let known = "refusals are 1 to 24, codes 1 to 18, 51 and 52";
+        let known = format!("refusals are {}, codes 1 to 18, 51 and 52", refusals());
         return Err(arguments.wrong(format!("no such number: {number}; {known}")));
     }
     let found = [("refusal", refusal), ("code", code)];
@@ -40,6 +40,17 @@ pub fn run(arguments: &Arguments, progress: &Progress) -> Result<Status, Failure
         },
     )?;
     Ok(Status::Done)
+}
+
+/// The numbers of the refusals, those in a row by the first and the last: `1 to 24, 27 to 28`.
+fn refusals() -> String {
+    let numbers = Refusal::ALL.map(Refusal::number);
+    let rows = numbers.chunk_by(|one, next| one + 1 == *next);
+    let shown = |row: &[u64]| match row {
+        [first, .., last] => format!("{first} to {last}"),
+        one => format!("{}", one[0]),
+    };
+    rows.map(shown).collect::<Vec<String>>().join(", ")
 }
 
 type Found = [(&'static str, Option<&'static Text>); 2];

@@ -2,11 +2,11 @@
 
 use std::io::{self, Write};
 
-use fantanolive::{Refusal, KEY, ROW};
+use fantanolive::{Refusal, KEY, NO_PLACE, ROW};
 
 use crate::arguments::Arguments;
 use crate::code_page::Charset;
-use crate::commands::keys::{keys_of, Key};
+use crate::commands::keys::{keys_of, Key, Keys};
 use crate::commands::master::{notes_of, read_master};
 use crate::commands::output::{form_of, print, printed};
 use crate::failure::{Failure, Status};
@@ -21,35 +21,68 @@ use crate::report::screen::{Screen, Style};
 use crate::report::summary::Summary;
 
 pub fn run(arguments: &Arguments, progress: &Progress) -> Result<Status, Failure> {
-    let keys = keys_of(arguments.operand(1))?;
+    let keys = keys_of(arguments)?;
     let mut master = read_master(arguments, 0, progress)?;
-    progress.now("finding the case");
-    let rows = master.records();
-    let mut answers = Vec::new();
-    for key in keys {
-        let place = match fantanolive::find(&master.bytes, rows, &key.bytes) {
-            Err(refusal) if key.line.is_none() || !is_of_key(refusal) => {
-                let notes = notes_of(refusal, &mut master, arguments.flag("--full"));
-                return Err(notes::refused(refusal, notes));
-            }
-            other => other,
-        };
-        answers.push(Answer { key, place });
-    }
+    progress.now("finding the cases");
+    let counted = keys.counted;
+    let looked_up = match counted {
+        None => look_up_one(keys, &master),
+        Some(_) => look_up(keys, &master),
+    };
+    let (answers, comparisons) = looked_up.map_err(|refusal| {
+        let notes = notes_of(refusal, &mut master, arguments.flag("--full"));
+        notes::refused(refusal, notes)
+    })?;
     let found = Found {
         master: &master,
         answers: &answers,
+        comparisons,
         form: form_of(arguments, Charset::Ebcdic),
     };
-    match &answers[..] {
-        [answer] if answer.key.line.is_none() => found.report_one(arguments, progress, answer),
-        _ => found.report_all(arguments, progress),
+    match counted {
+        None => found.report_one(arguments, progress, &answers[0]),
+        Some(counted) => found.report_all(arguments, progress, counted),
     }
 }
 
-/// Whether a refusal is about a key, not the master.
-fn is_of_key(refusal: Refusal) -> bool {
-    matches!(refusal, Refusal::UnsoundKey | Refusal::NoSuchRow)
+/// The answers to keys, and how many comparisons they took.
+type LookedUp = Result<(Vec<Answer>, u64), Refusal>;
+
+/// Looks up the one key that is given.
+fn look_up_one(keys: Keys, master: &Input) -> LookedUp {
+    let answer = |key: Key| {
+        let place = Ok(fantanolive::find(
+            &master.bytes,
+            master.records(),
+            &key.bytes,
+        )?);
+        Ok(Answer { key, place })
+    };
+    let answers: Result<_, Refusal> = keys.list.into_iter().map(answer).collect();
+    Ok((answers?, 0))
+}
+
+/// Looks up several keys by one call, which wants sound ones in rising order, each once.
+fn look_up(keys: Keys, master: &Input) -> LookedUp {
+    // over no rows the call looks at the key alone
+    let is_sound = |key: &&Key| fantanolive::find(&[], 0, &key.bytes) != Err(Refusal::UnsoundKey);
+    let sound = keys.list.iter().filter(is_sound);
+    let mut rising: Vec<&[u8]> = sound.map(|key| &key.bytes[..]).collect();
+    rising.sort_unstable();
+    rising.dedup();
+    let mut places = vec![NO_PLACE; rising.len()];
+    let joined = rising.concat();
+    let comparisons =
+        fantanolive::find_many(&master.bytes, master.records(), &joined, &mut places)?;
+    let place = |key: &Key| match rising.binary_search(&&key.bytes[..]) {
+        Err(_) => Err(Refusal::UnsoundKey),
+        Ok(at) if places[at] == NO_PLACE => Err(Refusal::NoSuchRow),
+        Ok(at) => Ok(u64::from(places[at])),
+    };
+    let found: Vec<_> = keys.list.iter().map(place).collect();
+    let answers = keys.list.into_iter().zip(found);
+    let answers = answers.map(|(key, place)| Answer { key, place });
+    Ok((answers.collect(), comparisons))
 }
 
 /// What the call answered to a key.
@@ -79,6 +112,7 @@ impl Answer {
 struct Found<'a> {
     master: &'a Input,
     answers: &'a [Answer],
+    comparisons: u64,
     form: Form,
 }
 
@@ -137,8 +171,35 @@ impl Found<'_> {
         )
     }
 
-    /// The answers to all keys of standard input.
-    fn report_all(&self, arguments: &Arguments, progress: &Progress) -> Result<Status, Failure> {
+    /// The answers to several keys, with numbers that count lines or arguments.
+    fn report_all(
+        &self,
+        arguments: &Arguments,
+        progress: &Progress,
+        counted: &str,
+    ) -> Result<Status, Failure> {
+        let summary = self.counts();
+        printed(
+            arguments,
+            progress,
+            |screen| {
+                self.put_text(screen, counted)?;
+                if self.answers.len() > 1 {
+                    screen.plain("")?;
+                    summary.put_text(screen)?;
+                }
+                Ok(())
+            },
+            |json| {
+                summary.put_json(json)?;
+                self.put_json(json, counted)
+            },
+        )?;
+        Ok(summary.status())
+    }
+
+    /// How many keys are found and how many aren't.
+    fn counts(&self) -> Summary {
         let count = |status| {
             let same = self.answers.iter().filter(|a| a.status() == status);
             same.count() as u64
@@ -149,24 +210,16 @@ impl Found<'_> {
             (0, 1..) => Status::NotFound,
             _ => Status::Done,
         };
-        let summary = Summary::new("find", status)
+        Summary::new("find", status)
+            .heading("all keys")
             .number("keys", self.answers.len() as u64)
             .of_which("found", count(Status::Done))
             .of_which("not found", missing)
-            .of_which("refused", refused);
-        printed(
-            arguments,
-            progress,
-            |screen| self.put_text(screen),
-            |json| {
-                summary.put_json(json)?;
-                self.put_json(json)
-            },
-        )?;
-        Ok(status)
+            .of_which("refused", refused)
+            .number("comparisons", self.comparisons)
     }
 
-    fn put_text<W: Write>(&self, screen: &mut Screen<W>) -> io::Result<()> {
+    fn put_text<W: Write>(&self, screen: &mut Screen<W>, counted: &str) -> io::Result<()> {
         for (number, answer) in self.answers.iter().enumerate() {
             if number > 0 {
                 screen.plain("")?;
@@ -180,18 +233,18 @@ impl Found<'_> {
             screen.line(Style::Error, &format!("find: {}", answer.words()))?;
             match self.key(answer) {
                 Some(key) => screen.plain(&format!("  key      {key}"))?,
-                None => screen.plain(&format!("  line     {}", answer.key.line.unwrap_or(0)))?,
+                None => screen.plain(&format!("  {counted:<7}  {}", answer.key.number))?,
             }
         }
         Ok(())
     }
 
-    fn put_json<W: Write>(&self, json: &mut Json<W>) -> io::Result<()> {
+    fn put_json<W: Write>(&self, json: &mut Json<W>, counted: &str) -> io::Result<()> {
         json.name("answers")?;
         json.begin_array()?;
         for answer in self.answers {
             json.begin_object()?;
-            json.number_of("line", answer.key.line.unwrap_or(0))?;
+            json.number_of(counted, answer.key.number)?;
             json.text_of("answer", &answer.words())?;
             json.number_of("status", answer.status() as u64)?;
             if let Some(key) = self.key(answer) {

@@ -1,19 +1,28 @@
-//! The keys of find: the one that is given, or the lines of standard input.
+//! The keys of find and edit: one that is given, several, or the lines of a file.
 
-use std::ffi::OsStr;
-use std::io::{self, BufRead};
+use std::ffi::OsString;
+use std::io::{self, BufRead, BufReader};
 use std::os::unix::ffi::OsStrExt;
+use std::path::Path;
 
+use crate::arguments::Arguments;
 use crate::code_page::argument;
 use crate::failure::{words, Failure, STANDARD};
+use crate::files::read::open;
 
 /// How much of a line is kept: more than a key has, so that the call refuses a longer one.
 const LONGEST: usize = 64;
 
-/// A key in EBCDIC, and the line of standard input that it is from.
+/// A key in EBCDIC, and its number among the arguments or lines, the first being 1.
 pub struct Key {
-    pub line: Option<u64>,
+    pub number: u64,
     pub bytes: Vec<u8>,
+}
+
+/// The keys, and what their numbers count; none where it is one key alone.
+pub struct Keys {
+    pub counted: Option<&'static str>,
+    pub list: Vec<Key>,
 }
 
 /// Reads a line without its end, or the front of a longer one; none at the end.
@@ -40,33 +49,63 @@ fn next_line(input: &mut impl BufRead) -> io::Result<Option<Vec<u8>>> {
     }
 }
 
-/// The keys of an operand; blank lines are none.
-pub fn keys_of(given: &OsStr) -> Result<Vec<Key>, Failure> {
-    if given != STANDARD {
-        return Ok(vec![Key {
-            line: None,
-            bytes: argument(given.as_bytes()),
-        }]);
-    }
-    let failed = |error: io::Error| {
-        Failure::File(format!("standard input can't be read: {}", words(&error)))
-    };
-    let mut input = io::stdin().lock();
-    let mut keys = Vec::new();
+/// The keys in the lines of a file; blank lines are none.
+fn keys_in(path: &Path) -> Result<Keys, Failure> {
+    let failed =
+        |error: io::Error| Failure::file(path, format!("can't be read: {}", words(&error)));
+    let mut input = BufReader::new(open(path).map_err(failed)?);
+    let mut list = Vec::new();
     let mut number = 0;
     while let Some(line) = next_line(&mut input).map_err(failed)? {
         number += 1;
         if !line.is_empty() {
-            keys.push(Key {
-                line: Some(number),
-                bytes: argument(&line),
-            });
+            let bytes = argument(&line);
+            list.push(Key { number, bytes });
         }
     }
-    if keys.is_empty() {
-        return Err(Failure::File("standard input has no key".to_string()));
+    if list.is_empty() {
+        return Err(Failure::file(path, "has no key"));
     }
-    Ok(keys)
+    Ok(Keys {
+        counted: Some("line"),
+        list,
+    })
+}
+
+/// The keys that are given one by one.
+fn keys_given(given: &[OsString]) -> Keys {
+    let key = |(number, key): (u64, &OsString)| Key {
+        number,
+        bytes: argument(key.as_bytes()),
+    };
+    Keys {
+        counted: (given.len() > 1).then_some("argument"),
+        list: (1..).zip(given).map(key).collect(),
+    }
+}
+
+/// The key of a command that takes one, or the lines of standard input.
+pub fn one_or_lines(arguments: &Arguments) -> Result<Vec<Key>, Failure> {
+    let keys = match arguments.operands_from(1) {
+        [only] if only == STANDARD => keys_in(Path::new(STANDARD))?,
+        given => keys_given(given),
+    };
+    Ok(keys.list)
+}
+
+/// The keys of a command line.
+pub fn keys_of(arguments: &Arguments) -> Result<Keys, Failure> {
+    let given = arguments.operands_from(1);
+    match (given, arguments.value("--keys")) {
+        ([], None) => Err(arguments.wrong("KEY is missing, or --keys FILE")),
+        ([], Some(file)) => keys_in(Path::new(file)),
+        (_, Some(_)) => Err(arguments.wrong("keys are given, and --keys FILE too: give one alone")),
+        ([only], None) if only == STANDARD => keys_in(Path::new(STANDARD)),
+        (several, None) if several.iter().any(|key| key == STANDARD) => {
+            Err(arguments.wrong("- is standard input, and can't stand among other keys"))
+        }
+        (given, None) => Ok(keys_given(given)),
+    }
 }
 
 #[cfg(test)]

@@ -42,6 +42,7 @@ pub fn run(arguments: &Arguments, progress: &Progress) -> Result<Status, Failure
         .text("log", shown(&target.log_target()?.given))
         .number("runs", runs.len() as u64)
         .of_which("carried out", count(Outcome::CarriedOut))
+        .of_which("taken back", count(Outcome::TakenBack))
         .of_which("not carried out", count(Outcome::NotCarriedOut))
         .of_which("unknown", count(Outcome::Unknown));
     let lines: Vec<(Run, Outcome)> = runs.into_iter().zip(outcomes).collect();
@@ -63,11 +64,11 @@ fn put_text<W: Write>(screen: &mut Screen<W>, runs: &[(Run, Outcome)]) -> io::Re
         screen.plain("")?;
         let heading = format!("{}  {}: {}", run.time, run.command, outcome.words());
         let style = match outcome {
-            Outcome::CarriedOut => Style::Heading,
+            Outcome::CarriedOut | Outcome::TakenBack => Style::Heading,
             _ => Style::Warning,
         };
         screen.line(style, &heading)?;
-        for input in &run.inputs {
+        for input in run.inputs.iter().chain(&run.journal) {
             let (kind, name, print) = (&input.kind, &input.name, &input.sha256[..16]);
             screen.plain(&format!("  {kind}  {name}  {print}.."))?;
         }

@@ -11,7 +11,7 @@ use crate::failure::{shown, Failure, STANDARD};
 use crate::files::lock::Lock;
 use crate::files::protect::may_be_made;
 use crate::files::replace::{self, stage, NewFile, Placed, Staged, WriteFailure, OWNER_ALONE};
-use crate::files::target::{apart, Target};
+use crate::files::target::{all_apart, Target};
 use crate::progress::Progress;
 
 /// Where a file that is made goes.
@@ -28,6 +28,9 @@ pub struct Outputs {
     mode: Option<u32>,
     _locks: Vec<Lock>,
 }
+
+/// Stands in the place of an option for files whose names a command makes itself.
+const NAMED_BY_COMMAND: &str = "";
 
 /// What a command writes.
 pub struct Wanted<'a> {
@@ -67,14 +70,7 @@ fn place_of(arguments: &Arguments, option: &str) -> Result<Place, Failure> {
 impl Outputs {
     /// Sees that all that is wanted may be written, and locks it. Nothing is changed by that.
     pub fn open(arguments: &Arguments, wanted: &Wanted) -> Result<Outputs, Failure> {
-        let mode = arguments.mode()?;
-        let wait = Duration::from_secs(arguments.number("--wait")?.unwrap_or(0));
-        let mut outputs = Outputs {
-            state: None,
-            made: Vec::new(),
-            mode,
-            _locks: Vec::new(),
-        };
+        let mut outputs = Outputs::none(arguments)?;
         if wanted.state {
             let state = Target::of(arguments.path(0))?;
             outputs.state = Some(Target {
@@ -85,14 +81,42 @@ impl Outputs {
         for &option in wanted.made {
             outputs.made.push((option, place_of(arguments, option)?));
         }
-        outputs.see_apart(wanted.inputs)?;
-        outputs.see_allowed(arguments)?;
-        let locks = outputs.targets().map(|target| Lock::take(target, wait));
+        outputs.secured(arguments, wanted.inputs)
+    }
+
+    /// The same for files whose names the command makes itself.
+    pub fn open_files(
+        arguments: &Arguments,
+        files: &[PathBuf],
+        inputs: &[&Path],
+    ) -> Result<Outputs, Failure> {
+        let mut outputs = Outputs::none(arguments)?;
+        for file in files {
+            let place = Place::File(Target::of(file)?);
+            outputs.made.push((NAMED_BY_COMMAND, place));
+        }
+        outputs.secured(arguments, inputs)
+    }
+
+    fn none(arguments: &Arguments) -> Result<Outputs, Failure> {
+        Ok(Outputs {
+            state: None,
+            made: Vec::new(),
+            mode: arguments.mode()?,
+            _locks: Vec::new(),
+        })
+    }
+
+    fn secured(mut self, arguments: &Arguments, inputs: &[&Path]) -> Result<Outputs, Failure> {
+        let wait = Duration::from_secs(arguments.number("--wait")?.unwrap_or(0));
+        self.see_apart(inputs)?;
+        self.see_allowed(arguments)?;
+        let locks = self.targets().map(|target| Lock::take(target, wait));
         let locks = locks.collect::<Result<_, _>>()?;
-        outputs._locks = locks;
+        self._locks = locks;
         // another run may have been at work before the lock was taken
-        outputs.see_allowed(arguments)?;
-        Ok(outputs)
+        self.see_allowed(arguments)?;
+        Ok(self)
     }
 
     /// The master or table that the command replaces.
@@ -113,13 +137,10 @@ impl Outputs {
 
     fn see_apart(&self, inputs: &[&Path]) -> Result<(), Failure> {
         let targets: Vec<&Target> = self.targets().collect();
-        for (at, target) in targets.iter().enumerate() {
+        for target in &targets {
             target.apart_from(inputs)?;
-            for other in &targets[..at] {
-                apart(target, other)?;
-            }
         }
-        Ok(())
+        all_apart(&targets)
     }
 
     fn see_allowed(&self, arguments: &Arguments) -> Result<(), Failure> {
@@ -139,8 +160,18 @@ impl Outputs {
         write: impl FnOnce(&mut dyn Write) -> Result<(), WriteFailure>,
     ) -> Result<Staged, Failure> {
         let place = self.made.iter().find(|(name, _)| *name == option);
+        self.stage_at(place.map(|(_, place)| place), progress, write)
+    }
+
+    /// Writes a file under its temporary name, or keeps it for standard output.
+    fn stage_at(
+        &self,
+        place: Option<&Place>,
+        progress: &Progress,
+        write: impl FnOnce(&mut dyn Write) -> Result<(), WriteFailure>,
+    ) -> Result<Staged, Failure> {
         match place {
-            Some((_, Place::File(target))) => {
+            Some(Place::File(target)) => {
                 stage(target, &NewFile::of_mode(self.mode), progress, write)
             }
             _ => {
@@ -155,6 +186,17 @@ impl Outputs {
                 }
             }
         }
+    }
+
+    /// Writes one of the files that the command names, the first being 0.
+    pub fn stage_file(
+        &self,
+        number: usize,
+        progress: &Progress,
+        bytes: &[u8],
+    ) -> Result<Staged, Failure> {
+        let place = self.made.get(number).map(|(_, place)| place);
+        self.stage_at(place, progress, |out| Ok(out.write_all(bytes)?))
     }
 
     /// The same from bytes.

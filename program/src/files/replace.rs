@@ -53,6 +53,8 @@ pub struct StagedFile {
     temporary: PathBuf,
     /// Whether it takes the place of another.
     replaces: bool,
+    /// Whether its name is to be on the disk before the files behind it are put in place.
+    before_others: bool,
     in_place: bool,
 }
 
@@ -61,6 +63,16 @@ pub enum Staged {
     File(StagedFile),
     /// For standard output.
     Standard(Vec<u8>),
+}
+
+impl Staged {
+    /// The same, with its name on the disk before the files behind it are put in place.
+    pub fn before_others(mut self) -> Staged {
+        if let Staged::File(file) = &mut self {
+            file.before_others = true;
+        }
+        self
+    }
 }
 
 impl Drop for StagedFile {
@@ -146,6 +158,7 @@ pub fn stage(
         folder: target.folder.clone(),
         temporary,
         replaces: old.is_some(),
+        before_others: false,
         in_place: false,
     };
     if let Some(old) = &old {
@@ -183,6 +196,19 @@ impl StagedFile {
         placing.is_placed(&self.temporary);
         Ok(())
     }
+
+    /// Syncs the folder where the file's name is to be on the disk before others.
+    fn sync_name(&self) -> io::Result<()> {
+        match self.before_others {
+            true => sync_folder(&self.folder),
+            false => Ok(()),
+        }
+    }
+}
+
+/// Has the names in a folder on the disk.
+fn sync_folder(folder: &Path) -> io::Result<()> {
+    File::open(folder).and_then(|file| file.sync_all())
 }
 
 /// Takes back what was put in place before a file that can't be: new files go. The answer names those that stay.
@@ -196,17 +222,22 @@ fn take_back(placed: &[StagedFile]) -> Vec<String> {
     stay
 }
 
+/// A file that can't be replaced, or whose name can't be synced, behind those that were put in place.
 fn not_placed(file: &StagedFile, placed: &[StagedFile], error: &io::Error) -> Failure {
     let stay = take_back(placed);
     let state = match &stay[..] {
         [] => "no file is changed".to_string(),
+        stay if file.in_place => format!("{} is new already, the others are not", stay.join(", ")),
         stay => format!(
             "{} is new already, this file is the old one",
             stay.join(", ")
         ),
     };
-    let what = format!("can't be replaced: {}; {state}", words(error));
-    Failure::file(&file.given, what)
+    let what = match file.in_place {
+        true => "its folder can't be synced",
+        false => "can't be replaced",
+    };
+    Failure::file(&file.given, format!("{what}: {}; {state}", words(error)))
 }
 
 /// Writes what is for standard output; nothing is in place yet.
@@ -239,7 +270,14 @@ fn rename_all(files: Vec<Staged>) -> Result<Vec<StagedFile>, Failure> {
             drop((file, waiting));
             return Err(failure);
         }
+        let synced = file.sync_name();
         placed.push(file);
+        if let (Err(error), Some(file)) = (synced, placed.last()) {
+            let failure = not_placed(file, &placed, &error);
+            drop(placing);
+            drop(waiting);
+            return Err(failure);
+        }
     }
     CHANGED.store(!placed.is_empty(), Ordering::SeqCst);
     Ok(placed)
@@ -263,7 +301,7 @@ pub fn put_in_place(files: Vec<Staged>) -> Result<Placed, Failure> {
     }
     let names: Vec<String> = placed.iter().map(|file| shown(&file.given)).collect();
     let warning = folders.iter().find_map(|folder| {
-        let error = File::open(folder).and_then(|file| file.sync_all()).err()?;
+        let error = sync_folder(folder).err()?;
         Some(format!(
             "{}: in place, but the folder {} can't be synced: {}",
             names.join(", "),

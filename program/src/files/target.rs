@@ -1,5 +1,6 @@
 //! A file that a run replaces: where it is, and that it is none of the inputs.
 
+use std::collections::HashMap;
 use std::fs;
 use std::io;
 use std::os::unix::ffi::OsStrExt;
@@ -151,22 +152,33 @@ impl Target {
     }
 }
 
-/// Sees that two targets, and what is written beside them, are different files.
-pub fn apart(one: &Target, other: &Target) -> Result<(), Failure> {
-    let shared = one.names().iter().any(|name| other.names().contains(name));
-    if shared || is_same(&one.path, &other.path) {
-        let shown = other.given.display();
-        let what =
-            format!("can't be written: the run writes {shown}, or beside it, under the same name");
-        return Err(Failure::file(&one.given, what));
+/// Sees that all targets, and what is written beside them, are different files.
+pub fn all_apart(targets: &[&Target]) -> Result<(), Failure> {
+    let mut names: HashMap<PathBuf, usize> = HashMap::new();
+    let mut files: HashMap<(u64, u64), usize> = HashMap::new();
+    for (at, target) in targets.iter().enumerate() {
+        let is_file = identity(&target.path).and_then(|file| files.insert(file, at));
+        let named = target.names().into_iter();
+        let shared = named.filter_map(|name| names.insert(name, at));
+        if let Some(other) = shared.chain(is_file).find(|&other| other != at) {
+            let shown = targets[other].given.display();
+            let what = format!(
+                "can't be written: the run writes {shown}, or beside it, under the same name"
+            );
+            return Err(Failure::file(&target.given, what));
+        }
     }
     Ok(())
 }
 
+/// The device and number of the file that a path leads to.
+fn identity(path: &Path) -> Option<(u64, u64)> {
+    let about = fs::metadata(path).ok()?;
+    Some((about.dev(), about.ino()))
+}
+
 /// Whether two paths lead to one file.
 fn is_same(one: &Path, other: &Path) -> bool {
-    match (fs::metadata(one), fs::metadata(other)) {
-        (Ok(one), Ok(other)) => one.dev() == other.dev() && one.ino() == other.ino(),
-        _ => false,
-    }
+    let one = identity(one);
+    one.is_some() && one == identity(other)
 }

@@ -7,10 +7,15 @@ use std::path::Path;
 use crate::failure::{words, Failure};
 use crate::log::line::Run;
 
+/// The command whose runs take others back.
+pub const TAKE_BACK: &str = "take-back";
+
 /// What became of a run.
 #[derive(Clone, Copy, Debug, PartialEq, Eq)]
 pub enum Outcome {
     CarriedOut,
+    /// It was, and is not in the master any more: the run behind it took it back.
+    TakenBack,
     /// It was cut off, or the master was put back to what it was before.
     NotCarriedOut,
     /// The master was changed otherwise since.
@@ -18,9 +23,15 @@ pub enum Outcome {
 }
 
 impl Outcome {
+    /// Whether the master may have the run in it.
+    pub fn may_be_in_master(self) -> bool {
+        matches!(self, Outcome::CarriedOut | Outcome::Unknown)
+    }
+
     pub fn words(self) -> &'static str {
         match self {
             Outcome::CarriedOut => "carried out",
+            Outcome::TakenBack => "taken back",
             Outcome::NotCarriedOut => "not carried out",
             Outcome::Unknown => "unknown",
         }
@@ -51,10 +62,13 @@ pub fn read_log(path: &Path) -> Result<(Vec<u8>, Vec<Run>), Failure> {
 
 /// What became of each run, by the fingerprint that the master has now. From the last run back: one that leaves what is there
 /// was carried out, and what it began with was there before it. Where what is there is older than a run, that run is not in it.
+/// A batch is taken back where the run behind it is a take-back that leaves what was there before the batch.
 pub fn outcomes(runs: &[Run], now: Option<&str>) -> Vec<Outcome> {
     let mut outcomes = vec![Outcome::Unknown; runs.len()];
     let mut there = now;
     let mut open = runs.len();
+    // what the take-backs left whose batches stand in front
+    let mut left: Vec<&Option<String>> = Vec::new();
     for (number, run) in runs.iter().enumerate().rev() {
         let is_after = run.after.as_deref() == there;
         if !is_after && run.before.as_deref() != there {
@@ -62,7 +76,16 @@ pub fn outcomes(runs: &[Run], now: Option<&str>) -> Vec<Outcome> {
         }
         outcomes[number..open].fill(Outcome::NotCarriedOut);
         if is_after {
-            outcomes[number] = Outcome::CarriedOut;
+            let mut is_taken_back = false;
+            if run.command == TAKE_BACK {
+                left.push(&run.after);
+            } else {
+                is_taken_back = left.pop() == Some(&run.before);
+            }
+            outcomes[number] = match is_taken_back {
+                true => Outcome::TakenBack,
+                false => Outcome::CarriedOut,
+            };
             there = run.before.as_deref();
         }
         open = number;
@@ -72,7 +95,7 @@ pub fn outcomes(runs: &[Run], now: Option<&str>) -> Vec<Outcome> {
 
 #[cfg(test)]
 mod tests {
-    use super::Outcome::{CarriedOut, NotCarriedOut, Unknown};
+    use super::Outcome::{CarriedOut, NotCarriedOut, TakenBack, Unknown};
     use super::*;
 
     fn run(before: Option<&str>, after: &str) -> Run {
@@ -99,6 +122,28 @@ mod tests {
         );
         assert_eq!(outcomes(&runs, None), [NotCarriedOut; 3]);
         assert_eq!(outcomes(&runs, Some("x")), [Unknown; 3]);
+    }
+
+    #[test]
+    fn runs_that_were_taken_back() {
+        let back = |before: &str, after: Option<&str>| Run {
+            before: Some(before.to_string()),
+            after: after.map(str::to_string),
+            ..Run::now(TAKE_BACK)
+        };
+        let mut runs = vec![run(None, "a"), run(Some("a"), "b"), back("b", Some("a"))];
+        let wanted = [CarriedOut, TakenBack, CarriedOut];
+        assert_eq!(outcomes(&runs, Some("a")), wanted);
+        // the take-back was cut off
+        let wanted = [CarriedOut, CarriedOut, NotCarriedOut];
+        assert_eq!(outcomes(&runs, Some("b")), wanted);
+        // then the first batch too
+        runs.push(back("a", None));
+        let wanted = [TakenBack, TakenBack, CarriedOut, CarriedOut];
+        assert_eq!(outcomes(&runs, None), wanted);
+        // one that did not leave what was there before the run in front of it
+        let runs = [run(Some("a"), "b"), back("b", Some("c"))];
+        assert_eq!(outcomes(&runs, Some("c")), [CarriedOut; 2]);
     }
 
     #[test]

@@ -9,10 +9,10 @@ use crate::log::value::{self, Value};
 use crate::mask::masked_typed;
 use crate::report::json::Json;
 
-/// A file that a run read.
+/// A file that a run read, or the journal that it wrote.
 #[derive(Clone, Debug, PartialEq, Eq)]
 pub struct InputPrint {
-    /// What it is: batch, locals, collections.
+    /// What it is: batch, locals, collections, journal.
     pub kind: String,
     /// Its name without its folder, and without an SSN.
     pub name: String,
@@ -28,6 +28,8 @@ pub struct Run {
     pub command: String,
     pub status: u64,
     pub inputs: Vec<InputPrint>,
+    /// The journal that it wrote.
+    pub journal: Option<InputPrint>,
     /// The fingerprints of the master; none where there is none, or no row.
     pub before: Option<String>,
     pub after: Option<String>,
@@ -51,6 +53,7 @@ impl Run {
             command: command.to_string(),
             status: 0,
             inputs: Vec::new(),
+            journal: None,
             before: None,
             after: None,
             counts: Vec::new(),
@@ -75,13 +78,13 @@ impl Run {
         json.name("inputs")?;
         json.begin_array()?;
         for input in &self.inputs {
-            json.begin_object()?;
-            json.text_of("kind", &input.kind)?;
-            json.text_of("name", &masked_typed(&input.name))?;
-            json.text_of("sha256", &input.sha256)?;
-            json.end_object()?;
+            put_input(json, input)?;
         }
         json.end_array()?;
+        if let Some(journal) = &self.journal {
+            json.name("journal")?;
+            put_input(json, journal)?;
+        }
         json.maybe_text_of("master_before", self.before.as_deref())?;
         json.maybe_text_of("master_after", self.after.as_deref())?;
         json.name("counts")?;
@@ -106,6 +109,10 @@ impl Run {
         let Some(Value::Object(counts)) = object.member("counts") else {
             return None;
         };
+        let journal = match object.member("journal") {
+            None => None,
+            Some(journal) => Some(read_input(journal)?),
+        };
         let count = |(name, count): &(String, Value)| Some((name.clone(), count.number()?));
         Some(Run {
             time: text("time")?,
@@ -113,11 +120,20 @@ impl Run {
             command: text("command")?,
             status: object.member("status")?.number()?,
             inputs: inputs.iter().map(read_input).collect::<Option<_>>()?,
+            journal,
             before: print("master_before")?,
             after: print("master_after")?,
             counts: counts.iter().map(count).collect::<Option<_>>()?,
         })
     }
+}
+
+fn put_input<W: io::Write>(json: &mut Json<W>, input: &InputPrint) -> io::Result<()> {
+    json.begin_object()?;
+    json.text_of("kind", &input.kind)?;
+    json.text_of("name", &masked_typed(&input.name))?;
+    json.text_of("sha256", &input.sha256)?;
+    json.end_object()
 }
 
 fn read_input(object: &Value) -> Option<InputPrint> {

@@ -6,9 +6,10 @@ use crate::arguments::Arguments;
 use crate::failure::{shown, Failure};
 use crate::files::read::Input;
 use crate::files::target::Target;
-use crate::log::history::{outcomes, read_log, Outcome};
+use crate::log::history::{outcomes, read_log};
 use crate::log::line::{InputPrint, Run};
 use crate::log::sha256::sha256;
+use crate::records::kinds::{FileKind, JOURNAL};
 use crate::report::summary::Summary;
 
 /// The log as it is, and the run that is to be added.
@@ -24,14 +25,19 @@ pub fn master_print(rows: &[u8]) -> Option<String> {
     (!rows.is_empty()).then(|| sha256(rows))
 }
 
-/// The fingerprint of a file as it was read, in EBCDIC.
-fn print_of(input: &Input) -> InputPrint {
-    let name = input.path.file_name().unwrap_or(input.path.as_os_str());
+/// The fingerprint of bytes in EBCDIC, with the name of their file.
+fn print_of(kind: &FileKind, path: &Path, bytes: &[u8]) -> InputPrint {
+    let name = path.file_name().unwrap_or(path.as_os_str());
     InputPrint {
-        kind: input.kind.name.to_string(),
+        kind: kind.name.to_string(),
         name: shown(Path::new(name)),
-        sha256: sha256(&input.bytes[..input.read]),
+        sha256: sha256(bytes),
     }
+}
+
+/// That of a file as it was read.
+fn print_of_input(input: &Input) -> InputPrint {
+    print_of(input.kind, &input.path, &input.bytes[..input.read])
 }
 
 impl Record {
@@ -67,7 +73,7 @@ impl Record {
     ) -> Record {
         let mut run = Run::now(command);
         run.before = master_print(&master.bytes[..master.read]);
-        run.inputs = inputs.iter().map(|input| print_of(input)).collect();
+        run.inputs = inputs.iter().map(|input| print_of_input(input)).collect();
         Record {
             master: target.given.clone(),
             log,
@@ -76,7 +82,7 @@ impl Record {
         }
     }
 
-    /// The time of a run that took the same first input before, unless it was not carried out.
+    /// The time of a run that took the same first input before, unless it was not carried out, or was taken back.
     pub fn taken_before(&self) -> Option<&str> {
         let first = self.run.inputs.first()?;
         let outcomes = outcomes(&self.runs, self.run.before.as_deref());
@@ -87,7 +93,7 @@ impl Record {
         };
         let mut taken = self.runs.iter().zip(outcomes).rev();
         taken
-            .find(|(run, outcome)| *outcome != Outcome::NotCarriedOut && is_same(run))
+            .find(|(run, outcome)| outcome.may_be_in_master() && is_same(run))
             .map(|(run, _)| run.time.as_str())
     }
 
@@ -103,6 +109,39 @@ impl Record {
         let master = shown(&self.master);
         let what = format!("{what} {master} before, at {time}; --again does it once more");
         Err(Failure::file(&input.path, what))
+    }
+
+    /// The same run with the journal that it writes.
+    pub fn with_journal(mut self, path: &Path, journal: &[u8]) -> Record {
+        self.run.journal = Some(print_of(&JOURNAL, path, journal));
+        self
+    }
+
+    /// Why the journal that is the first input is not that of the batch which left the master; none where it is, or where the
+    /// log knows neither the journal nor what left the master.
+    pub fn not_left(&self) -> Option<String> {
+        let journal = self.run.inputs.first()?;
+        let is_its = |run: &&Run| {
+            let written = run.journal.as_ref();
+            written.is_some_and(|written| written.sha256 == journal.sha256)
+        };
+        let (now, master) = (&self.run.before, shown(&self.master));
+        let its: Vec<&Run> = self.runs.iter().filter(is_its).collect();
+        if its.iter().any(|run| run.after == *now) {
+            return None;
+        }
+        let Some(last) = its.last() else {
+            let left = self.runs.iter().rfind(|run| run.after == *now)?;
+            let (command, time) = (&left.command, &left.time);
+            return Some(format!(
+                "the {command} of {time}, which left {master} as it is, did not write this journal"
+            ));
+        };
+        let batch = format!("the batch of {}, whose journal this is", last.time);
+        Some(match its.iter().any(|run| run.before == *now) {
+            true => format!("{master} is what it was before {batch}: there is nothing to take back"),
+            false => format!("{master} was changed since {batch}: what was changed since in the rows of the batch would be lost"),
+        })
     }
 
     /// The log with the run in it, which leaves these rows.

@@ -64,28 +64,38 @@ pub mod row {
     pub const STATE: Field = text("Submitting State Code", 1, 2);
     pub const SSN: Field = ssn(3, 11);
     pub const CASE_TYPE: Field = text("Case Type Indicator", 12, 12);
+    pub const LOCAL_CODE: Field = text("Local Code", 13, 15);
+    pub const CASE_ID: Field = text("Case ID", 16, 30);
+    pub const LAST_NAME: Field = text("Obligor Last Name", 31, 50);
+    pub const FIRST_NAME: Field = text("Obligor First Name", 51, 65);
+    pub const ARREARAGE: Field = text("Arrearage Amount", 66, 73);
+    pub const PAYMENT_YEAR: Field = text("Payment Year", 79, 82);
+    pub const PAYMENT: Field = text("Accumulated Payment Amount", 83, 90);
+    pub const EXCLUSIONS: Field = field("Exclusion Indicator(s)", 195, 195, Kind::Set);
+    pub const STATUS: Field = text("Status", 196, 196);
+    pub const CENTS: Field = text("Cents", 197, 198);
     pub const FIELDS: Layout = &[
         STATE,
         SSN,
         CASE_TYPE,
-        text("Local Code", 13, 15),
-        text("Case ID", 16, 30),
-        text("Obligor Last Name", 31, 50),
-        text("Obligor First Name", 51, 65),
-        text("Arrearage Amount", 66, 73),
+        LOCAL_CODE,
+        CASE_ID,
+        LAST_NAME,
+        FIRST_NAME,
+        ARREARAGE,
         text("Transfer State Code", 74, 75),
         text("Transfer Local Code", 76, 78),
-        text("Payment Year", 79, 82),
-        text("Accumulated Payment Amount", 83, 90),
+        PAYMENT_YEAR,
+        PAYMENT,
         text("Obligor Address Line 1", 91, 120),
         text("Obligor Address Line 2", 121, 150),
         text("Obligor City", 151, 175),
         text("Obligor State", 176, 177),
         text("Obligor Zip Code", 178, 186),
         text("Date Issued", 187, 194),
-        field("Exclusion Indicator(s)", 195, 195, Kind::Set),
-        text("Status", 196, 196),
-        text("Cents", 197, 198),
+        EXCLUSIONS,
+        STATUS,
+        CENTS,
         filler(199, 200),
     ];
 }
@@ -100,6 +110,7 @@ pub mod detail {
     pub const FIRST_NAME: Field = text("Obligor First Name", 50, 64);
     pub const TYPE: Field = text("Transaction Type", 73, 73);
     pub const CASE_TYPE: Field = text("Case Type Indicator", 74, 74);
+    pub const EXCLUSIONS: Field = text("Exclusion Indicator(s)", 188, 227);
     pub const FIELDS: Layout = &[
         STATE,
         text("Local Code", 3, 5),
@@ -119,7 +130,7 @@ pub mod detail {
         text("Obligor State", 169, 170),
         text("Obligor Zip Code", 171, 179),
         text("Date Issued", 180, 187),
-        text("Exclusion Indicator(s)", 188, 227),
+        EXCLUSIONS,
         filler(228, 244),
         text("Request Code", 245, 245),
     ];

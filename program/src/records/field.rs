@@ -3,7 +3,7 @@
 use std::borrow::Cow;
 
 use super::columns::{Field, Kind, Layout};
-use crate::code_page::{Charset, Decoder};
+use crate::code_page::{argument, Charset, Decoder};
 use crate::mask::masked_typed;
 
 /// What stands for a byte that is no character.
@@ -37,6 +37,11 @@ impl Field {
         &record[self.first - 1..self.last]
     }
 
+    /// Puts bytes, as many as the field has, into a record.
+    pub fn set(&self, record: &mut [u8], bytes: &[u8]) {
+        record[self.first - 1..self.last].copy_from_slice(bytes);
+    }
+
     /// Its columns as the charts give them.
     pub fn columns(&self) -> String {
         if self.first == self.last {
@@ -45,6 +50,16 @@ impl Field {
             format!("{}-{}", self.first, self.last)
         }
     }
+}
+
+/// A record of spaces with texts at the front of its fields, in EBCDIC.
+pub fn text_in(width: usize, fields: &[(Field, &str)]) -> Vec<u8> {
+    let mut record = argument(&vec![b' '; width]);
+    for (field, text) in fields {
+        let bytes = argument(text.as_bytes());
+        record[field.first - 1..][..bytes.len()].copy_from_slice(&bytes);
+    }
+    record
 }
 
 impl Form {

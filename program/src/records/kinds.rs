@@ -1,6 +1,8 @@
 //! The kinds of files: what their records are, and how many there may be.
 
-use fantanolive::{CONTACT, LINE, LOCAL_CODE, MAX_CONTACTS, MAX_RECORDS, MAX_ROWS, RECORD, ROW};
+use fantanolive::{
+    journal_size, CONTACT, LINE, LOCAL_CODE, MAX_CONTACTS, MAX_RECORDS, MAX_ROWS, RECORD, ROW,
+};
 
 use super::columns::{
     contact, control, detail, line, local_code, rct, rec, reject, reject_control, row, total,
@@ -44,6 +46,9 @@ pub const MASTER: FileKind = FileKind {
     fields: row::FIELDS,
     last: None,
 };
+
+/// One row by itself.
+pub const ONE_ROW: FileKind = FileKind { most: 1, ..MASTER };
 
 pub const BATCH: FileKind = FileKind {
     name: "batch",
@@ -119,6 +124,16 @@ pub const LOCALS: FileKind = FileKind {
     width: LOCAL_CODE,
     most: 1000,
     fields: local_code::FIELDS,
+    last: None,
+};
+
+/// The journal of a batch, which has no records; it is no longer than that of the largest batch.
+pub const JOURNAL: FileKind = FileKind {
+    name: "journal",
+    record: "byte",
+    width: 1,
+    most: journal_size(MAX_RECORDS - 1),
+    fields: &[],
     last: None,
 };
 

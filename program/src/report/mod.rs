@@ -1,6 +1,10 @@
 //! What is printed: text for people, JSON for machines.
 
+pub mod batch_notes;
+pub mod case_notes;
+pub mod differences;
 pub mod fields;
+pub mod journal_note;
 pub mod json;
 pub mod listed;
 pub mod notes;

@@ -52,23 +52,37 @@ fn print_text(command: &str, failure: &Failure, full: bool) -> io::Result<()> {
         Failure::Refused { refusal, notes } => {
             screen.wrapped(Style::Error, &start, &refusal.to_string(), 2)?;
             put_words(&mut screen, refusal.text())?;
-            for note in notes {
-                screen.wrapped(Style::Plain, "  ", note, 4)?;
-            }
-            screen.plain("  no file is changed")
+            put_notes(&mut screen, notes)
         }
-        // a message is one line, so that it can be looked for in a log; a terminal has it in several
-        other if width.is_none() => screen.plain(&format!("{start}{}", message(other))),
-        other => screen.wrapped(Style::Error, &start, &message(other), 2),
+        other => {
+            // a message is one line, so that it can be looked for in a log; a terminal has it in several
+            match width {
+                None => screen.plain(&format!("{start}{}", message(other)))?,
+                Some(_) => screen.wrapped(Style::Error, &start, &message(other), 2)?,
+            }
+            match other {
+                Failure::Stopped { notes, .. } => put_notes(&mut screen, notes),
+                _ => Ok(()),
+            }
+        }
     }
+}
+
+/// What is known of the files, and that they are as before.
+fn put_notes<W: Write>(screen: &mut Screen<W>, notes: &[String]) -> io::Result<()> {
+    for note in notes {
+        screen.wrapped(Style::Plain, "  ", note, 4)?;
+    }
+    screen.plain("  no file is changed")
 }
 
 /// What is wrong, in a sentence.
 fn message(failure: &Failure) -> String {
     match failure {
-        Failure::Argument { message, .. } | Failure::File(message) | Failure::Busy(message) => {
-            message.clone()
-        }
+        Failure::Argument { message, .. }
+        | Failure::Stopped { message, .. }
+        | Failure::File(message)
+        | Failure::Busy(message) => message.clone(),
         Failure::Refused { refusal, .. } => refusal.to_string(),
         Failure::Output { error, changed } => {
             let files = match changed {
@@ -95,22 +109,29 @@ fn print_json(command: &str, failure: &Failure, form: Form) -> io::Result<()> {
             json.number_of("status", failure.status() as u64)?;
             json.number_of("refusal", refusal.number())?;
             put_json_words(&mut json, refusal.text())?;
-            json.name("notes")?;
-            json.begin_array()?;
-            for note in notes {
-                json.text(note)?;
-            }
-            json.end_array()?;
+            put_json_notes(&mut json, notes)?;
         }
         other => {
             json.text_of("outcome", outcome(failure.status()))?;
             json.number_of("status", failure.status() as u64)?;
             json.text_of("message", &message(other))?;
+            if let Failure::Stopped { notes, .. } = other {
+                put_json_notes(&mut json, notes)?;
+            }
         }
     }
     json.end_object()?;
     json.finish()?;
     out.flush()
+}
+
+fn put_json_notes<W: Write>(json: &mut Json<W>, notes: &[String]) -> io::Result<()> {
+    json.name("notes")?;
+    json.begin_array()?;
+    for note in notes {
+        json.text(note)?;
+    }
+    json.end_array()
 }
 
 /// What became of a run that was not carried out, in a word.

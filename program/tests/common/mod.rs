@@ -316,6 +316,48 @@ pub fn two_rows_posted() -> Vec<u8> {
     [first, row("OH987654321A", "00000100", "50")].concat()
 }
 
+/// A batch for two rows: M of 30 dollars for the first, and A of 40 dollars for a new case between them.
+pub fn second_batch() -> Vec<u8> {
+    let m = [(1, "OH"), (6, "123456789"), (30, "SMITH")];
+    let m = record(&[&m[..], &[(65, "00000030"), (73, "MN")]].concat());
+    let a = [(1, "OH"), (6, "234567891"), (30, "DOE"), (50, "JANE")];
+    let a = record(&[&a[..], &[(65, "00000040"), (73, "AA")]].concat());
+    [m, a, control(1, 1, 40, 30)].concat()
+}
+
+/// The two rows after it.
+pub fn second_rows() -> Vec<u8> {
+    let mut new = row("OH234567891A", "00000040", "00");
+    new[30..65].copy_from_slice(&filled(35, &[(1, "DOE"), (21, "JANE")]));
+    [
+        row("OH123456789N", "00000030", "00"),
+        new,
+        row("OH987654321A", "00000100", "00"),
+    ]
+    .concat()
+}
+
+/// Its journal: 2 rows before and 3 after; the row at place 0 changed, with the old one; that at place 1 new.
+pub fn second_journal() -> Vec<u8> {
+    let old = row("OH123456789N", "00000025", "00");
+    [&[2, 3, 0, 1][..], &old, &[1, 0]].concat()
+}
+
+/// The arguments of apply with that batch and its journal.
+pub const JOURNALED: [&str; 11] = [
+    "apply",
+    "two.bin",
+    "second.bin",
+    "--locals",
+    "locals.bin",
+    "--year",
+    "2007",
+    "--rejects",
+    "rejects.bin",
+    "--journal",
+    "journal.bin",
+];
+
 /// Bytes of ASCII from EBCDIC.
 pub fn ascii(bytes: &[u8]) -> Vec<u8> {
     let characters = " ABCDEFGHIJKLMNOPQRSTUVWXYZ0123456789-,.()/&'#";

@@ -7,11 +7,13 @@ use std::time::Instant;
 
 use generator::contacts::CONTACT;
 use generator::posting::LINE;
-use generator::records::RECORD;
+use generator::records::{Record, RECORD};
 use generator::rows::ROW;
-use generator::text::text;
+use generator::text::{put_text, text, SPACE};
 
-use crate::files::{Files, MOST, STATE};
+use crate::files::{batch, Files, MOST, STATE};
+use crate::journal::journal;
+use crate::pages::{pages, printed};
 
 pub struct Case {
     pub name: &'static str,
@@ -149,7 +151,35 @@ fn batches(files: &Files, folder: &Path) -> Vec<Case> {
             folder,
         ),
         in_ascii(files, folder, &wrong),
+        journaled(files, folder, &changes),
+        taken_back(files, folder, &changes),
+        splitting(files, folder),
+        merging(files, folder),
     ]
+}
+
+/// The changes with a journal.
+fn journaled(files: &Files, folder: &Path, applied: &Applied) -> Case {
+    let name = "apply, changes, with a journal";
+    let mut case = applying(name, Some(&files.master), "changes.bin", applied, folder);
+    case.arguments
+        .extend(["--journal", "journal.bin"].map(str::to_string));
+    let (journal, _) = journal(&files.master, &applied.master);
+    case.written.push(("journal.bin", journal));
+    case.time_files(folder, &[])
+}
+
+/// The changes taken back.
+fn taken_back(files: &Files, folder: &Path, applied: &Applied) -> Case {
+    let (journal, changed) = journal(&files.master, &applied.master);
+    fs::write(folder.join("back.bin"), journal).expect("the folder takes files");
+    let mut case = Case::new("take-back", "take-back master.bin back.bin", 0);
+    case.changed = vec![("master.bin", Some(applied.master.clone()))];
+    case.written = vec![("master.bin", files.master.clone())];
+    case.listed = ("row ", changed);
+    // the places of the rows that differ
+    case.lists = 32 * MOST as u64;
+    case.time_files(folder, &["master.bin", "back.bin"])
 }
 
 fn checking(name: &'static str, words: &str, applied: &Applied, folder: &Path) -> Case {
@@ -214,6 +244,61 @@ fn in_ascii(files: &Files, folder: &Path, applied: &Applied) -> Case {
     case.time_files(folder, &["master.bin", "wrong.txt"])
 }
 
+/// The keys of all rows, the last first, in lines of ASCII.
+fn key_lines(master: &[u8]) -> Vec<u8> {
+    let keys: Vec<&[u8]> = master.chunks(ROW).map(|row| &row[..12]).collect();
+    let (_, keys) = ascii(&keys.concat());
+    let lines = keys.chunks(12).rev().map(|key| [key, b"\n"].concat());
+    lines.collect::<Vec<_>>().concat()
+}
+
+fn find_many(files: &Files, folder: &Path) -> Case {
+    let lines = key_lines(&files.master);
+    fs::write(folder.join("keys.txt"), lines).expect("the folder takes files");
+    let mut case = Case::new("find, every key", "find master.bin --keys keys.txt", 0);
+    case.changed = vec![("master.bin", Some(files.master.clone()))];
+    case.listed = ("  row ", MOST);
+    // each key with its number, its place in the order and its answer
+    case.lists = 160 * MOST as u64;
+    case.time_files(folder, &["master.bin", "keys.txt"])
+}
+
+/// The details of the changes.
+fn changes(files: &Files) -> Vec<Record> {
+    let details = files.changes[..MOST * RECORD].chunks_exact(RECORD);
+    let record = |bytes: &[u8]| bytes.try_into().expect("it has its width");
+    details.map(record).collect()
+}
+
+/// No two changes have one key, so every cut is allowed.
+fn splitting(files: &Files, folder: &Path) -> Case {
+    let most = 30_000;
+    let words = format!("split changes.bin --records {most} --out part");
+    let mut case = Case::new("split", &words, 0);
+    let details = changes(files);
+    let (seconds, parts) = timed(|| details.chunks(most).map(batch).collect::<Vec<_>>());
+    case.call = seconds;
+    case.written = ["part001", "part002", "part003"]
+        .into_iter()
+        .zip(parts)
+        .collect();
+    case.listed = ("part ", 3);
+    case.time_files(folder, &["changes.bin"])
+}
+
+/// The first part of the changes and the rest.
+fn merging(files: &Files, folder: &Path) -> Case {
+    let details = changes(files);
+    let (first, second) = details.split_at(30_000);
+    fs::write(folder.join("first.bin"), batch(first)).expect("the folder takes files");
+    fs::write(folder.join("second.bin"), batch(second)).expect("the folder takes files");
+    let words = "merge first.bin second.bin --out merged.bin";
+    let mut case = Case::new("merge", words, 0);
+    case.call = timed(|| batch(&details)).0;
+    case.written = vec![("merged.bin", files.changes.clone())];
+    case.time_files(folder, &["first.bin", "second.bin"])
+}
+
 fn over_the_master(files: &Files, folder: &Path) -> Vec<Case> {
     let restored = || vec![("master.bin", Some(files.master.clone()))];
     let mut find = Case::new("find", "find master.bin OH100010001A", 0);
@@ -242,10 +327,65 @@ fn over_the_master(files: &Files, folder: &Path) -> Vec<Case> {
 
     vec![
         find.time_files(folder, &["master.bin"]),
+        find_many(files, folder),
         reconcile.time_files(folder, &["master.bin"]),
+        paged("pages", "pages.bin", pages(&files.master), folder),
+        paged(
+            "pages, as text",
+            "pages.txt --text",
+            printed(&ascii(&pages(&files.master)).1),
+            folder,
+        ),
         cents.time_files(folder, &["old.bin"]),
         post(files, folder),
     ]
+}
+
+/// An M of 7 dollars for the first row.
+fn change_of(row: &[u8]) -> Record {
+    let mut record = [SPACE; RECORD];
+    record[..2].copy_from_slice(&row[..2]);
+    record[5..14].copy_from_slice(&row[2..11]);
+    record[29..49].copy_from_slice(&row[30..50]);
+    put_text(&mut record, 65, "00000007M");
+    record[73] = row[11];
+    record
+}
+
+fn edits(files: &Files, folder: &Path) -> Vec<Case> {
+    let row = &files.master[..ROW];
+    let mut wanted = row.to_vec();
+    put_text(&mut wanted, 66, "00000007");
+    put_text(&mut wanted, 197, "00");
+    let sent = change_of(row);
+    fs::write(folder.join("row.bin"), row).expect("the folder takes files");
+    fs::write(folder.join("wanted.bin"), &wanted).expect("the folder takes files");
+
+    let words = "edit master.bin OH100010001A --amount 7 --out change.bin";
+    let mut edit = Case::new("edit", words, 0);
+    edit.call = timed(|| library::find(&files.master, MOST, &row[..12], &mut 0)).0;
+    edit.changed = vec![("master.bin", Some(files.master.clone()))];
+    edit.written = vec![("change.bin", batch(&[sent]))];
+    edit.listed = ("record ", 1);
+
+    let words = "records row.bin wanted.bin --out records.bin";
+    let mut records = Case::new("records", words, 0);
+    records.written = vec![("records.bin", sent.to_vec())];
+    records.listed = ("record ", 1);
+    vec![
+        edit.time_files(folder, &["master.bin"]),
+        records.time_files(folder, &["row.bin", "wanted.bin"]),
+    ]
+}
+
+/// The pages of the master, by the words behind --out.
+fn paged(name: &'static str, words: &'static str, pages: Vec<u8>, folder: &Path) -> Case {
+    let file = words.split(' ').next().expect("a file is named");
+    let mut case = Case::new(name, &format!("pages master.bin --out {words}"), 0);
+    // the pages in EBCDIC, from which the text is made
+    case.lists = 9 << 20;
+    case.written = vec![(file, pages)];
+    case.time_files(folder, &["master.bin"])
 }
 
 fn post(files: &Files, folder: &Path) -> Case {
@@ -363,6 +503,7 @@ pub fn cases(files: &Files, folder: &Path) -> Vec<Case> {
     [
         batches(files, folder),
         over_the_master(files, folder),
+        edits(files, folder),
         over_contacts(files, folder),
         conversions(files, folder),
         shown(files, folder),

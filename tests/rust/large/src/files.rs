@@ -30,7 +30,8 @@ pub struct Files {
     pub contacts: Vec<u8>,
 }
 
-fn batch(details: &[Record]) -> Vec<u8> {
+/// Details with their control record.
+pub fn batch(details: &[Record]) -> Vec<u8> {
     let mut batch = details.concat();
     batch.extend_from_slice(&control(STATE, totals(details)));
     batch

@@ -8,7 +8,9 @@
 
 mod cases;
 mod files;
+mod journal;
 mod measure;
+mod pages;
 
 use std::env;
 use std::fs;

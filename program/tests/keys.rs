@@ -1,0 +1,152 @@
+//! Many keys looked up together: from a file and as arguments, in any order, each answered.
+
+mod common;
+
+use common::*;
+
+/// Rows for these keys, in order; the second is deleted.
+fn master() -> Vec<u8> {
+    let mut deleted = row("OH234567891A", "00000000", "00");
+    deleted[195] = 0xC4;
+    [
+        row("OH123456789N", "00000025", "00"),
+        deleted,
+        row("OH345678912A", "00000100", "00"),
+    ]
+    .concat()
+}
+
+fn folder(name: &str) -> Folder {
+    let folder = Folder::new(name);
+    folder.write("master.bin", &master());
+    folder
+}
+
+/// The `answer` and `row` members of a report, in order: a row, or what is said in its place.
+fn answers(report: &str) -> Vec<String> {
+    let behind = |part: &str, front: &str| {
+        let at = part.find(front)? + front.len();
+        let end = part[at..].find([',', '"', '}'])?;
+        Some(part[at..at + end].to_string())
+    };
+    let answer = |part: &str| behind(part, "\"row\":").or_else(|| behind(part, "\"answer\":\""));
+    let parts = report.split("{\"line\":").skip(1);
+    let given = report.split("{\"argument\":").skip(1);
+    parts.chain(given).filter_map(answer).collect()
+}
+
+#[test]
+fn keys_in_any_order_with_repeats() {
+    let folder = folder("keys-order");
+    let keys = [
+        "OH345678912A",
+        "OH123456789N",
+        "OH200110001A",
+        "OH345678912A",
+        "OH234567891A",
+    ];
+    let wanted = ["3", "1", "not found", "3", "2"];
+    let given = folder.run(&with(&["find", "master.bin", "--json"], &keys));
+    assert_eq!(given.status, 6, "{given:?}");
+    assert_eq!(answers(&given.out), wanted);
+    folder.write("keys.txt", keys.join("\n").as_bytes());
+    let read = folder.run(&["find", "master.bin", "--json", "--keys", "keys.txt"]);
+    assert_eq!(read.status, 6, "{read:?}");
+    assert_eq!(answers(&read.out), wanted);
+    assert_eq!(
+        given.out.replace("\"argument\":", "\"line\":"),
+        read.out,
+        "arguments and lines"
+    );
+    // in rising order: OH1.. equals row 1; OH2001.. passes it and is below row 2; OH2345.. equals row 2; OH3.. passes it and equals row 3
+    let counts = "\"keys\":5,\"found\":4,\"not_found\":1,\"refused\":0,\"comparisons\":6,";
+    assert!(read.out.contains(counts), "{}", read.out);
+}
+
+#[test]
+fn each_answer_is_that_of_find() {
+    let folder = folder("keys-each");
+    let keys = ["OH123456789N", "OH234567891A", "OH345678912A"];
+    let all = folder.run(&with(&["find", "master.bin"], &keys));
+    assert_eq!(all.status, 0, "{all:?}");
+    for key in keys {
+        let one = folder.run(&["find", "master.bin", key]);
+        assert_eq!(one.status, 0);
+        assert!(all.out.contains(&one.out), "{key}: {}", all.out);
+    }
+    let end = "\nfind: all keys\n  keys                  3\n    of which found      3\n";
+    assert!(all.out.contains(end), "{}", all.out);
+}
+
+#[test]
+fn keys_that_are_none_are_told_and_the_others_answered() {
+    let folder = folder("keys-none");
+    let keys = [
+        "OH345678912A",
+        "OH12345678N",
+        "OH000456789N",
+        "oh123456789n",
+        "OH123456789N",
+    ];
+    let given = folder.run(&with(&["find", "master.bin"], &keys));
+    assert_eq!(given.status, 2, "{given:?}");
+    for argument in 2..=4 {
+        let told = format!(
+            "find: refused 14: key not of twelve bytes, or its state, SSN or case type wrong\n  argument  {argument}\n"
+        );
+        assert!(given.out.contains(&told), "{}", given.out);
+    }
+    assert_eq!(given.out.matches("find: found\n").count(), 2);
+    assert_eq!(given.err, "");
+    folder.write("keys.txt", keys.join("\r\n").as_bytes());
+    let read = folder.run(&["find", "master.bin", "--keys", "keys.txt"]);
+    assert_eq!(read.status, 2);
+    assert!(read.out.contains("  line     2\n"), "{}", read.out);
+}
+
+#[test]
+fn no_rows_and_masters_that_are_refused() {
+    let folder = folder("keys-refused");
+    let keys = ["OH123456789N", "OH234567891A"];
+    let mut unsound = master();
+    unsound[200] = 0;
+    folder.write("unsound.bin", &unsound);
+    folder.write("short.bin", &master()[..599]);
+    for (master, words) in [
+        ("unsound.bin", "row 2 of 3 is the first"),
+        ("short.bin", "refused 3: "),
+    ] {
+        let ran = folder.run(&with(&["find", master], &keys));
+        assert_eq!(ran.status, 2, "{ran:?}");
+        assert_eq!(ran.out, "");
+        assert!(
+            ran.err.replace("\n    ", " ").contains(words),
+            "{}",
+            ran.err
+        );
+    }
+    folder.write("empty.txt", b"\n\r\n\n");
+    for (file, words) in [
+        ("empty.txt", "empty.txt: has no key"),
+        ("no.txt", "no.txt: can't be read: no such file"),
+        (".", "can't be read: it is a folder"),
+    ] {
+        let ran = folder.run(&["find", "master.bin", "--keys", file]);
+        assert_eq!(ran.status, 3, "{ran:?}");
+        assert!(ran.err.contains(words), "{}", ran.err);
+    }
+}
+
+#[test]
+fn files_are_only_read() {
+    let folder = folder("keys-read");
+    folder.write("keys.txt", b"OH123456789N\nOH345678912A\n");
+    assert_eq!(
+        folder
+            .run(&["find", "master.bin", "--keys", "keys.txt"])
+            .status,
+        0
+    );
+    assert_eq!(folder.names(), ["keys.txt", "master.bin"]);
+    assert_eq!(folder.read("master.bin"), master());
+}
