@@ -26,6 +26,20 @@ fn send(child: &Child, number: c_int) {
     assert_eq!(unsafe { kill(child.id() as c_int, number) }, 0);
 }
 
+/// The command with these signals as they are by themselves: where the test runs they may be ignored, and would stay so.
+fn by_default(mut command: Command) -> Command {
+    // SAFETY: the calls change what the child does with signals, and may be made between fork and exec.
+    unsafe {
+        command.pre_exec(|| {
+            for number in [HANG_UP, INTERRUPT, TERMINATE] {
+                signal(number, 0);
+            }
+            Ok(())
+        });
+    }
+    command
+}
+
 fn folder(name: &str) -> Folder {
     let folder = Folder::with_master(name);
     let made = Command::new("mkfifo").arg(folder.path("pipe")).status();
@@ -65,7 +79,7 @@ fn signals_leave_nothing() {
     ] {
         for number in [INTERRUPT, TERMINATE, HANG_UP] {
             let folder = folder("signals-nothing");
-            let mut command = folder.command(arguments);
+            let mut command = by_default(folder.command(arguments));
             let (mut child, feed) = waiting(&folder, &mut command, names);
             send(&child, number);
             let ended = child.wait().expect("it ends");
@@ -130,7 +144,7 @@ fn signals_at_any_time() {
     for number in 0..30 {
         folder.write("two.bin", &rows);
         let _ = fs::remove_file(folder.path("two.bin.log"));
-        let mut command = folder.command(&post);
+        let mut command = by_default(folder.command(&post));
         command.stdout(Stdio::null()).stderr(Stdio::null());
         let mut child = command.spawn().expect("it can be run");
         sleep(Duration::from_micros(300 * number));

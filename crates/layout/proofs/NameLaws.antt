@@ -1,16 +1,14 @@
 -- Laws of a name's columns: its first byte, and the rest from any index on. Assumes nothing.
-use mathlib.Core.Path.{_≡_, refl, sym, _∙_}
-use mathlib.Core.Bool.{Bool, true, false, cond, _&&_, _||_, and-true, or-false}
+use mathlib.Core.Path.{_≡_, refl}
+use mathlib.Core.Bool.{true, false, _&&_}
 use mathlib.Core.List.{List, [], _∷_}
 use Prim.Native.Nat.{ℕ, suc, _+_, _≤_, _<_}
 use native.Mathlib.Nat.{not-suc-le-zero}
 use native.Mathlib.Numerals.{add-one}
 use native.Mathlib.Omega.{arith}
-use borrow.Author.Tests.{eqb-true}
-use lib.Dec.{eqb}
 use lib.ListN.{length, getD, drop, drop-of-length-le}
 use lib.Seq.{drop-cons}
-use Rattle.text.specs.Characters.{isLetter, space}
+use Rattle.text.specs.Characters.{isLetter}
 use Rattle.text.specs.Fields.{isBlank}
 use Rattle.text.proofs.FieldsLaws.{and-left, and-right}
 use Rattle.layout.specs.Name.{isNameByte, isNameRest, isName, hasLetter}
@@ -43,76 +41,15 @@ module _ (s : List ℕ) (i : ℕ) where
   unfolding isNameRest
   rest-end h = rw (drop-of-length-le s h)
 
--- ---- four bytes
-
--- no byte is both one of a name's and a space
-name-or-space : (b : ℕ) (x y : Bool) → cond (isNameByte b) x (eqb b space && y) ≡ (isNameByte b && x || (eqb b space && y))
-unfolding isNameByte isLetter
-name-or-space b x y = go (eqb b space) refl
-  where
-    neither : (n : Bool) → cond n x false ≡ (n && x || false)
-    neither true = sym (or-false x)
-    neither false = refl
-
-    go : (t : Bool) → eqb b space ≡ t → cond (isNameByte b) x (t && y) ≡ (isNameByte b && x || (t && y))
-    go true e = let z : b ≡ space = eqb-true b space e in rw z
-    go false e = neither (isNameByte b)
-
-module _ (b c d : ℕ) where
-  abbrev blankD : Bool
-  blankD = eqb d space
-
-  abbrev blankC : Bool
-  blankC = eqb c space && blankD
-
-  rest-one : isNameRest (d ∷ []) ≡ (isNameByte d || blankD)
-  unfolding isNameRest isBlank
-  rest-one = name-or-space d true true ∙ rw (and-true (isNameByte d), and-true (eqb d space))
-
-  rest-two : isNameRest (c ∷ d ∷ []) ≡ (isNameByte c && (isNameByte d || blankD) || blankC)
-  unfolding isNameRest isBlank
-  rest-two = rw rest-one (rw (and-true (eqb d space)) (name-or-space c (isNameByte d || blankD) blankD))
-
-  rest-three : isNameRest (b ∷ c ∷ d ∷ [])
-      ≡ (isNameByte b && (isNameByte c && (isNameByte d || blankD) || blankC) || (eqb b space && blankC))
-  unfolding isNameRest isBlank
-  rest-three = rw rest-two (rw (and-true (eqb d space)) (name-or-space b (isNameByte c && (isNameByte d || blankD) || blankC) blankC))
-
--- a name of four bytes, each looked at by itself
-pub four-name : (s : List ℕ) → length s ≡ 4
-    → (isNameByte (getD s 0 0)
-    && (isNameByte (getD s 1 0)
-    && (isNameByte (getD s 2 0) && (isNameByte (getD s 3 0) || eqb (getD s 3 0) space) || (eqb (getD s 2 0) space && eqb (getD s 3 0) space))
-    || (eqb (getD s 1 0) space && (eqb (getD s 2 0) space && eqb (getD s 3 0) space))))
-    ≡ isName s
-unfolding isName
-four-name [] l = absurd (let x : 0 ≡ 4 = l in omega arith)
-four-name (a ∷ []) l = absurd (let x : 1 ≡ 4 = l in omega arith)
-four-name (a ∷ b ∷ []) l = absurd (let x : 2 ≡ 4 = l in omega arith)
-four-name (a ∷ b ∷ c ∷ []) l = absurd (let x : 3 ≡ 4 = l in omega arith)
-four-name (a ∷ b ∷ c ∷ d ∷ []) l = rw (rest-three b c d)
-four-name (a ∷ b ∷ c ∷ d ∷ e ∷ s) l = absurd (let x : suc (suc (suc (suc (suc (length s))))) ≡ 4 = l in omega arith)
-
--- a letter among four bytes
-pub four-letter : (s : List ℕ) → length s ≡ 4
-    → (isLetter (getD s 0 0) || (isLetter (getD s 1 0) || (isLetter (getD s 2 0) || isLetter (getD s 3 0)))) ≡ hasLetter s
-unfolding hasLetter
-four-letter [] l = absurd (let x : 0 ≡ 4 = l in omega arith)
-four-letter (a ∷ []) l = absurd (let x : 1 ≡ 4 = l in omega arith)
-four-letter (a ∷ b ∷ []) l = absurd (let x : 2 ≡ 4 = l in omega arith)
-four-letter (a ∷ b ∷ c ∷ []) l = absurd (let x : 3 ≡ 4 = l in omega arith)
-four-letter (a ∷ b ∷ c ∷ d ∷ []) l = rw (or-false (isLetter d))
-four-letter (a ∷ b ∷ c ∷ d ∷ e ∷ s) l = absurd (let x : suc (suc (suc (suc (suc (length s))))) ≡ 4 = l in omega arith)
-
 -- four letters are a name
-pub letters-name : (s : List ℕ) → length s ≡ 4
+pub four-name : (s : List ℕ) → length s ≡ 4
     → (isLetter (getD s 0 0) && isLetter (getD s 1 0) && isLetter (getD s 2 0) && isLetter (getD s 3 0)) ≡ true → isName s ≡ true
 unfolding isName isNameRest isNameByte
-letters-name [] l t = absurd (let x : 0 ≡ 4 = l in omega arith)
-letters-name (a ∷ []) l t = absurd (let x : 1 ≡ 4 = l in omega arith)
-letters-name (a ∷ b ∷ []) l t = absurd (let x : 2 ≡ 4 = l in omega arith)
-letters-name (a ∷ b ∷ c ∷ []) l t = absurd (let x : 3 ≡ 4 = l in omega arith)
-letters-name (a ∷ b ∷ c ∷ d ∷ []) l t =
+four-name [] l t = absurd (let x : 0 ≡ 4 = l in omega arith)
+four-name (a ∷ []) l t = absurd (let x : 1 ≡ 4 = l in omega arith)
+four-name (a ∷ b ∷ []) l t = absurd (let x : 2 ≡ 4 = l in omega arith)
+four-name (a ∷ b ∷ c ∷ []) l t = absurd (let x : 3 ≡ 4 = l in omega arith)
+four-name (a ∷ b ∷ c ∷ d ∷ []) l t =
     let u = and-left (isLetter a && isLetter b && isLetter c) (isLetter d) t in
     let v = and-left (isLetter a && isLetter b) (isLetter c) u in
     rw (
@@ -121,14 +58,13 @@ letters-name (a ∷ b ∷ c ∷ d ∷ []) l t =
       and-right (isLetter a && isLetter b) (isLetter c) u,
       and-right (isLetter a && isLetter b && isLetter c) (isLetter d) t,
     )
-letters-name (a ∷ b ∷ c ∷ d ∷ e ∷ s) l t = absurd (let x : suc (suc (suc (suc (suc (length s))))) ≡ 4 = l in omega arith)
+four-name (a ∷ b ∷ c ∷ d ∷ e ∷ s) l t = absurd (let x : suc (suc (suc (suc (suc (length s))))) ≡ 4 = l in omega arith)
 
 -- and have one
-pub letters-letter : (s : List ℕ)
-    → (isLetter (getD s 0 0) && isLetter (getD s 1 0) && isLetter (getD s 2 0) && isLetter (getD s 3 0)) ≡ true → hasLetter s ≡ true
+pub four-letter : (s : List ℕ) → (isLetter (getD s 0 0) && isLetter (getD s 1 0) && isLetter (getD s 2 0) && isLetter (getD s 3 0)) ≡ true → hasLetter s ≡ true
 unfolding hasLetter isLetter
-letters-letter [] t = cc
-letters-letter (a ∷ s) t =
+four-letter [] t = cc
+four-letter (a ∷ s) t =
     let u = and-left (isLetter a && isLetter (getD s 0 0) && isLetter (getD s 1 0)) (isLetter (getD s 2 0)) t in
     let v = and-left (isLetter a && isLetter (getD s 0 0)) (isLetter (getD s 1 0)) u in
     rw (and-left (isLetter a) (isLetter (getD s 0 0)) v)

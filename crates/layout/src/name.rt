@@ -14,7 +14,7 @@ pub fn is_name_byte(b: u8) -> bool
     characters::is_letter(b) | (b == 0x60)
 }
 
-// Whether four bytes are letters, as most names have them.
+// Whether four bytes are letters, as those of most names are.
 fn are_four_letters(s: &[u8]) -> bool
     requires { ⌜ length (now s) ≡ 4 ⌝ }
     ensures { λ r. ⌜ r ≡ (isLetter (getD (now (s .entry)) 0 0) && isLetter (getD (now (s .entry)) 1 0)
@@ -25,33 +25,6 @@ fn are_four_letters(s: &[u8]) -> bool
     let c = characters::is_letter(s[2]);
     let d = characters::is_letter(s[3]);
     a & b & c & d
-}
-
-// Whether four bytes are one or more letters or hyphens with only spaces behind, with no branch.
-fn is_four_name(s: &[u8]) -> bool
-    requires { ⌜ length (now s) ≡ 4 ⌝ }
-    ensures { λ r. ⌜ r ≡ isName (now (s .entry)) ⌝ }
-{
-    let a = is_name_byte(s[0]);
-    let b = is_name_byte(s[1]);
-    let c = is_name_byte(s[2]);
-    let d = is_name_byte(s[3]);
-    let last_blank = s[3] == 0x40;
-    let two_blank = (s[2] == 0x40) & last_blank;
-    let three_blank = (s[1] == 0x40) & two_blank;
-    a & ((b & ((c & (d | last_blank)) | two_blank)) | three_blank)
-}
-
-// Whether one of four bytes is a letter, with no branch either.
-fn has_letter_in_four(s: &[u8]) -> bool
-    requires { ⌜ length (now s) ≡ 4 ⌝ }
-    ensures { λ r. ⌜ r ≡ hasLetter (now (s .entry)) ⌝ }
-{
-    let a = characters::is_letter(s[0]);
-    let b = characters::is_letter(s[1]);
-    let c = characters::is_letter(s[2]);
-    let d = characters::is_letter(s[3]);
-    a | (b | (c | d))
 }
 
 // Whether s is one or more letters or hyphens with only spaces behind, byte by byte.
@@ -74,7 +47,7 @@ fn is_name_by_byte(s: &[u8]) -> bool
     true
 }
 
-// The same; four bytes are seen at once, four letters first.
+// The same; four letters are seen at once.
 pub fn is_name(s: &[u8]) -> bool
     ensures { λ r. ⌜ r ≡ isName (now (s .entry)) ⌝ }
 {
@@ -84,7 +57,7 @@ pub fn is_name(s: &[u8]) -> bool
     if are_four_letters(s) {
         return true;
     }
-    is_four_name(s)
+    is_name_by_byte(s)
 }
 
 // Whether four bytes are a name with a letter.
@@ -95,7 +68,7 @@ pub fn is_lettered_name(s: &[u8]) -> bool
     if are_four_letters(s) {
         return true;
     }
-    is_four_name(s) & has_letter_in_four(s)
+    is_name_by_byte(s) & has_letter(s)
 }
 
 // Whether some byte of s is a letter.

@@ -1,7 +1,7 @@
--- `name::is_lettered_name`: four letters are a name and have one; else a name, and one of its bytes a letter. Assumes nothing.
+-- `name::is_lettered_name` meets its contract: four letters are a name and have one, and else each byte is looked at. Assumes nothing.
 use mathlib.Core.Path.{sym, _∙_}
 use borrow.Author.Needs.{needs}
-use Rattle.layout.proofs.NameLaws.{letters-name, letters-letter}
+use Rattle.layout.proofs.NameLaws.{four-name, four-letter}
 use Rattle.layout.proofs.name.is_lettered_name.Statement.{statement}
 use Rattle.layout.proofs.name.is_lettered_name.Tie as tie
 
@@ -13,16 +13,16 @@ returns c =
     let s = c .before .before .before in
     let x = s .args .s .now in
     let t = sym (c .before .are-four-letters .ensures) ∙ c .if1 .taken in
-    rw (letters-name x (s .pre) t, letters-letter x t)
+    rw (four-name x (s .pre) t, four-letter x t)
 
-is-four-name-requires : tie.Need-is-four-name-requires
-is-four-name-requires c κs = search needs
+is-name-by-byte-requires : tie.Need-is-name-by-byte-requires
+is-name-by-byte-requires c κs = search needs
 
-has-letter-in-four-requires : tie.Need-has-letter-in-four-requires
-has-letter-in-four-requires c κs = search needs
+has-letter-requires : tie.Need-has-letter-requires
+has-letter-requires c κs = search needs
 
 returns-2 : tie.Need-returns-2
-returns-2 c = rw (c .has-letter-in-four .ensures, c .before .is-four-name .ensures)
+returns-2 c = rw (c .has-letter .ensures, c .before .is-name-by-byte .ensures)
 
 pub is-lettered-name-spec : {M : Type 1} → statement M
-is-lettered-name-spec = tie.close (tie.spec are-four-letters-requires returns is-four-name-requires has-letter-in-four-requires returns-2)
+is-lettered-name-spec = tie.close (tie.spec are-four-letters-requires returns is-name-by-byte-requires has-letter-requires returns-2)
