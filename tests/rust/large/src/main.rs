@@ -27,9 +27,6 @@ const BESIDE: u64 = 8 << 20;
 /// What starting a program and a busy machine may take, in seconds.
 const START: f64 = 0.1;
 
-/// What the fingerprints of the log may take, in seconds a byte, on a processor without instructions for them.
-const FINGERPRINT: f64 = 6e-9;
-
 /// How often a command is measured; the least time counts.
 const TIMES: usize = 3;
 
@@ -86,8 +83,7 @@ fn fault(case: &Case, folder: &Path, measured: &Measured) -> Option<String> {
             measured.memory
         ));
     }
-    let prints = FINGERPRINT * case.memory() as f64;
-    let allowed = 3.0 * (case.call + case.files) + prints + START;
+    let allowed = 3.0 * (case.call + case.files) + START;
     if case.call > 0.0 && measured.seconds > allowed {
         return Some(format!("{:.3} s, not {allowed:.3}", measured.seconds));
     }
