@@ -35,8 +35,8 @@
  *
  * Pointers. A pointer must be valid for the length that goes with it: readable where it is const, else readable and
  * writable. No pointer may be NULL, not even with a length of 0; any other pointer of the right alignment does then.
- * Pointers to uint64_t must be aligned as uint64_t is (8 bytes), those to uint32_t as uint32_t is (4 bytes), those to
- * uint16_t as uint16_t is (2 bytes); those to bytes may have any address.
+ * Pointers to uint64_t must be aligned as uint64_t is (8 bytes), those to uint32_t as uint32_t is (4 bytes); those to bytes
+ * may have any address.
  * The calls do not check this, and a call that breaks it has no defined outcome.
  *
  * Overlap. A buffer that a call writes must not overlap any other argument of the call. Buffers that are only read may
@@ -46,16 +46,18 @@
  * writes is read or written by another. Any number of fantanolive_find, fantanolive_find_many, fantanolive_reconcile and
  * fantanolive_pages calls may read the same master at once.
  *
- * Stack. fantanolive_contacts_update takes some 270 kilobytes of stack, the other calls a few.
+ * Stack. Every call takes some kilobytes of stack, however much is lent to it, but fantanolive_contacts_update, which takes
+ * some 270: two tables with an entry for each of 54,000 keys (54 states of 1,000 codes), of 4 bytes and of 1 byte. One
+ * function calls itself, the sort inside fantanolive_apply and fantanolive_apply_journaled, at most 64 deep.
  *
  * Cents. A row's columns 197-198 are its cents, 199-200 spaces; its balance is the dollars of columns 66-73 and these
  * cents, and it is deleted exactly when both are zero. A master with rows from before the cents (spaces in 197-200) gets
  * 4 from every other call that takes a master until fantanolive_add_cents has converted it, once.
  *
- * Limits. A master has at most 65,535 rows, a batch at most 65,536 records (65,535 details and the control record), a
- * contact file at most 65,535 records, a collection file at most 65,536 (65,535 lines and the last record); a table of
- * contact records has no limit of its own.
- * Numbers and lengths outside the limits are refused, not cut.
+ * Limits. A master has at most 16,777,215 rows, a batch at most 16,777,216 records (16,777,215 details and the control
+ * record), a contact file at most 16,777,215 records, a collection file at most 16,777,216 (16,777,215 lines and the last
+ * record); a table of contact records has no limit of its own. Numbers and lengths outside the limits are refused, not cut.
+ * No product and no sum of what can be lent passes 64 bits, at the limits or outside them: nothing wraps.
  */
 #ifndef FANTANOLIVE_H
 #define FANTANOLIVE_H
@@ -69,9 +71,9 @@ extern "C" {
 
 /* The version of the library that this header goes with, as text and as numbers. CHANGELOG.md says how versions are
  * counted. */
-#define FANTANOLIVE_VERSION "1.15.0"
-#define FANTANOLIVE_VERSION_MAJOR 1
-#define FANTANOLIVE_VERSION_MINOR 15
+#define FANTANOLIVE_VERSION "2.0.0"
+#define FANTANOLIVE_VERSION_MAJOR 2
+#define FANTANOLIVE_VERSION_MINOR 0
 #define FANTANOLIVE_VERSION_PATCH 0
 
 /* Sizes in bytes of a row of the master, and of a record of a batch, a reject file and a reconciliation file. */
@@ -95,9 +97,9 @@ extern "C" {
 #define FANTANOLIVE_LOCAL_CODE 3
 
 /* Limits. */
-#define FANTANOLIVE_MAX_ROWS 65535
-#define FANTANOLIVE_MAX_RECORDS 65536
-#define FANTANOLIVE_MAX_CONTACTS 65535
+#define FANTANOLIVE_MAX_ROWS 16777215
+#define FANTANOLIVE_MAX_RECORDS 16777216
+#define FANTANOLIVE_MAX_CONTACTS 16777215
 
 /* Sizes that are always enough, as size_t. The arguments are numbers of details, rows or contact records.
  *   verdicts of fantanolive_apply:  one number per detail
@@ -117,7 +119,7 @@ extern "C" {
  * The details of a batch are its records less one: batch_length / FANTANOLIVE_RECORD - 1. */
 #define FANTANOLIVE_MASTER_SIZE(rows) ((size_t)FANTANOLIVE_ROW * (size_t)(rows))
 #define FANTANOLIVE_REJECTS_SIZE(details) ((size_t)FANTANOLIVE_RECORD * ((size_t)(details) + 1))
-#define FANTANOLIVE_JOURNAL_SIZE(details) ((size_t)12 + (size_t)204 * (size_t)(details))
+#define FANTANOLIVE_JOURNAL_SIZE(details) ((size_t)12 + (size_t)205 * (size_t)(details))
 #define FANTANOLIVE_OUT_SIZE(rows) ((size_t)FANTANOLIVE_RECORD * ((size_t)(rows) + 1))
 #define FANTANOLIVE_PAGES(cases) (((size_t)(cases) + FANTANOLIVE_PAGE_CASES - 1) / FANTANOLIVE_PAGE_CASES)
 #define FANTANOLIVE_PAGES_SIZE(cases) ((size_t)FANTANOLIVE_PAGE_LINE * ((size_t)(cases) + 2 * FANTANOLIVE_PAGES(cases)))
@@ -156,13 +158,13 @@ extern "C" {
 #define FANTANOLIVE_DONE 0            /* carried out */
 #define FANTANOLIVE_WRONG_YEAR 1      /* year outside 1900-9999 */
 #define FANTANOLIVE_WRONG_LOCALS 2    /* list not made of three-digit codes, three bytes each, strictly rising */
-#define FANTANOLIVE_WRONG_MASTER 3    /* master length no multiple of 200, or row count above length / 200 or 65,535 */
+#define FANTANOLIVE_WRONG_MASTER 3    /* master length no multiple of 200, or row count above length / 200 or 16,777,215 */
 #define FANTANOLIVE_UNSOUND_ROW 4     /* a row that is not sound, or rows not in strictly rising order of key */
-#define FANTANOLIVE_WRONG_BATCH 5     /* batch empty, no multiple of 245, or over 65,536 records */
+#define FANTANOLIVE_WRONG_BATCH 5     /* batch empty, no multiple of 245, or over 16,777,216 records */
 #define FANTANOLIVE_NO_CTL 6          /* CTL is missing in columns 3-5 of the last record */
 #define FANTANOLIVE_WRONG_COUNT 7     /* a count of the control record differs from the details' */
 #define FANTANOLIVE_WRONG_AMOUNT 8    /* an amount of the control record differs from the details' */
-#define FANTANOLIVE_NO_ROOM 9         /* rows plus A records whose key has no row exceed length / 200 or 65,535 */
+#define FANTANOLIVE_NO_ROOM 9         /* rows plus A records whose key has no row exceed length / 200 or 16,777,215 */
 #define FANTANOLIVE_SHORT_VERDICTS 10 /* verdict list shorter than the details */
 #define FANTANOLIVE_SHORT_OUTPUT 11   /* reject buffer below 245 x (details + 1), reconciliation buffer 245 x (records + 1) */
 #define FANTANOLIVE_WRONG_STATE 12    /* state not in the table of 54 */
@@ -175,17 +177,17 @@ extern "C" {
 #define FANTANOLIVE_SHORT_CONTACTS 19 /* no space in the table, a list or an output of codes too short */
 #define FANTANOLIVE_CONTROL_STATE 20  /* the control record's state is not in the table of 54 */
 #define FANTANOLIVE_CONTROL_FORM 21   /* a total of the control record is not digits, or its filler not spaces */
-#define FANTANOLIVE_WRONG_FILE 22     /* collection file empty, no multiple of 240, or over 65,536 records */
+#define FANTANOLIVE_WRONG_FILE 22     /* collection file empty, no multiple of 240, or over 16,777,216 records */
 #define FANTANOLIVE_WRONG_TOTAL 23    /* its last record not TOTAL with the numbers of adjustments and collections */
 #define FANTANOLIVE_SHORT_LINES 24    /* line list shorter than the lines */
-#define FANTANOLIVE_SHORT_JOURNAL 25  /* journal buffer below 12 + 204 x details */
+#define FANTANOLIVE_SHORT_JOURNAL 25  /* journal buffer below 12 + 205 x details */
 #define FANTANOLIVE_WRONG_JOURNAL 26  /* no journal, or one that does not fit the master, or what it would leave is not sound */
 #define FANTANOLIVE_WRONG_KEYS 27     /* list of keys not made of sound keys, twelve bytes each, strictly rising */
 #define FANTANOLIVE_SHORT_PLACES 28   /* answer list shorter than the keys */
 #define FANTANOLIVE_NO_RECORDS 29     /* no list of C, L, R and M records leads from the row to the wanted row */
 #define FANTANOLIVE_SHORT_RECORDS 30  /* output of records below 980 bytes */
 #define FANTANOLIVE_SHORT_PAGES 31    /* buffer too short for the pages */
-#define FANTANOLIVE_CANNOT_MERGE 32   /* two states, over 65,535 details together, or an amount above eleven digits */
+#define FANTANOLIVE_CANNOT_MERGE 32   /* two states, over 16,777,215 details together, or an amount above eleven digits */
 #define FANTANOLIVE_SHORT_BATCH 33    /* output shorter than the merged batch */
 
 /* A verdict is a number of 64 bits: the sum of 2 to the power c over the codes c that the detail got. Errors are the
@@ -222,9 +224,9 @@ extern "C" {
  * Returns, in the order of checking:
  *   1   FANTANOLIVE_WRONG_YEAR      year below 1900 or above 9999
  *   2   FANTANOLIVE_WRONG_LOCALS    locals not made of three-digit codes, three bytes each, strictly rising
- *   3   FANTANOLIVE_WRONG_MASTER    master_length no multiple of 200, or rows above master_length / 200 or 65,535
+ *   3   FANTANOLIVE_WRONG_MASTER    master_length no multiple of 200, or rows above master_length / 200 or 16,777,215
  *   4   FANTANOLIVE_UNSOUND_ROW     one of the rows is not sound, or their keys do not strictly rise
- *   5   FANTANOLIVE_WRONG_BATCH     batch_length 0, no multiple of 245, or over 65,536 records
+ *   5   FANTANOLIVE_WRONG_BATCH     batch_length 0, no multiple of 245, or over 16,777,216 records
  *   6   FANTANOLIVE_NO_CTL          columns 3-5 of the last record, the control record, are not CTL
  *   20  FANTANOLIVE_CONTROL_STATE   its state, columns 1-2, is not in the table of 54
  *   21  FANTANOLIVE_CONTROL_FORM    its totals, columns 6-45, are not all digits, or its filler, columns 46-245, not all
@@ -232,7 +234,7 @@ extern "C" {
  *   7   FANTANOLIVE_WRONG_COUNT     its count of TANF or of Non-TANF records differs from the details'
  *   8   FANTANOLIVE_WRONG_AMOUNT    its amount for TANF or for Non-TANF differs from the details' (types A and M)
  *   9   FANTANOLIVE_NO_ROOM         rows plus the details of type A whose key has no row at entry exceed
- *                                   master_length / 200 or 65,535
+ *                                   master_length / 200 or 16,777,215
  *   10  FANTANOLIVE_SHORT_VERDICTS  verdicts_length below the number of details
  *   11  FANTANOLIVE_SHORT_OUTPUT    rejects_length below 245 x (details + 1)
  *   0   FANTANOLIVE_DONE            carried out
@@ -257,7 +259,7 @@ uint64_t fantanolive_apply(
  * they do there. Keep the journal with the master that the batch leaves, and use it with no other: fantanolive_take_back
  * looks at row counts, places, marks and what would be left, and cannot tell whose journal it is.
  *
- * journal, journal_length  Where the journal goes. The length is in bytes, at least 12 + 204 x details, however few rows
+ * journal, journal_length  Where the journal goes. The length is in bytes, at least 12 + 205 x details, however few rows
  *                          change.
  * result                   Where the six numbers of the result go (FANTANOLIVE_ACCEPTED to FANTANOLIVE_JOURNAL).
  *
@@ -267,7 +269,7 @@ uint64_t fantanolive_apply(
  * with the high bit set on all bytes but the last, and never longer than they have to be.
  *
  * Returns, in the order of checking: the refusals of fantanolive_apply, then
- *   25  FANTANOLIVE_SHORT_JOURNAL   journal_length below 12 + 204 x details
+ *   25  FANTANOLIVE_SHORT_JOURNAL   journal_length below 12 + 205 x details
  *   0   FANTANOLIVE_DONE            carried out
  *
  * Written when carried out: what fantanolive_apply writes, with the six numbers of result; the journal,
@@ -293,7 +295,7 @@ uint64_t fantanolive_apply_journaled(
  * rows_after               Where the number of rows goes that the master has then.
  *
  * Returns, in the order of checking:
- *   3   FANTANOLIVE_WRONG_MASTER    master_length no multiple of 200, or rows above master_length / 200 or 65,535
+ *   3   FANTANOLIVE_WRONG_MASTER    master_length no multiple of 200, or rows above master_length / 200 or 16,777,215
  *   4   FANTANOLIVE_UNSOUND_ROW     one of the rows is not sound, or their keys do not strictly rise
  *   26  FANTANOLIVE_WRONG_JOURNAL   the bytes are no journal (cut off, bytes behind it, another mark, a number longer than
  *                                   it has to be); its count after is not rows, a place is not below it, or the marks 00
@@ -308,6 +310,7 @@ uint64_t fantanolive_take_back(
     uint8_t *master, size_t master_length, size_t rows,
     const uint8_t *journal, size_t journal_length,
     uint64_t *rows_after);
+
 /* fantanolive_totals: adds up the totals of a batch's details, whatever its last record says.
  *
  * They are the totals that refusals 7 and 8 of fantanolive_apply hold against the control record: with them written into
@@ -320,7 +323,7 @@ uint64_t fantanolive_take_back(
  * totals                  Where the four totals go (FANTANOLIVE_TANF_COUNT to FANTANOLIVE_NON_TANF_AMOUNT).
  *
  * Returns:
- *   5   FANTANOLIVE_WRONG_BATCH     batch_length 0, no multiple of 245, or over 65,536 records
+ *   5   FANTANOLIVE_WRONG_BATCH     batch_length 0, no multiple of 245, or over 16,777,216 records
  *   0   FANTANOLIVE_DONE            carried out
  *
  * Written when carried out: the four numbers of totals. Kept: all else. */
@@ -341,15 +344,15 @@ uint64_t fantanolive_totals(
  * records                 Where the number of records goes.
  *
  * Returns, in the order of checking; the first batch wholly before the second:
- *   5   FANTANOLIVE_WRONG_BATCH     length 0, no multiple of 245, or over 65,536 records
+ *   5   FANTANOLIVE_WRONG_BATCH     length 0, no multiple of 245, or over 16,777,216 records
  *   6   FANTANOLIVE_NO_CTL          columns 3-5 of the last record, the control record, are not CTL
  *   20  FANTANOLIVE_CONTROL_STATE   its state, columns 1-2, is not in the table of 54
  *   21  FANTANOLIVE_CONTROL_FORM    its totals, columns 6-45, are not all digits, or its filler, columns 46-245, not all
  *                                   spaces
  *   7   FANTANOLIVE_WRONG_COUNT     its count of TANF or of Non-TANF records differs from the details'
  *   8   FANTANOLIVE_WRONG_AMOUNT    its amount for TANF or for Non-TANF differs from the details' (types A and M)
- *   32  FANTANOLIVE_CANNOT_MERGE    the states of the control records differ, the details are over 65,535 together, or a
- *                                   summed amount, of TANF or of Non-TANF, has more than eleven digits
+ *   32  FANTANOLIVE_CANNOT_MERGE    the states of the control records differ, the details are over 16,777,215 together, or
+ *                                   a summed amount, of TANF or of Non-TANF, has more than eleven digits
  *   33  FANTANOLIVE_SHORT_BATCH     out_length below first_length + second_length - 245
  *   0   FANTANOLIVE_DONE            carried out
  *
@@ -369,7 +372,7 @@ uint64_t fantanolive_merge(
  * place                   Where the answer goes.
  *
  * Returns, in the order of checking:
- *   3   FANTANOLIVE_WRONG_MASTER    master_length no multiple of 200, or rows above master_length / 200 or 65,535
+ *   3   FANTANOLIVE_WRONG_MASTER    master_length no multiple of 200, or rows above master_length / 200 or 16,777,215
  *   4   FANTANOLIVE_UNSOUND_ROW     one of the rows is not sound, or their keys do not strictly rise
  *   14  FANTANOLIVE_UNSOUND_KEY     key_length not 12, state not in the table, SSN wrong (error 02), or case type neither
  *                                   A nor N
@@ -399,7 +402,7 @@ uint64_t fantanolive_find(
  * comparisons             Where the number of comparisons of a key with a row goes.
  *
  * Returns, in the order of checking:
- *   3   FANTANOLIVE_WRONG_MASTER    master_length no multiple of 200, or rows above master_length / 200 or 65,535
+ *   3   FANTANOLIVE_WRONG_MASTER    master_length no multiple of 200, or rows above master_length / 200 or 16,777,215
  *   4   FANTANOLIVE_UNSOUND_ROW     one of the rows is not sound, or their keys do not strictly rise
  *   27  FANTANOLIVE_WRONG_KEYS      keys_length no multiple of 12, one of the keys not sound (as for 14), or the keys not
  *                                   strictly rising
@@ -425,7 +428,7 @@ uint64_t fantanolive_find_many(
  * records                 Where the number of REC records goes.
  *
  * Returns, in the order of checking:
- *   3   FANTANOLIVE_WRONG_MASTER    master_length no multiple of 200, or rows above master_length / 200 or 65,535
+ *   3   FANTANOLIVE_WRONG_MASTER    master_length no multiple of 200, or rows above master_length / 200 or 16,777,215
  *   4   FANTANOLIVE_UNSOUND_ROW     one of the rows is not sound, or their keys do not strictly rise
  *   12  FANTANOLIVE_WRONG_STATE     state_length not 2, or state not in the table
  *   13  FANTANOLIVE_WRONG_DATE      date_length not 8, or date not a Gregorian date of 1900-9999; blank is no date
@@ -447,7 +450,7 @@ uint64_t fantanolive_reconcile(
  * A page is in EBCDIC and has lines of 132 columns, without line ends: a heading, 58 lines for cases (on the last page
  * perhaps fewer, never none), and a foot. A case's line has the key in columns 1-12, the local code in 14-16, the last name
  * in 18-37, the first name in 39-53, the arrearage (dollars) in 55-62, all as in the row, and in 64 the number of bits that
- * are set in its exclusion set. The heading has CASES in 1-5 and the page's number in 7-11, the first being 00001; the foot
+ * are set in its exclusion set. The heading has CASES in 1-5 and the page's number in 7-12, the first being 000001; the foot
  * TOTAL in 1-5 and the number of this page's cases in 7-10. All other columns are spaces.
  *
  * master, master_length   The rows, 200 bytes each; the length is in bytes and a multiple of 200.
@@ -456,7 +459,7 @@ uint64_t fantanolive_reconcile(
  * pages                   Where the number of pages goes.
  *
  * Returns, in the order of checking:
- *   3   FANTANOLIVE_WRONG_MASTER    master_length no multiple of 200, or rows above master_length / 200 or 65,535
+ *   3   FANTANOLIVE_WRONG_MASTER    master_length no multiple of 200, or rows above master_length / 200 or 16,777,215
  *   4   FANTANOLIVE_UNSOUND_ROW     one of the rows is not sound, or their keys do not strictly rise
  *   31  FANTANOLIVE_SHORT_PAGES     out_length below 132 x (live rows + 2 x pages); without a live row an empty buffer does
  *   0   FANTANOLIVE_DONE            carried out
@@ -476,7 +479,7 @@ uint64_t fantanolive_pages(
  * rows                    How many rows the master has, deleted ones included.
  *
  * Returns, in the order of checking:
- *   3   FANTANOLIVE_WRONG_MASTER    master_length no multiple of 200, or rows above master_length / 200 or 65,535
+ *   3   FANTANOLIVE_WRONG_MASTER    master_length no multiple of 200, or rows above master_length / 200 or 16,777,215
  *   4   FANTANOLIVE_UNSOUND_ROW     one of the rows is not sound as a row without cents (spaces in 197-200, deleted
  *                                   exactly when the dollars are zero), or their keys do not strictly rise; so a master
  *                                   with rows that is converted already
@@ -502,9 +505,9 @@ uint64_t fantanolive_add_cents(uint8_t *master, size_t master_length, size_t row
  * listed                  Where the number of listed lines goes.
  *
  * Returns, in the order of checking:
- *   3   FANTANOLIVE_WRONG_MASTER    master_length no multiple of 200, or rows above master_length / 200 or 65,535
+ *   3   FANTANOLIVE_WRONG_MASTER    master_length no multiple of 200, or rows above master_length / 200 or 16,777,215
  *   4   FANTANOLIVE_UNSOUND_ROW     one of the rows is not sound, or their keys do not strictly rise
- *   22  FANTANOLIVE_WRONG_FILE      file_length 0, no multiple of 240, or over 65,536 records
+ *   22  FANTANOLIVE_WRONG_FILE      file_length 0, no multiple of 240, or over 16,777,216 records
  *   23  FANTANOLIVE_WRONG_TOTAL     columns 6-14 of the last record not TOTAL and four spaces, or 35-49 and 50-64 not, in
  *                                   fifteen digits each, the numbers of lines with an adjustment and with a collection
  *                                   above zero; a bad amount is none, listed lines count
@@ -517,7 +520,7 @@ uint64_t fantanolive_add_cents(uint8_t *master, size_t master_length, size_t row
 uint64_t fantanolive_post(
     uint8_t *master, size_t master_length, size_t rows,
     const uint8_t *file, size_t file_length,
-    uint16_t *lines, size_t lines_length,
+    uint32_t *lines, size_t lines_length,
     uint64_t *listed);
 
 /* fantanolive_to_ebcdic: turns a file from ASCII into EBCDIC, byte by byte.
@@ -570,7 +573,7 @@ uint64_t fantanolive_to_ascii(
  * result                  Where the two numbers of the result go (FANTANOLIVE_CONTACTS and FANTANOLIVE_FAULTY).
  *
  * Returns, in the order of checking:
- *   18  FANTANOLIVE_WRONG_CONTACTS  file_length or table_length no multiple of 220, over 65,535 records in the file,
+ *   18  FANTANOLIVE_WRONG_CONTACTS  file_length or table_length no multiple of 220, over 16,777,215 records in the file,
  *                                   count above table_length / 220, a record of the table faulty, or their keys not
  *                                   strictly rising
  *   19  FANTANOLIVE_SHORT_CONTACTS  count plus the records of the file, faulty and repeated ones counted, whose key no
@@ -584,7 +587,7 @@ uint64_t fantanolive_to_ascii(
 uint64_t fantanolive_contacts_update(
     uint8_t *table, size_t table_length, size_t count,
     const uint8_t *file, size_t file_length,
-    uint16_t *faulty, size_t faulty_length,
+    uint32_t *faulty, size_t faulty_length,
     uint64_t result[FANTANOLIVE_CONTACT_RESULTS]);
 
 /* fantanolive_contacts_codes: writes the local codes of a state, all but 000, three bytes each and rising. What it writes

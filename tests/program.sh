@@ -482,6 +482,16 @@ terminals() {
     want 'what is being done' "$(grep -c "reading pipe" "$out")" 1
     want 'taken away' "$(grep -c "reading pipe.$escape\[K" "$out")" 1
     end
+
+    # a file of holes that takes longer than the run is given
+    begin 'how much is done'
+    fresh
+    truncate -s 16G "$dir/large.bin"
+    on_terminal "timeout 6 $work/fantanolive log large.bin"
+    want 'how much is read' "$(($(grep -o "reading large.bin: [0-9]* %" "$out" | sort -u | wc -l) > 1))" 1
+    (cd "$dir" && timeout 2 "$work/fantanolive" log large.bin) >"$out" 2>"$err"
+    want 'without a terminal' "$(wc -c <"$err")" 0
+    end
 }
 if command -v script >/dev/null && script -qec true /dev/null </dev/null >/dev/null 2>&1; then
     terminals

@@ -1,6 +1,6 @@
 #!/usr/bin/env bash
-# Holds every copy of the version against include/fantanolive.h: the numbers there, the newest entry of CHANGELOG.md, the Python module, and the Cargo files
-# of the Rust crate and of the program where they have one. Prints each that differs, and then status 1.
+# Holds every copy of the version against include/fantanolive.h: the numbers there, the newest entry of CHANGELOG.md, the Python module, the Cargo files
+# of the Rust crate and of the program, and the soname in the manual. Prints each that differs, and then status 1.
 set -u
 cd -- "$(dirname -- "$(readlink -f -- "$0")")/.." || exit 2
 version=$(bin/version)
@@ -21,9 +21,15 @@ part() {
 holds 'its numbers' "$(part MAJOR).$(part MINOR).$(part PATCH)"
 holds CHANGELOG.md "$(sed -n 's/^## \[\([0-9.]*\)\] - [0-9-]*$/\1/p' CHANGELOG.md | head -n 1)"
 for file in bindings/rust/Cargo.toml program/Cargo.toml; do
-    own=$(sed -n 's/^version = "\(.*\)"$/\1/p' "$file" 2>/dev/null | head -n 1)
-    [ -z "$own" ] || holds "$file" "$own"
+    holds "$file" "$(sed -n 's/^version = "\(.*\)"$/\1/p' "$file" | head -n 1)"
 done
+for file in bindings/rust/Cargo.lock program/Cargo.lock; do
+    holds "$file" "$(sed -n 's/^version = "\(.*\)"$/\1/p' "$file" | sort -u)"
+done
+if [ "$(grep -o 'libfantanolive\.so\.[0-9]*' docs/MANUAL.md | sort -u)" != "libfantanolive.so.$(part MAJOR)" ]; then
+    echo "version: docs/MANUAL.md doesn't name the soname libfantanolive.so.$(part MAJOR) alone"
+    failed=yes
+fi
 holds bindings/python "$(sed -n "s/^VERSION = '\(.*\)'\$/\1/p" bindings/python/fantanolive/_header.py)"
 [ -z "$failed" ] || exit 1
 echo "version: $version everywhere"

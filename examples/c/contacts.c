@@ -47,7 +47,7 @@ int main(void)
     static char text[RECORDS * FANTANOLIVE_CONTACT];
     static uint8_t file[sizeof text], table[SPACE * FANTANOLIVE_CONTACT], codes[SPACE * FANTANOLIVE_LOCAL_CODE];
     static const uint8_t ohio[FANTANOLIVE_STATE] = {0xD6, 0xC8};
-    uint16_t faulty[RECORDS];
+    uint32_t faulty[RECORDS];
     uint64_t result[FANTANOLIVE_CONTACT_RESULTS], number, place, answer;
     size_t i;
 
@@ -61,7 +61,7 @@ int main(void)
     answer = fantanolive_contacts_update(table, sizeof table, 0, file, sizeof file, faulty, RECORDS, result);
     if (answer != FANTANOLIVE_DONE) return refused("contacts_update", answer);
     printf("records %" PRIu64 ", faulty %" PRIu64 "\n", result[FANTANOLIVE_CONTACTS], result[FANTANOLIVE_FAULTY]);
-    for (i = 0; i < result[FANTANOLIVE_FAULTY]; i++) printf("record %d of the file is faulty\n", (int)faulty[i]);
+    for (i = 0; i < result[FANTANOLIVE_FAULTY]; i++) printf("record %" PRIu32 " of the file is faulty\n", faulty[i]);
     for (i = 0; i < result[FANTANOLIVE_CONTACTS]; i++) {
         const uint8_t *record = table + i * FANTANOLIVE_CONTACT;
         show(record, 1, 5);

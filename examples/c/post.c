@@ -88,7 +88,7 @@ static int refused(const char *call, uint64_t answer)
 int main(void)
 {
     static uint8_t master[ROWS * FANTANOLIVE_ROW], before[sizeof master], file[(LINES + 1) * FANTANOLIVE_LINE];
-    uint16_t lines[LINES];
+    uint32_t lines[LINES];
     uint64_t answer, listed, i;
     int untouched;
 
@@ -104,7 +104,7 @@ int main(void)
     answer = fantanolive_post(master, sizeof master, ROWS, file, sizeof file, lines, LINES, &listed);
     if (answer != FANTANOLIVE_DONE) return refused("post", answer);
     printf("posted: listed %" PRIu64 "\n", listed);
-    for (i = 0; i < listed; i++) printf("line %u not posted\n", (unsigned)lines[i]);
+    for (i = 0; i < listed; i++) printf("line %" PRIu32 " not posted\n", lines[i]);
     for (i = 0; i < ROWS; i++) {
         const uint8_t *row = master + FANTANOLIVE_ROW * i;
         printf("row %" PRIu64 ":", i + 1);

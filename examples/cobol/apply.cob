@@ -69,7 +69,7 @@
        01  STATE-LENGTH BINARY-DOUBLE UNSIGNED VALUE 2.
        01  DATE-LENGTH BINARY-DOUBLE UNSIGNED VALUE 8.
        01  OUT-LENGTH BINARY-DOUBLE UNSIGNED VALUE 1225.
-      *> An answer is below 16.
+      *> An answer is below 64.
        01  ANSWER BINARY-LONG UNSIGNED.
       *> Copies, to see that a refusal writes nothing.
        01  MASTER-BEFORE PIC X(800).

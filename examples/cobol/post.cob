@@ -52,18 +52,18 @@
                10  T-COLLECTIONS PIC 9(15).
                10  FILLER PIC X(176).
        01  LINE-LIST.
-           05  LINE-NUMBER BINARY-SHORT UNSIGNED OCCURS 4.
+           05  LINE-NUMBER BINARY-LONG UNSIGNED OCCURS 4.
        01  LISTED BINARY-DOUBLE UNSIGNED.
       *> Lengths and numbers that go by value.
        01  MASTER-LENGTH BINARY-DOUBLE UNSIGNED VALUE 400.
        01  ROW-COUNT BINARY-DOUBLE UNSIGNED VALUE 2.
        01  FILE-LENGTH BINARY-DOUBLE UNSIGNED VALUE 1200.
        01  LIST-LENGTH BINARY-DOUBLE UNSIGNED VALUE 4.
-      *> An answer is below 32.
+      *> An answer is below 64.
        01  ANSWER BINARY-LONG UNSIGNED.
       *> Copies, to see that a refusal writes nothing.
        01  MASTER-BEFORE PIC X(400).
-       01  LIST-BEFORE PIC X(8).
+       01  LIST-BEFORE PIC X(16).
       *> A row as it is shown, in ASCII.
        01  SHOWN-ROW.
            05  FILLER PIC X(65).

@@ -10,6 +10,7 @@ mod files;
 mod help;
 mod log;
 mod mask;
+mod memory;
 mod nearest;
 mod progress;
 mod records;

@@ -218,9 +218,112 @@ fn files_beyond_the_limits() {
     assert!(text.contains(bytes), "{text}");
     // a device that never ends
     check = CHECK;
-    check[2] = "/dev/zero";
-    assert!(message(&folder, &check, 2).contains("refused 5: "));
+    check[4] = "/dev/zero";
+    assert!(message(&folder, &check, 2).contains("refused 2: "));
+    let codes = ["codes", "/dev/zero", "--state", "OH", "--out", "out.bin"];
+    assert!(message(&folder, &codes, 2).contains("refused 18: "));
     assert!(start.elapsed() < Duration::from_secs(20));
+}
+
+/// One record more than the library takes: files with holes, which are not read.
+#[test]
+fn one_above_the_limits() {
+    let folder = Folder::with_master("lengths-one-above");
+    let most = 16_777_215;
+    let start = Instant::now();
+    for (name, width, records) in [
+        ("rows", 200, most + 1),
+        ("batch", 245, most + 2),
+        ("weekly", 240, most + 2),
+        ("contacts", 220, most + 1),
+    ] {
+        let file = File::create(folder.path(name)).expect("it can be made");
+        file.set_len(width * records).expect("the disk takes holes");
+    }
+    let mut check = CHECK;
+    check[1] = "rows";
+    let text = message(&folder, &check, 2);
+    let bytes = "3,355,443,200 bytes: beyond the 16,777,215 rows of 200 bytes";
+    assert!(
+        text.contains("refused 3: ") && text.contains(bytes),
+        "{text}"
+    );
+    for (arguments, refusal, records) in [
+        (
+            &with(
+                &CHECK[..2],
+                &["batch", "--locals", "locals.bin", "--year", "2007"],
+            )[..],
+            "5",
+            "16,777,216 records of 245",
+        ),
+        (
+            &["post", "master.bin", "weekly"],
+            "22",
+            "16,777,216 lines of 240",
+        ),
+        (
+            &["contacts", "table", "contacts", "--new"],
+            "18",
+            "16,777,215 records of 220",
+        ),
+        (
+            &["find", "rows", "OH123456789N"],
+            "3",
+            "16,777,215 rows of 200",
+        ),
+        (
+            &["pages", "rows", "--out", "pages"],
+            "3",
+            "16,777,215 rows of 200",
+        ),
+        (&["add-cents", "rows"], "3", "16,777,215 rows of 200"),
+        (
+            &["split", "batch", "--records", "9", "--out", "part"],
+            "5",
+            "16,777,216 records of 245",
+        ),
+        (
+            &["merge", "batch.bin", "batch", "--out", "merged"],
+            "5",
+            "16,777,216 records of 245",
+        ),
+    ] {
+        let text = message(&folder, arguments, 2);
+        let refused = format!("refused {refusal}: ");
+        assert!(text.contains(&refused) && text.contains(records), "{text}");
+    }
+    assert!(start.elapsed() < Duration::from_secs(20));
+}
+
+/// Where memory is short the run ends with a message, and nothing is written.
+#[test]
+fn more_than_memory_takes() {
+    let folder = Folder::with_master("lengths-memory");
+    let file = File::create(folder.path("large")).expect("it can be made");
+    file.set_len(245 * 16_777_216)
+        .expect("the disk takes holes");
+    let limited = |batch: &str| {
+        let command = format!(
+            "ulimit -v 1000000; exec {PROGRAM} check master.bin {batch} --locals locals.bin --year 2007"
+        );
+        let mut shell = std::process::Command::new("sh");
+        let output = shell
+            .args(["-c", &command])
+            .current_dir(folder.path("."))
+            .output();
+        Ran::from(output.expect("there is a shell"))
+    };
+    let ran = limited("large");
+    assert_eq!((ran.status, ran.out.as_str()), (3, ""), "{ran:?}");
+    assert!(
+        ran.err.contains("not enough memory: 4,110,417,920 bytes"),
+        "{ran:?}"
+    );
+    let ran = limited("/dev/zero");
+    assert_eq!((ran.status, ran.out.as_str()), (3, ""), "{ran:?}");
+    assert!(ran.err.contains("/dev/zero: can't be read: "), "{ran:?}");
+    assert_eq!(limited("batch.bin").status, 1);
 }
 
 #[test]

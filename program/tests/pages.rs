@@ -40,7 +40,7 @@ fn a_page_by_its_columns() {
     let counts = "  rows             3\n    of which live  2\n  pages            1\n";
     assert!(ran.out.contains(counts), "{}", ran.out);
     let wanted = [
-        filled(132, &[(1, "CASES"), (7, "00001")]),
+        filled(132, &[(1, "CASES"), (7, "000001")]),
         filled(
             132,
             &[
@@ -67,7 +67,7 @@ fn a_page_by_its_columns() {
     ];
     assert_eq!(folder.read("pages.bin"), wanted.concat());
     let lines = [
-        "CASES 00001",
+        "CASES 000001",
         "OH123456789N 000 SMITH                JOHN            00000025 0",
         "WY900010001A 123 ABCDEFGHIJKLMNOPQRST ABCDEFGHIJKLMNO 12345678 8",
         "TOTAL 0002",
@@ -94,7 +94,7 @@ fn full_pages_and_the_last() {
             assert!(page.ends_with('\n'));
             let page: Vec<&str> = page.lines().collect();
             assert_eq!(page.len(), lines + 2);
-            assert_eq!(page[0], format!("CASES {number:05}"));
+            assert_eq!(page[0], format!("CASES {number:06}"));
             assert_eq!(page[lines + 1], format!("TOTAL {lines:04}"));
         }
         let keys: Vec<&str> = text.lines().filter(|line| line.starts_with("OH")).collect();

@@ -1,10 +1,10 @@
 """What the C headers say: the version, the numbers and the words. Written by ../generate; not to be edited."""
 
-VERSION = '1.15.0'
+VERSION = '2.0.0'
 
 # The constants of fantanolive.h, without FANTANOLIVE_ in front.
-VERSION_MAJOR = 1
-VERSION_MINOR = 15
+VERSION_MAJOR = 2
+VERSION_MINOR = 0
 VERSION_PATCH = 0
 ROW = 200
 RECORD = 245
@@ -16,9 +16,9 @@ KEY = 12
 STATE = 2
 DATE = 8
 LOCAL_CODE = 3
-MAX_ROWS = 65535
-MAX_RECORDS = 65536
-MAX_CONTACTS = 65535
+MAX_ROWS = 16777215
+MAX_RECORDS = 16777216
+MAX_CONTACTS = 16777215
 RECORDS_SIZE = 980
 ACCEPTED = 0
 REJECTED = 1
@@ -85,9 +85,9 @@ REFUSAL_TEXTS = {
         'write each code as three EBCDIC digits with nothing between them or behind them, lowest first, none twice; an empty list is allowed',
     ),
     3: (
-        'master length no multiple of 200, or row count above length / 200 or above 65,535',
+        'master length no multiple of 200, or row count above length / 200 or above 16,777,215',
         'apply, take_back, find, find_many, reconcile, pages, add_cents, post: the master as a whole, and its row count',
-        'check that the file is a master and was copied whole, byte by byte; a row has 200 bytes and no line end, a master at most 65,535 rows',
+        'check that the file is a master and was copied whole, byte by byte; a row has 200 bytes and no line end, a master at most 16,777,215 rows',
     ),
     4: (
         'a row that is not sound, or rows not in strictly rising order of key',
@@ -95,9 +95,9 @@ REFUSAL_TEXTS = {
         'take the last good copy of the master; if columns 197-200 are spaces in every row, run add_cents once (add_cents takes only such a master and refuses one that has its cents)',
     ),
     5: (
-        'batch empty, its length no multiple of 245, or over 65,536 records',
+        'batch empty, its length no multiple of 245, or over 16,777,216 records',
         'apply, totals, merge: the batch as a whole; merge looks at the first batch wholly before the second',
-        'write every record with 245 bytes and no line end, details first, the control record last; send more than 65,535 details in several batches',
+        'write every record with 245 bytes and no line end, details first, the control record last; send more than 16,777,215 details in several batches',
     ),
     6: (
         'CTL is missing in the last record',
@@ -115,9 +115,9 @@ REFUSAL_TEXTS = {
         'sum columns 65-72 over the details of types A and M alone, where they are eight digits, by case type A and N, whatever errors they have',
     ),
     9: (
-        'no room for new rows: rows plus details of type A whose key has no row exceed master length / 200 or 65,535',
+        'no room for new rows: rows plus details of type A whose key has no row exceed master length / 200 or 16,777,215',
         "apply: the master's length, and the details with A in column 73",
-        "lend a master with 200 bytes behind its rows for each such detail, repeated and faulty ones counted; a master can't have more than 65,535 rows",
+        "lend a master with 200 bytes behind its rows for each such detail, repeated and faulty ones counted; a master can't have more than 16,777,215 rows",
     ),
     10: (
         'verdict list shorter than the details',
@@ -161,7 +161,7 @@ REFUSAL_TEXTS = {
     ),
     18: (
         'contact file or table of a wrong length or count, or a table with a faulty record or not in strictly rising order',
-        'contacts_update: the file (220 bytes a record, at most 65,535) and the table; contacts_codes: the table (220 bytes a record, by columns 1-5)',
+        'contacts_update: the file (220 bytes a record, at most 16,777,215) and the table; contacts_codes: the table (220 bytes a record, by columns 1-5)',
         'write contact records with 220 bytes and no line end; for a table take only what contacts_update has written, with its count, or start an empty one',
     ),
     19: (
@@ -180,7 +180,7 @@ REFUSAL_TEXTS = {
         'write the totals right-justified with leading zeros, in 9, 9, 11 and 11 digits, and spaces behind them up to column 245',
     ),
     22: (
-        'collection file empty, its length no multiple of 240, or over 65,536 records',
+        'collection file empty, its length no multiple of 240, or over 16,777,216 records',
         'post: the collection file as a whole',
         'check that the file was copied whole, byte by byte; a record has 240 bytes and no line end, and the last one is the TOTAL record',
     ),
@@ -192,12 +192,12 @@ REFUSAL_TEXTS = {
     24: (
         'line list shorter than the lines',
         'post: the length of the line list, counted in numbers',
-        'lend one 16-bit number for each line of the file',
+        'lend one 32-bit number for each line of the file',
     ),
     25: (
-        'journal buffer below 12 + 204 x details',
+        'journal buffer below 12 + 205 x details',
         "apply_journaled: the journal buffer's length",
-        'lend 12 bytes and 204 bytes for each detail (a detail is every record but the last), however few rows change',
+        'lend 12 bytes and 205 bytes for each detail (a detail is every record but the last), however few rows change',
     ),
     26: (
         'not a journal, one that does not fit the master, or the rows that it would leave are not sound or not in order',
@@ -230,7 +230,7 @@ REFUSAL_TEXTS = {
         'lend 132 bytes for each row and 264 for each page, a page for every 58 rows or part of them',
     ),
     32: (
-        "batches that can't be merged: two states, over 65,535 details together, or an amount total above eleven digits",
+        "batches that can't be merged: two states, over 16,777,215 details together, or an amount total above eleven digits",
         'merge: columns 1-2 of both control records, the numbers of details, and the sums of columns 24-34 and of columns 35-45',
         'send the batches one behind the other; only batches of one state can be merged, and amounts to 99,999,999,999 dollars',
     ),

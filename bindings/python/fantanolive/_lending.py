@@ -7,10 +7,9 @@ from . import _header, _library
 from .words import Refused
 
 BYTES = 1
-NUMBERS_16 = 2
 NUMBERS_32 = 4
 NUMBERS_64 = 8
-_FORMATS = {NUMBERS_16: ("H",), NUMBERS_32: ("I", "L"), NUMBERS_64: ("Q", "L", "N")}
+_FORMATS = {NUMBERS_32: ("I", "L"), NUMBERS_64: ("Q", "L", "N")}
 
 # What an empty buffer's pointer is: never read or written, aligned for every kind of number, and not NULL.
 _NOWHERE = ctypes.c_uint64()

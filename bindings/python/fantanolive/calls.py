@@ -8,7 +8,7 @@ import collections
 import ctypes
 
 from . import _header
-from ._lending import NUMBERS_16, NUMBERS_32, NUMBERS_64, Call, number
+from ._lending import NUMBERS_32, NUMBERS_64, Call, number
 
 # The result of apply. Accepted includes warned; rows are those of the master afterwards.
 Counts = collections.namedtuple("Counts", "accepted rejected warned neither rows")
@@ -116,12 +116,12 @@ def add_cents(master, rows):
 
 
 def post(master, rows, file, lines):
-    """Posts a weekly collection file. lines has 16-bit numbers: array('H', ..). Returns how many lines are listed there."""
+    """Posts a weekly collection file. lines has 32-bit numbers: array('I', ..). Returns how many lines are listed there."""
     listed = ctypes.c_uint64()
     with Call("post") as call:
         call.run(
             *call.write("master", master), number("rows", rows), *call.read("file", file),
-            *call.write("lines", lines, NUMBERS_16), ctypes.byref(listed),
+            *call.write("lines", lines, NUMBERS_32), ctypes.byref(listed),
         )
     return listed.value
 
@@ -137,12 +137,12 @@ def to_ascii(file, out):
 
 
 def contacts_update(table, count, file, faulty):
-    """Reads a contact file into a table. faulty has 16-bit numbers: array('H', ..). Returns ContactCounts."""
+    """Reads a contact file into a table. faulty has 32-bit numbers: array('I', ..). Returns ContactCounts."""
     result = (ctypes.c_uint64 * _header.CONTACT_RESULTS)()
     with Call("contacts_update") as call:
         call.run(
             *call.write("table", table), number("count", count), *call.read("file", file),
-            *call.write("faulty", faulty, NUMBERS_16), result,
+            *call.write("faulty", faulty, NUMBERS_32), result,
         )
     return ContactCounts(*result)
 

@@ -35,7 +35,7 @@ def apply(master, batch, locals, year):
 def apply_journaled(master, batch, locals, year):
     """Applies a batch to a master, with a journal for take_back. Returns Journaled."""
     lent = _Lent(master, batch)
-    journal = bytearray(12 + 204 * lent.details)
+    journal = bytearray(12 + 205 * lent.details)
     counts = calls.apply_journaled(*lent.arguments(locals, year), journal)
     return Journaled(*lent.left(calls.Counts(*counts[:-1])), _front(journal, counts.journal))
 
@@ -92,7 +92,7 @@ def add_cents(master):
 def post(master, file):
     """Posts a weekly collection file. Returns Posted."""
     rows, space = _rows_and_space("master", master, _header.ROW, 0)
-    lines = array.array("H", bytes(2 * max(_count("file", file, _header.LINE) - 1, 0)))
+    lines = array.array("I", [0]) * max(_count("file", file, _header.LINE) - 1, 0)
     listed = calls.post(space, rows, file, lines)
     return Posted(bytes(space), lines[:listed])
 
@@ -115,7 +115,7 @@ def contacts_update(table, file):
     """Reads a contact file into a table. Returns Updated."""
     records = _count("file", file, _header.CONTACT)
     count, space = _rows_and_space("table", table, _header.CONTACT, records)
-    faulty = array.array("H", bytes(2 * records))
+    faulty = array.array("I", [0]) * records
     counts = calls.contacts_update(space, count, file, faulty)
     return Updated(_front(space, _header.CONTACT * counts.contacts), faulty[: counts.faulty])
 

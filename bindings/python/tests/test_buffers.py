@@ -75,8 +75,8 @@ class NotTaken(unittest.TestCase):
         for numbers in (bytearray(16), array.array("q", [7, 7]), array.array("H", [7] * 8), array.array("d", [7, 7])):
             with self.assertRaisesRegex(TypeError, "verdicts must have unsigned items of 8 bytes"):
                 apply(verdicts=numbers)
-        for numbers in (bytearray(16), array.array("h", [7]), array.array("Q", [7])):
-            with self.assertRaisesRegex(TypeError, "lines must have unsigned items of 2 bytes"):
+        for numbers in (bytearray(16), array.array("i", [7]), array.array("H", [7, 7]), array.array("Q", [7])):
+            with self.assertRaisesRegex(TypeError, "lines must have unsigned items of 4 bytes"):
                 calls.post(bytearray(row()), 1, b"", numbers)
         for numbers in (bytearray(16), array.array("i", [7]), array.array("H", [7, 7]), array.array("Q", [7])):
             with self.assertRaisesRegex(TypeError, "places must have unsigned items of 4 bytes"):
@@ -136,9 +136,9 @@ class Held(unittest.TestCase):
             thread.join()
         self.assertEqual(results, [True] * 800)
 
-    def test_the_largest_batch(self):
-        kept = forms.apply(b"", bytes(245 * 65535) + control(0, 0), b"", 2007)
-        self.assertEqual(kept.counts, (0, 0, 0, 65535, 0))
+    def test_a_large_batch(self):
+        kept = forms.apply(b"", bytes(245 * 65537) + control(0, 0), b"", 2007)
+        self.assertEqual(kept.counts, (0, 0, 0, 65537, 0))
 
 
 if __name__ == "__main__":

@@ -1,8 +1,10 @@
 """The calls in place: the paper's example byte by byte, each refusal of each call, and what is kept."""
 import array
+import contextlib
+import mmap
 import unittest
 
-from fantanolive import NO_PLACE, Refused, calls
+from fantanolive import CONTACT, LINE, MAX_CONTACTS, MAX_RECORDS, MAX_ROWS, NO_PLACE, RECORD, ROW, Refused, calls
 from sample import PAPER_BATCH, contact, control, detail, ebcdic, line, row, total
 
 
@@ -11,6 +13,11 @@ def reject_file():
     reject[227:243] = ebcdic(f"17{'':10}SMIT")
     counts = f"{0:09d}{0:09d}{1:09d}{1:09d}{0:09d}{0:09d}"
     return bytes(reject) + ebcdic(f"OHCTL{counts}{'':186}")
+
+
+def untouched(length):
+    """A buffer of zeros that takes no memory until it is written."""
+    return contextlib.closing(mmap.mmap(-1, length, mmap.MAP_PRIVATE | mmap.MAP_ANONYMOUS | 0x4000, mmap.PROT_READ))
 
 
 class Carried(unittest.TestCase):
@@ -29,13 +36,13 @@ class Carried(unittest.TestCase):
         master = bytearray(row("123456780") + b"\xee" * 400)
         verdicts = array.array("Q", [7, 7, 7])
         rejects = bytearray(b"\xee" * 1000)
-        journal = bytearray(b"\xee" * 421)
+        journal = bytearray(b"\xee" * 423)
         counts = calls.apply_journaled(master, 1, PAPER_BATCH, b"", 2007, verdicts, rejects, journal)
         self.assertEqual(counts, (1, 1, 0, 0, 2, 4))
         self.assertEqual((counts.rows, counts.journal), (2, 4))
         self.assertEqual(bytes(master), row("123456780") + row() + b"\xee" * 200)
         self.assertEqual(bytes(rejects), reject_file() + b"\xee" * 510)
-        self.assertEqual(bytes(journal), bytes([1, 2, 1, 0]) + b"\xee" * 417)
+        self.assertEqual(bytes(journal), bytes([1, 2, 1, 0]) + b"\xee" * 419)
         self.assertEqual(calls.take_back(master, 2, journal[:4]), 1)
         self.assertEqual(bytes(master), row("123456780") + row() + b"\xee" * 200)
 
@@ -75,7 +82,7 @@ class Carried(unittest.TestCase):
         out = bytearray(b"\xee" * 400)
         self.assertEqual(calls.pages(row() + row("123456790", 0, "D00  "), 2, out), 1)
         line = f"OH123456789N 000 {'SMITH':20} {'JOHN':15} 00000025 0"
-        self.assertEqual(out, ebcdic(f"{'CASES 00001':132}{line:132}{'TOTAL 0001':132}") + b"\xee" * 4)
+        self.assertEqual(out, ebcdic(f"{'CASES 000001':132}{line:132}{'TOTAL 0001':132}") + b"\xee" * 4)
 
     def test_add_cents(self):
         master = bytearray(row(end="     ") + b"\xee" * 200)
@@ -84,7 +91,7 @@ class Carried(unittest.TestCase):
 
     def test_post(self):
         master = bytearray(row())
-        lines = array.array("H", [9, 9, 9])
+        lines = array.array("I", [9, 9, 9])
         file = line(collection=1010) + line(1, ssn="123456788") + total(0, 2)
         self.assertEqual(calls.post(master, 1, file, lines), 1)
         self.assertEqual(bytes(master), row(dollars=14, end=" 90  "))
@@ -101,7 +108,7 @@ class Carried(unittest.TestCase):
 
     def test_contacts(self):
         table = bytearray(contact("000") + b"\xee" * 660)
-        faulty = array.array("H", [9, 9, 9])
+        faulty = array.array("I", [9, 9, 9])
         file = contact("002") + contact("001") + contact("003", "(614)555-1212 ")
         self.assertEqual(calls.contacts_update(table, 1, file, faulty), (3, 1))
         self.assertEqual(bytes(table), contact("000") + contact("001") + contact("002") + b"\xee" * 220)
@@ -121,7 +128,7 @@ class Carried(unittest.TestCase):
         self.assertEqual(
             calls.apply(bytearray(), 0, control(0, 0), b"", 2007, array.array("Q"), bytearray(245)), (0, 0, 0, 0, 0)
         )
-        self.assertEqual(calls.contacts_update(bytearray(), 0, b"", array.array("H")), (0, 0))
+        self.assertEqual(calls.contacts_update(bytearray(), 0, b"", array.array("I")), (0, 0))
         self.assertIsNone(calls.to_ebcdic(b"", bytearray()))
 
 
@@ -153,7 +160,7 @@ class Refusals(unittest.TestCase):
             (2, {"locals": ebcdic("01")}), (2, {"locals": ebcdic("002001")}),
             (3, {"master": bytearray(399)}), (3, {"rows": 3}), (3, {"rows": 2**64 - 1}),
             (4, {"master": bytearray(400)}), (4, {"master": bytearray(row() + row("123456780")), "rows": 2}),
-            (5, {"batch": b""}), (5, {"batch": PAPER_BATCH[:-1]}), (5, {"batch": bytes(245 * 65537)}),
+            (5, {"batch": b""}), (5, {"batch": PAPER_BATCH[:-1]}),
             (6, {"batch": details}), (20, {"batch": details + control(2, 125, state="XX")}),
             (21, {"batch": details + control(2, 125)[:-1] + b"\0"}),
             (7, {"batch": details + control(1, 125)}), (8, {"batch": details + control(2, 124)}),
@@ -163,11 +170,30 @@ class Refusals(unittest.TestCase):
         for number, changed in refused:
             self.refused(calls.apply, good, number, **changed)
 
+    def test_over_the_limits(self):
+        """Buffers above the limits, of pages that are never touched; they are refused by their length alone."""
+        def refused(number, function, *arguments):
+            with self.assertRaises(Refused) as caught:
+                function(*arguments)
+            self.assertEqual(caught.exception.number, number)
+
+        with untouched(RECORD * (MAX_RECORDS + 1)) as file:
+            refused(5, calls.apply, bytearray(), 0, file, b"", 2007, array.array("Q"), bytearray())
+            refused(5, calls.totals, file)
+            refused(5, calls.merge, file, PAPER_BATCH, bytearray())
+            refused(5, calls.merge, PAPER_BATCH, file, bytearray())
+        with untouched(ROW * (MAX_ROWS + 1)) as master:
+            refused(3, calls.find, master, MAX_ROWS + 1, ebcdic("OH123456789N"))
+        with untouched(LINE * (MAX_RECORDS + 1)) as file:
+            refused(22, calls.post, bytearray(row()), 1, file, array.array("I"))
+        with untouched(CONTACT * (MAX_CONTACTS + 1)) as file:
+            refused(18, calls.contacts_update, bytearray(), 0, file, array.array("I"))
+
     def test_totals(self):
         def good():
             return {"batch": PAPER_BATCH}
 
-        for batch in (b"", PAPER_BATCH[:-1], bytes(245 * 65537)):
+        for batch in (b"", PAPER_BATCH[:-1]):
             self.refused(calls.totals, good, 5, batch=batch)
 
     def test_merge(self):
@@ -243,12 +269,12 @@ class Refusals(unittest.TestCase):
             return {
                 "master": bytearray(row("123456780") + bytes(200)), "rows": 1, "batch": PAPER_BATCH, "locals": b"",
                 "year": 2007, "verdicts": array.array("Q", [7, 7]), "rejects": bytearray(b"\xee" * 735),
-                "journal": bytearray(b"\xee" * 420),
+                "journal": bytearray(b"\xee" * 422),
             }
 
         self.assertEqual(calls.apply_journaled(**good()).journal, 4)
         for number, changed in [
-            (1, {"year": 1899}), (11, {"rejects": bytearray(734), "journal": bytearray(419)}), (25, {"journal": bytearray(419)}),
+            (1, {"year": 1899}), (11, {"rejects": bytearray(734), "journal": bytearray(421)}), (25, {"journal": bytearray(421)}),
         ]:
             self.refused(calls.apply_journaled, good, number, **changed)
 
@@ -265,14 +291,14 @@ class Refusals(unittest.TestCase):
     def test_post(self):
         def good():
             return {
-                "master": bytearray(row()), "rows": 1, "file": line(collection=5) + total(0, 1), "lines": array.array("H", [9])
+                "master": bytearray(row()), "rows": 1, "file": line(collection=5) + total(0, 1), "lines": array.array("I", [9])
             }
 
         self.assertEqual(calls.post(**good()), 0)
         refused = [
             (3, {"rows": 2}), (4, {"master": bytearray(row(end="     "))}), (22, {"file": b""}), (22, {"file": bytes(241)}),
-            (22, {"file": bytes(240 * 65537)}), (23, {"file": line(5) + total(1, 1)}), (23, {"file": line(5)}),
-            (24, {"lines": array.array("H")}),
+            (23, {"file": line(5) + total(1, 1)}), (23, {"file": line(5)}),
+            (24, {"lines": array.array("I")}),
         ]
         for number, changed in refused:
             self.refused(calls.post, good, number, **changed)
@@ -291,14 +317,14 @@ class Refusals(unittest.TestCase):
         def good():
             return {
                 "table": bytearray(contact("000") + bytes(220)), "count": 1, "file": contact("001"),
-                "faulty": array.array("H", [9]),
+                "faulty": array.array("I", [9]),
             }
 
         self.assertEqual(calls.contacts_update(**good()), (2, 0))
         refused = [
             (18, {"file": bytes(219)}), (18, {"table": bytearray(441)}), (18, {"count": 3}), (18, {"table": bytearray(440)}),
-            (18, {"table": bytearray(contact("001") + contact("000")), "count": 2}), (18, {"file": bytes(220 * 65536)}),
-            (19, {"table": bytearray(contact("000"))}), (19, {"faulty": array.array("H")}),
+            (18, {"table": bytearray(contact("001") + contact("000")), "count": 2}),
+            (19, {"table": bytearray(contact("000"))}), (19, {"faulty": array.array("I")}),
         ]
         for number, changed in refused:
             self.refused(calls.contacts_update, good, number, **changed)

@@ -106,7 +106,7 @@ extern "C" {
         rows: usize,
         file: *const u8,
         file_length: usize,
-        lines: *mut u16,
+        lines: *mut u32,
         lines_length: usize,
         listed: *mut u64,
     ) -> u64;
@@ -133,7 +133,7 @@ extern "C" {
         count: usize,
         file: *const u8,
         file_length: usize,
-        faulty: *mut u16,
+        faulty: *mut u32,
         faulty_length: usize,
         result: *mut u64,
     ) -> u64;

@@ -96,7 +96,7 @@ pub fn apply(
 /// Applies a batch to a master as [`apply`] does, and writes a journal with which [`take_back`] takes it back. Answers the
 /// counts and how many bytes the journal has; it stands at the front of `journal`, and the bytes behind it are kept.
 ///
-/// `journal` has at least 12 + 204 × details bytes ([`crate::journal_size`]).
+/// `journal` has at least 12 + 205 × details bytes ([`crate::journal_size`]).
 ///
 /// # Errors
 ///
@@ -359,7 +359,7 @@ pub fn post(
     master: &mut [u8],
     rows: usize,
     file: &[u8],
-    lines: &mut [u16],
+    lines: &mut [u32],
 ) -> Result<u64, Refusal> {
     let mut listed = 0;
     // SAFETY: as in `apply`.
@@ -440,7 +440,7 @@ pub fn contacts_update(
     table: &mut [u8],
     count: usize,
     file: &[u8],
-    faulty: &mut [u16],
+    faulty: &mut [u32],
 ) -> Result<ContactCounts, Refusal> {
     let mut result = [0; 2];
     // SAFETY: as in `apply`.

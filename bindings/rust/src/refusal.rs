@@ -13,11 +13,11 @@ pub enum Refusal {
     WrongYear = 1,
     /// List not made of three-digit codes, three bytes each, strictly rising.
     WrongLocals = 2,
-    /// Master length no multiple of 200, or row count above length ÷ 200 or 65,535.
+    /// Master length no multiple of 200, or row count above length ÷ 200 or 16,777,215.
     WrongMaster = 3,
     /// A row that is not sound, or rows not in strictly rising order of key.
     UnsoundRow = 4,
-    /// Batch empty, no multiple of 245, or over 65,536 records.
+    /// Batch empty, no multiple of 245, or over 16,777,216 records.
     WrongBatch = 5,
     /// CTL is missing in columns 3–5 of the last record.
     NoCtl = 6,
@@ -25,7 +25,7 @@ pub enum Refusal {
     WrongCount = 7,
     /// An amount of the control record differs from the details'.
     WrongAmount = 8,
-    /// Rows plus A records whose key has no row exceed length ÷ 200 or 65,535.
+    /// Rows plus A records whose key has no row exceed length ÷ 200 or 16,777,215.
     NoRoom = 9,
     /// Verdict list shorter than the details.
     ShortVerdicts = 10,
@@ -51,13 +51,13 @@ pub enum Refusal {
     ControlState = 20,
     /// A total of the control record is not digits, or its filler is not spaces.
     ControlForm = 21,
-    /// Collection file empty, no multiple of 240, or over 65,536 records.
+    /// Collection file empty, no multiple of 240, or over 16,777,216 records.
     WrongFile = 22,
     /// Its last record not TOTAL with the numbers of adjustments and collections.
     WrongTotal = 23,
     /// Line list shorter than the lines.
     ShortLines = 24,
-    /// Journal buffer below 12 + 204 × details.
+    /// Journal buffer below 12 + 205 × details.
     ShortJournal = 25,
     /// No journal, or one that does not fit the master, or what it would leave is not sound.
     WrongJournal = 26,
@@ -71,7 +71,7 @@ pub enum Refusal {
     ShortRecords = 30,
     /// Buffer too short for the pages.
     ShortPages = 31,
-    /// Two states, over 65,535 details together, or an amount total above eleven digits.
+    /// Two states, over 16,777,215 details together, or an amount total above eleven digits.
     CannotMerge = 32,
     /// Output shorter than the merged batch.
     ShortBatch = 33,

@@ -19,15 +19,15 @@ pub const DATE: usize = 8;
 /// Bytes of a local code.
 pub const LOCAL_CODE: usize = 3;
 /// The most rows that a master may have.
-pub const MAX_ROWS: usize = 65_535;
+pub const MAX_ROWS: usize = 16_777_215;
 /// The most records that a batch or a collection file may have, the last record included.
-pub const MAX_RECORDS: usize = 65_536;
+pub const MAX_RECORDS: usize = 16_777_216;
 /// The most records that a contact file may have.
-pub const MAX_CONTACTS: usize = 65_535;
+pub const MAX_CONTACTS: usize = 16_777_215;
 
 /// Bytes that the journal of a batch of so many details always has room in; fewer are refused (25).
 pub const fn journal_size(details: usize) -> usize {
-    12 + 204 * details
+    12 + 205 * details
 }
 /// The place that [`crate::find_many`] tells for a key without a row.
 pub const NO_PLACE: u32 = 4_294_967_295;

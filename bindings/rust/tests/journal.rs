@@ -229,11 +229,11 @@ fn refusal_25_behind_11() {
         }
         answer.map(|(_, length)| length)
     };
-    assert_eq!(run(2 * RECORD - 1, 215), Err(Refusal::ShortOutput));
-    assert_eq!(run(2 * RECORD, 215), Err(Refusal::ShortJournal));
+    assert_eq!(run(2 * RECORD - 1, 216), Err(Refusal::ShortOutput));
+    assert_eq!(run(2 * RECORD, 216), Err(Refusal::ShortJournal));
     assert_eq!(run(2 * RECORD, 0), Err(Refusal::ShortJournal));
-    assert_eq!(run(2 * RECORD, 216), Ok(4));
-    assert_eq!(journal_size(1), 216);
+    assert_eq!(run(2 * RECORD, 217), Ok(4));
+    assert_eq!(journal_size(1), 217);
 }
 
 /// Taking back with a journal is refused with 26, and the master is kept.

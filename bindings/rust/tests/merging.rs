@@ -1,9 +1,11 @@
 //! Two batches into one, through the wrapper: empty and full inputs, totals at their limits, each refusal of each input with
 //! the other one faulty too, and that the merged batch has the effect of the two one behind the other.
 
+mod sparse;
 mod text;
 
-use fantanolive::{apply, merge, totals, Refusal, MAX_ROWS, RECORD, ROW};
+use fantanolive::{apply, merge, totals, Refusal, MAX_RECORDS, RECORD, ROW};
+use sparse::Sparse;
 use text::{ebcdic, record};
 
 fn detail(ssn: u64, kind: &str, case_type: &str, amount: u64, name: &str) -> Vec<u8> {
@@ -81,20 +83,27 @@ fn details_of_both_and_summed_totals() {
 }
 
 #[test]
-fn most_details() {
+fn more_details_than_16_bits_count() {
     let half = many(32_768, "N", 1);
-    let rest = many(MAX_ROWS - 32_768, "A", 2);
-    let whole = merged(&half, &rest).expect("65,535 details");
-    let last = control("OH", [32_767, 32_768], [65_534, 32_768]);
+    let rest = many(32_769, "A", 2);
+    let whole = merged(&half, &rest).expect("65,537 details");
+    let last = control("OH", [32_769, 32_768], [65_538, 32_768]);
     assert_eq!(whole[whole.len() - RECORD..], last);
-    assert_eq!(merged(&half, &half), Err(Refusal::CannotMerge));
-    let full = many(MAX_ROWS, "N", 1);
-    assert_eq!(merged(&full, &batch(&[])), Ok(full.clone()));
-    assert_eq!(merged(&batch(&[]), &full), Ok(full.clone()));
+    assert_eq!(merged(&whole, &batch(&[])), Ok(whole.clone()));
+    assert_eq!(merged(&batch(&[]), &whole), Ok(whole));
+}
+
+/// A batch at the limit passes 32, and one detail more doesn't; details of zeros count in no total.
+#[test]
+fn most_details() {
+    let mut over = Sparse::new(RECORD * (MAX_RECORDS + 1));
+    over[RECORD * MAX_RECORDS..].copy_from_slice(&control("OH", [0, 0], [0, 0]));
+    let full = &over[RECORD..];
     let one = many(1, "N", 1);
-    assert_eq!(merged(&full, &one), Err(Refusal::CannotMerge));
-    assert_eq!(merged(&full, &full), Err(Refusal::CannotMerge));
-    let over = [&one[..RECORD], &full[..]].concat();
+    let merged = |first: &[u8], second: &[u8]| merge(first, second, &mut []);
+    assert_eq!(merged(full, &batch(&[])), Err(Refusal::ShortBatch));
+    assert_eq!(merged(full, &one), Err(Refusal::CannotMerge));
+    assert_eq!(merged(&one, full), Err(Refusal::CannotMerge));
     assert_eq!(merged(&over, &one), Err(Refusal::WrongBatch));
     assert_eq!(merged(&one, &over), Err(Refusal::WrongBatch));
 }

@@ -83,7 +83,7 @@ fn lines(live: usize) -> Vec<Vec<u8>> {
 fn expected(live: usize, on_each: &[&str]) -> Vec<u8> {
     let (lines, mut out, mut at) = (lines(live), Vec::new(), 0);
     for (page, count) in on_each.iter().enumerate() {
-        out.extend(heading(&format!("0000{}", page + 1)));
+        out.extend(heading(&format!("00000{}", page + 1)));
         let next = at + count.parse::<usize>().expect("a count");
         out.extend(lines[at..next].concat());
         out.extend(foot(count));
@@ -147,7 +147,7 @@ fn rows_of_three_states_and_every_number_of_bits() {
         .collect();
     let mut out = vec![0; 8 * PAGE_LINE];
     assert_eq!(pages(&master, 7, &mut out), Ok(1));
-    assert_eq!(out, [heading("00001"), lines, foot("0006")].concat());
+    assert_eq!(out, [heading("000001"), lines, foot("0006")].concat());
 }
 
 /// A row of no dollars and some cents is live.

@@ -1,9 +1,11 @@
 //! One file sent as several: a batch and its parts through the library, from the same master; what the proviso on B records is
 //! for, and what being carried out is for. And the totals of a batch's details.
 
+mod sparse;
 mod text;
 
 use fantanolive::{apply, totals, Refusal, Totals, MAX_RECORDS, RECORD, ROW};
+use sparse::Sparse;
 use text::{filled, paper_batch, record};
 
 /// A detail of OH, SSN 123456789, case type N.
@@ -216,10 +218,12 @@ fn totals_of_wrong_lengths_and_of_most_records() {
     let refused = Err(Refusal::WrongBatch);
     assert_eq!(totals(&[]), refused);
     assert_eq!(totals(&[0; 246]), refused);
-    let mut most = detail("A", &[(65, "99999999")]).repeat(MAX_RECORDS);
-    let counted = totals(&most).expect("65,536 records");
-    assert_eq!(counted.non_tanf_count, 65_535);
-    assert_eq!(counted.non_tanf_amount, 65_535 * 99_999_999);
-    most.extend(record(&[]));
-    assert_eq!(totals(&most), refused);
+    let many = detail("A", &[(65, "99999999")]).repeat(65_537);
+    let counted = totals(&many).expect("65,537 records");
+    assert_eq!(counted.non_tanf_count, 65_536);
+    assert_eq!(counted.non_tanf_amount, 65_536 * 99_999_999);
+    let over = Sparse::new(RECORD * (MAX_RECORDS + 1));
+    let counted = totals(&over[RECORD..]).expect("16,777,216 records");
+    assert_eq!(counted.tanf_count + counted.non_tanf_count, 0);
+    assert_eq!(totals(&over), refused);
 }

@@ -4,14 +4,13 @@ use mathlib.Core.Path.{_≡_, refl, sym, ap, _∙_, subst}
 use mathlib.Core.Bool.{Bool, true, false}
 use mathlib.Core.List.{List, _++_}
 use native.Mathlib.Omega.{arith}
-use lib.Dec.{lit<}
 use lib.ListN.{length, drop, length-append}
 use Rattle.text.specs.Blocks.{blocks}
 use Rattle.text.proofs.BlocksLaws.{length-blocks}
 use Rattle.text.proofs.SplicedLaws.{length-spliced, spliced-none}
 use Rattle.text.proofs.WidthLaws.{blocks-wide}
 use Rattle.layout.specs.Limits.{maxRows}
-use Rattle.layout.proofs.LimitsLaws.{max-rows}
+use Rattle.layout.proofs.LimitsLaws.{few-groups}
 use Rattle.layout.specs.Batch.{detailCount, detailsOf}
 use Rattle.casemaster.specs.Master.{rowsOf}
 use Rattle.casemaster.specs.Search.{Raised}
@@ -24,20 +23,17 @@ use Rattle.batch.specs.Call.{Call}
 use Rattle.batch.specs.Apply.{callRows}
 use Rattle.batch.proofs.KnownLaws.{Known}
 use Rattle.journal.specs.Numbers.{numberBytes}
+use Rattle.journal.specs.Space.{journalSpace}
 use Rattle.journal.specs.Writing.{Wrote}
 use Rattle.journal.proofs.NumberLaws.{number-length}
 use Rattle.journalwalk.specs.JournalWalk.{journalPart, JournalRoom}
 use Rattle.journalwalk.proofs.WholeLaws.{journal-whole}
 use Rattle.batch.specs.Journaling.{countsPart, wholeJournal, journalWanted}
 
--- so few rows as the code's limit have places of at most three groups
-few-groups : maxRows < 128 ^ 3
-few-groups = subst (λ (n : ℕ). n < 128 ^ 3) (sym max-rows) (lit< tt)
-
 module _ (c : Call) (limit-is : c .limit ≡ maxRows) (k : Known c) (st : List ℕ) (own : ℕ) (v₁ : List ℕ) (o : OrderReady st (c .batch) (detailCount (c .batch)) own v₁)
     (new : ℕ) (ni : new ≡ newOwnKeys (fixedOf st (c .year) (c .locals) (c .batch) own (c .rows)) v₁ (rowsOf (c .rows) (c .master))) where
   -- the rows that there will be keep to the limit
-  pub rows-few : c .rows + new < 128 ^ 3
+  pub rows-few : c .rows + new < 128 ^ 4
   unfolding detailsOf
   rows-few =
       let d = detailCount (c .batch) in
@@ -47,12 +43,12 @@ module _ (c : Call) (limit-is : c .limit ≡ maxRows) (k : Known c) (st : List �
       let room : c .rows + addsWithoutRow (rowsOf (c .rows) (c .master)) (blocks 245 d (c .batch)) ≤ maxRows = omega (arith, k .room-limit, limit-is) in
       omega (arith, ni, few, room, few-groups)
 
-  module _ (wanted : Bool) (journal : List ℕ) (h : wanted ≡ true → 12 + 204 * detailCount (c .batch) ≤ length journal) where
-    rows-before : c .rows < 128 ^ 3
+  module _ (wanted : Bool) (journal : List ℕ) (h : wanted ≡ true → journalSpace (detailCount (c .batch)) ≤ length journal) where
+    rows-before : c .rows < 128 ^ 4
     rows-before = omega (arith, rows-few)
 
     pub counts-room : wanted ≡ true → length (numberBytes (c .rows)) + length (numberBytes (c .rows + new)) ≤ length journal
-    counts-room e = omega (arith, h e, number-length 2 (c .rows) rows-before, number-length 2 (c .rows + new) rows-few)
+    counts-room e = omega (arith, h e, number-length 3 (c .rows) rows-before, number-length 3 (c .rows + new) rows-few)
 
     counts-in : 0 + length (countsPart wanted (c .rows) (c .rows + new)) ≤ length journal
     counts-in = go wanted (λ e. counts-room e)
@@ -69,13 +65,13 @@ module _ (c : Call) (limit-is : c .limit ≡ maxRows) (k : Known c) (st : List �
       pub room-ready : JournalRoom wanted own (c .rows + new) at journal₁
       room-ready =
           record {
-            groups = 2;
+            groups = 3;
             places = rows-few;
             inside = omega (arith, v .next-is, counts-in, same-length);
             space = λ e. space e;
           }
         where
-          space : wanted ≡ true → at + (suc 2 + 201) * own ≤ length journal₁
+          space : wanted ≡ true → at + (suc 3 + 201) * own ≤ length journal₁
           space e =
               let a : at ≡ 0 + length (countsPart true (c .rows) (c .rows + new)) = subst (λ (w : Bool). at ≡ 0 + length (countsPart w (c .rows) (c .rows + new))) e (v .next-is) in
               omega (
@@ -85,8 +81,8 @@ module _ (c : Call) (limit-is : c .limit ≡ maxRows) (k : Known c) (st : List �
                 same-length,
                 o .own-in,
                 length-append (numberBytes (c .rows)) (numberBytes (c .rows + new)),
-                number-length 2 (c .rows) rows-before,
-                number-length 2 (c .rows + new) rows-few,
+                number-length 3 (c .rows) rows-before,
+                number-length 3 (c .rows + new) rows-few,
               )
 
       pub journal-written : (m₁ : List ℕ) → Raised (c .master) (c .rows) new m₁ → (m₂ journal₂ : List ℕ) (written : ℕ)

@@ -21,7 +21,7 @@ refusal1 year = ltb year 1900 || ltb 9999 year
 unfoldable pub refusal2 : List ℕ → Bool
 refusal2 locals = not (isLocalList locals)
 
--- 9: rows plus A records whose key has no row at entry exceed length ÷ 200 or the limit (65,535)
+-- 9: rows plus A records whose key has no row at entry exceed length ÷ 200 or the limit (16,777,215)
 unfoldable pub refusal9 : ℕ → List ℕ → ℕ → List ℕ → Bool
 refusal9 limit master rows batch =
     ltb (length master / 200) (rows + addsWithoutRow (rowsOf rows master) (detailsOf batch))

@@ -21,6 +21,7 @@ ghost use Rattle.text.specs.Blocks.{spliced};
 ghost use Rattle.reporting.specs.Counts.{controlRecord};
 ghost use Rattle.reporting.specs.Tally.{countsIn, AtMost};
 ghost use Rattle.journal.specs.Numbers.{numberBytes};
+ghost use Rattle.journal.specs.Space.{journalSpace};
 ghost use Rattle.journal.specs.Writing.{Wrote};
 ghost use Rattle.batch.specs.Journaling.{countsPart, WorkJournaled, RunJournaled};
 ghost use Rattle.batch.specs.Apply.{resultOf, resultIn, outcomeOf, IsOutcome};
@@ -77,7 +78,7 @@ fn work(
     wanted: bool,
 ) -> JournaledWork
     requires { ⌜ (applyRefusal (callOf (now m) n (now batch) (now list) year (now verdicts) (now rejects)) ≡ 0) × (now state ≡ submittingState (now batch)) ⌝ }
-    requires { ⌜ (wanted ≡ true → 12 + 204 * detailCount (now batch) ≤ length (now journal)) ⌝ }
+    requires { ⌜ (wanted ≡ true → journalSpace (detailCount (now batch)) ≤ length (now journal)) ⌝ }
     ensures { λ r. ⌜ WorkJournaled
         (callOf (now (m .entry)) n (now (batch .entry)) (now (list .entry)) year (now (verdicts .entry)) (now (rejects .entry)))
         wanted (now (journal .entry)) (now (m .exit)) (now (verdicts .exit)) (now (rejects .exit)) (r .progress) (now (journal .exit)) (r .written) ⌝ }
@@ -140,7 +141,7 @@ pub fn run(
     wanted: bool,
 ) -> Journaled
     requires { ⌜ applyRefusal (callOf (now m) n (now batch) (now locals) year (now verdicts) (now rejects)) ≡ 0 ⌝ }
-    requires { ⌜ (wanted ≡ true → 12 + 204 * detailCount (now batch) ≤ length (now journal)) ⌝ }
+    requires { ⌜ (wanted ≡ true → journalSpace (detailCount (now batch)) ≤ length (now journal)) ⌝ }
     ensures { λ r. ⌜ RunJournaled (callOf (now (m .entry)) n (now (batch .entry)) (now (locals .entry)) year (now (verdicts .entry)) (now (rejects .entry)))
         wanted (now (journal .entry)) (now (m .exit)) (now (verdicts .exit)) (now (rejects .exit)) r (now (journal .exit)) ⌝ }
 {

@@ -12,7 +12,7 @@ use Rattle.casemaster.specs.Master.{rowsOf, areSoundRows, areSoundOldRow
 abbrev pub orElse : Bool → ℕ → ℕ → ℕ
 orElse holds refusal behind = cond holds refusal behind
 
--- 3: master length no multiple of 200, or row count above length ÷ 200 or the limit (65,535)
+-- 3: master length no multiple of 200, or row count above length ÷ 200 or the limit (16,777,215)
 unfoldable pub refusal3 : ℕ → List ℕ → ℕ → Bool
 refusal3 limit master rows = not (eqb (length master % 200) 0) || ltb (length master / 200) rows || ltb limit rows
 

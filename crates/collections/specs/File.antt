@@ -25,7 +25,7 @@ lastIn file = take lineWidth (drop (lineCount file * lineWidth) file)
 
 -- ---- refused, in order
 
--- 22: a file empty, no multiple of 240 or over 65,536 records: one more than the limit
+-- 22: a file empty, no multiple of 240 or over 16,777,216 records: one more than the limit
 unfoldable pub refusal22 : ℕ → List ℕ → Bool
 refusal22 limit file = eqb (length file) 0 || not (eqb (length file % lineWidth) 0) || ltb (limit + 1) (length file / lineWidth)
 

@@ -22,12 +22,12 @@ fn show_answer(answer: Updated) {
     print::text(b";");
 }
 
-fn show_number(number: u16) {
+fn show_number(number: u32) {
     print::text(b" ");
     print::number(number as u64);
 }
 
-fn show_list(list: &[u16; 4]) {
+fn show_list(list: &[u32; 4]) {
     print::text(b"; list");
     show_number(list[0]);
     show_number(list[1]);
@@ -51,7 +51,7 @@ fn line(name: &[u8], table: &[u8], file: &[u8], sizes: Sizes) {
     let t = least(sizes.table, 880);
     let f = least(sizes.file, 880);
     let l = least(sizes.list, 4);
-    let mut numbers = [9u16; 4];
+    let mut numbers = [9u32; 4];
     let answer = update::update(
         &mut bytes[0..t],
         sizes.count,

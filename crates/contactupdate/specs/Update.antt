@@ -28,7 +28,7 @@ unfoldable pub faultyFrom : ℕ → List (List ℕ) → List ℕ
 faultyFrom n [] = []
 faultyFrom n (rec ∷ file) = cond (isFaulty rec) (n ∷ faultyFrom (n + 1) file) (faultyFrom (n + 1) file)
 
--- 18, of a file: a length no multiple of 220, or over the limit (65,535) of records
+-- 18, of a file: a length no multiple of 220, or over the limit (16,777,215) of records
 unfoldable pub isWrongFile : ℕ → List ℕ → Bool
 isWrongFile limit file = not (eqb (length file % 220) 0) || ltb limit (length file / 220)
 

@@ -19,16 +19,16 @@ fn note_record(
     rec: &[u8],
     number: u32,
     lasts: &mut [u32],
-    faulty: &mut [u16],
+    faulty: &mut [u32],
     listed: usize,
 ) -> usize
-    requires { ⌜ (length (now rec) ≡ 220) × (number ≤ maxRows) × (length (now lasts) ≡ 54000) × (listed < length (now faulty)) ⌝ }
+    requires { ⌜ (length (now rec) ≡ 220) × (length (now lasts) ≡ 54000) × (listed < length (now faulty)) ⌝ }
     ensures { λ r. ⌜ (r ≡ cond (isFaulty (now (rec .entry))) (listed + 1) listed)
         × (now (lasts .exit) ≡ cond (isFaulty (now (rec .entry))) (now (lasts .entry)) (set (now (lasts .entry)) (keyNumber (now (rec .entry))) number))
         × (now (faulty .exit) ≡ cond (isFaulty (now (rec .entry))) (set (now (faulty .entry)) listed number) (now (faulty .entry))) ⌝ }
 {
     if contact::is_faulty(rec) {
-        faulty[listed] = number as u16;
+        faulty[listed] = number;
         return listed + 1;
     }
     lasts[key_numbers::key_number(rec)] = number;
@@ -36,7 +36,7 @@ fn note_record(
 }
 
 // Notes the numbers of the last good records of each key, and lists those of the faulty ones; returns how many are listed.
-pub fn note_file(file: &[u8], n: usize, lasts: &mut [u32], faulty: &mut [u16]) -> usize
+pub fn note_file(file: &[u8], n: usize, lasts: &mut [u32], faulty: &mut [u32]) -> usize
     requires { ⌜ (n * 220 ≤ length (now file)) × (n ≤ maxRows) × (length (now lasts) ≡ 54000) × (n ≤ length (now faulty)) ⌝ }
     ensures { λ r. ⌜ (r ≡ length (faultyFrom 1 (contactsOf n (now (file .entry)))))
         × (now (lasts .exit) ≡ lastsFrom 1 (contactsOf n (now (file .entry))) (now (lasts .entry)))

@@ -30,7 +30,7 @@ fn is_wrong_file(file: &[u8]) -> bool
 }
 
 // Reads the file into a table whose keys are marked.
-fn work(table: &mut [u8], count: usize, file: &[u8], faulty: &mut [u16], held: &[u8]) -> Updated
+fn work(table: &mut [u8], count: usize, file: &[u8], faulty: &mut [u32], held: &[u8]) -> Updated
     requires { ⌜ Passed (now table) count (now file) (now faulty) (now held) ⌝ }
     ensures { λ r. ⌜ (r ≡ Updated.Done (length (newTable (now (table .entry)) count (now (file .entry)))) (length (faultyFrom 1 (recordsOf (now (file .entry))))))
         × (now (table .exit) ≡ over (joined (newTable (now (table .entry)) count (now (file .entry)))) (now (table .entry)))
@@ -45,7 +45,7 @@ fn work(table: &mut [u8], count: usize, file: &[u8], faulty: &mut [u16], held: &
 }
 
 // Reads a file into a table of `count` records and lists the numbers of its faulty ones, or refuses.
-pub fn update(table: &mut [u8], count: usize, file: &[u8], faulty: &mut [u16]) -> Updated
+pub fn update(table: &mut [u8], count: usize, file: &[u8], faulty: &mut [u32]) -> Updated
     ensures { λ r. ⌜ updatedAs r (now (table .exit)) (now (faulty .exit)) ≡ updateOutcome maxRows (now (table .entry)) count (now (file .entry)) (now (faulty .entry)) ⌝ }
 {
     if is_wrong_file(file) {

@@ -9,7 +9,7 @@ use Rattle.layout.specs.Batch.{detailsOf, controlOf}
 use Rattle.casemaster.specs.Refusals.{orElse}
 use Rattle.control.specs.Totals.{hasCTL, hasState, hasTotals, areCountsRight, areAmountsRight}
 
--- 5: batch empty, no multiple of 245, or over 65,536 records: one more than the limit
+-- 5: batch empty, no multiple of 245, or over 16,777,216 records: one more than the limit
 unfoldable pub refusal5 : ℕ → List ℕ → Bool
 refusal5 limit batch = eqb (length batch) 0 || not (eqb (length batch % 245) 0) || ltb (limit + 1) (length batch / 245)
 

@@ -13,7 +13,7 @@ pub extern "C" fn fantanolive_contacts_update(
     table: &mut [u8],
     count: usize,
     file: &[u8],
-    faulty: &mut [u16],
+    faulty: &mut [u32],
     result: &mut [u64; 2],
 ) -> u64
     ensures { λ r. ⌜ record { number = r; result = now (result .exit); table = now (table .exit); faulty = now (faulty .exit) }

@@ -26,7 +26,7 @@ pub extern "C" fn fantanolive_post(
     master: &mut [u8],
     rows: usize,
     file: &[u8],
-    lines: &mut [u16],
+    lines: &mut [u32],
     listed: &mut u64,
 ) -> u64
     ensures { λ r. ⌜ record { number = r; listed = now (listed .exit); master = now (master .exit); lines = now (lines .exit) }

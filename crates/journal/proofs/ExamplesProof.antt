@@ -9,7 +9,7 @@ use Rattle.casemaster.specs.Rows.{rowWith}
 use Rattle.journal.specs.Numbers.{groups, numberBytes, unread, read, readNumber}
 use Rattle.journal.specs.Journal.{entry, journal, entriesFrom, journalOf, entryBytes, entriesBytes, journalBytes, readEntry, entriesUpTo, entriesIn, journalIn}
 
--- numbers: 0, 127, 128 and 300, and three groups read
+-- numbers: 0, 127, 128 and 300
 numbers : (numberBytes 0 ≡ 0 ∷ [])
     × (numberBytes 127 ≡ 127 ∷ [])
     × (numberBytes 128 ≡ 0x80 ∷ 0x01 ∷ [])
@@ -17,13 +17,13 @@ numbers : (numberBytes 0 ≡ 0 ∷ [])
 unfolding numberBytes groups
 numbers = (refl, refl, refl, refl)
 
--- a longer form, an empty one and one that doesn't end are no numbers
+-- a longer form, an empty one and one that doesn't end are no numbers; the limit and the least number of four groups are read
 not-numbers : (readNumber (0x80 ∷ 0x00 ∷ []) ≡ unread)
     × (readNumber (0xAC ∷ 0x82 ∷ 0x00 ∷ []) ≡ unread)
     × (readNumber [] ≡ unread)
     × (readNumber (0xAC ∷ []) ≡ unread)
     × (readNumber (0xAC ∷ 0x02 ∷ 9 ∷ []) ≡ read 300 (9 ∷ []))
-    × (readNumber (0xFF ∷ 0xFF ∷ 0x03 ∷ []) ≡ read 65535 [])
+    × (readNumber (0xFF ∷ 0xFF ∷ 0xFF ∷ 0x07 ∷ []) ≡ read 16777215 [])
     × (readNumber (0x80 ∷ 0x80 ∷ 0x80 ∷ 0x01 ∷ []) ≡ read 2097152 [])
 unfolding readNumber
 not-numbers = (refl, refl, refl, refl, refl, refl, refl)

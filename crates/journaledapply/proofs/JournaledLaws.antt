@@ -1,5 +1,5 @@
 -- Laws of the outcome with a journal: each way out of the call. Assumes nothing.
-use Prim.Native.Nat.{ℕ, _+_, _*_, _≤_}
+use Prim.Native.Nat.{ℕ, _+_, _≤_}
 use mathlib.Core.Path.{_≡_, sym, _∙_}
 use mathlib.Core.Bool.{Bool, true, false}
 use mathlib.Core.List.{List}
@@ -8,6 +8,7 @@ use lib.ListN.{length}
 use borrow.Author.Tests.{ne-eqb, ltb-false}
 use Rattle.text.specs.Blocks.{over, spliced}
 use Rattle.layout.specs.Batch.{detailCount}
+use Rattle.journal.specs.Space.{journalSpace}
 use Rattle.batch.specs.Call.{Call}
 use Rattle.batch.specs.Refusals.{applyRefusal}
 use Rattle.batch.specs.Apply.{Outcome}
@@ -32,9 +33,9 @@ module _ (c : Call) (journal : List ℕ) where
   journaled-25 e t f g r a b = record { is = rw (e, ← f, g, a, b) }
 
   -- a journal that isn't too short
-  pub has-space : (t : Bool) → t ≡ refusal25 (c .batch) journal → t ≡ false → 12 + 204 * detailCount (c .batch) ≤ length journal
+  pub has-space : (t : Bool) → t ≡ refusal25 (c .batch) journal → t ≡ false → journalSpace (detailCount (c .batch)) ≤ length journal
   unfolding refusal25
-  has-space t f g = ltb-false (length journal) (12 + 204 * detailCount (c .batch)) (sym f ∙ g)
+  has-space t f g = ltb-false (length journal) (journalSpace (detailCount (c .batch))) (sym f ∙ g)
 
   pub journaled-done : applyRefusal c ≡ 0 → (t : Bool) → t ≡ refusal25 (c .batch) journal → t ≡ false
       → (master verdicts rejects : List ℕ) (r : Journaled) (journal′ : List ℕ) → RunJournaled c true journal master verdicts rejects r journal′

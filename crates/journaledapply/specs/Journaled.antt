@@ -1,5 +1,5 @@
 -- Document 02, item 8: applying may write a journal, its length in the result. Assumes nothing.
-use Prim.Native.Nat.{ℕ, _+_, _*_}
+use Prim.Native.Nat.{ℕ}
 use mathlib.Core.Path.{_≡_}
 use mathlib.Core.Bool.{Bool, cond}
 use mathlib.Core.List.{List}
@@ -10,6 +10,7 @@ use Rattle.layout.specs.Batch.{detailCount}
 use Rattle.casemaster.specs.Master.{rowsOf}
 use Rattle.casemaster.specs.Refusals.{orElse}
 use Rattle.journal.specs.Journal.{journalOf, journalBytes}
+use Rattle.journal.specs.Space.{journalSpace}
 use Rattle.batch.specs.Call.{Call}
 use Rattle.batch.specs.Refusals.{applyRefusal}
 use Rattle.batch.specs.Apply.{Outcome, outcomeOf, leftAlone, carriedOut, callRows}
@@ -23,9 +24,9 @@ pub record JournaledCall : Type 0 where
 abbrev pub withJournal : Call → List ℕ → JournaledCall
 withJournal c journal = record { call = c; journal = journal }
 
--- 25: a journal buffer below 12 + 204 × (details) bytes
+-- 25: a journal buffer below 12 + 205 × (details) bytes
 unfoldable pub refusal25 : List ℕ → List ℕ → Bool
-refusal25 batch journal = ltb (length journal) (12 + 204 * detailCount batch)
+refusal25 batch journal = ltb (length journal) (journalSpace (detailCount batch))
 
 -- checked after 11: the first refusal of `apply` that holds, else 25, 0 where none holds
 unfoldable pub journaledRefusal : JournaledCall → ℕ

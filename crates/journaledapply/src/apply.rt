@@ -16,7 +16,7 @@ fn is_short(batch: &[u8], journal: &[u8]) -> bool
     ensures { λ r. ⌜ r ≡ refusal25 (now (batch .entry)) (now (journal .entry)) ⌝ }
 {
     let d = batch.len() / 245 - 1;
-    journal.len() < 12 + 204 * d
+    journal.len() < 12 + 205 * d
 }
 
 // Applies a batch to a master of so many rows, and writes its journal; answers what `apply` answers, and the journal's length.

@@ -5,11 +5,11 @@ use lib.Dec.{lit≤}
 use Rattle.layout.specs.Limits.{maxRows}
 
 -- the code's MAX_ROWS and MAX_RECORDS are the definition's limit and one more
-pub max-rows : maxRows ≡ 65535
+pub max-rows : maxRows ≡ 16777215
 unfolding maxRows
 max-rows = refl
 
-pub max-records : maxRows + 1 ≡ 65536
+pub max-records : maxRows + 1 ≡ 16777216
 unfolding maxRows
 max-records = refl
 
@@ -23,7 +23,12 @@ pub few-details : maxRows + 1 ≤ 2 ^ 24
 unfolding maxRows
 few-details = lit≤ tt
 
--- and a number in a list of lines or contact records has 16
-pub list-number : maxRows < 2 ^ 16
+-- a number in a list of lines or contact records has 32
+pub list-number : maxRows < 2 ^ 32
 unfolding maxRows
 list-number = lit≤ tt
+
+-- and a number in a journal has at most four groups of seven
+pub few-groups : maxRows < 128 ^ 4
+unfolding maxRows
+few-groups = lit≤ tt

@@ -39,7 +39,7 @@ mergedCount first second = detailCount first + detailCount second + 1
 abbrev pub isAboveEleven : ℕ → Bool
 isAboveEleven amount = ltb 99999999999 amount
 
--- 32: two different states, over 65,535 details (over the limit: with the control record one more), or an amount total above eleven digits
+-- 32: two different states, over 16,777,215 details (over the limit: with the control record one more), or an amount total above eleven digits
 unfoldable pub refusal32 : ℕ → List ℕ → List ℕ → Bool
 refusal32 limit first second =
     not (sameBytes (submittingState first) (submittingState second))

@@ -11,9 +11,9 @@ use Rattle.casemaster.specs.Row.{rowKey, rowLocalCode, rowLastName, rowFirstNam
 abbrev pub lineWidth : ℕ
 lineWidth = 132
 
--- five digits of page number
+-- six digits of page number (item 14; five in item 12)
 unfoldable pub pageDigits : ℕ
-pageDigits = 5
+pageDigits = 6
 
 -- how many exclusion bits are set
 abbrev pub bitsSet : List ℕ → ℕ

@@ -10,7 +10,7 @@ ghost use Rattle.pages.specs.Forms.{caseLine, heading, foot};
 pub const LINE_WIDTH: usize = 132;
 
 // How many digits a page number has.
-const PAGE_DIGITS: usize = 5;
+const PAGE_DIGITS: usize = 6;
 
 const KEY: Columns = Columns { first: 1, last: 12 };
 

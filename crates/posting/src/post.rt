@@ -82,19 +82,19 @@ fn post_near(m: &mut [u8], n: usize, line: &[u8], p: usize) -> bool
 }
 
 // Writes the number of the line at place i behind k others, unless it is posted.
-fn note(lines: &mut [u16], k: usize, i: usize, posted: bool) -> usize
+fn note(lines: &mut [u32], k: usize, i: usize, posted: bool) -> usize
     requires { ⌜ (k < length (now lines)) × (i < maxRows) ⌝ }
     ensures { λ r. ⌜ (r ≡ cond posted k (k + 1)) × (now (lines .exit) ≡ cond posted (now (lines .entry)) (set (now (lines .entry)) k (i + 1))) ⌝ }
 {
     if posted {
         return k;
     }
-    lines[k] = (i + 1) as u16;
+    lines[k] = (i + 1) as u32;
     k + 1
 }
 
 // The first n rows through each of the first `count` lines.
-fn work(m: &mut [u8], n: usize, file: &[u8], count: usize, lines: &mut [u16]) -> usize
+fn work(m: &mut [u8], n: usize, file: &[u8], count: usize, lines: &mut [u32]) -> usize
     requires { ⌜ (n * 200 ≤ length (now m)) × (areSoundRows (rowsOf n (now m)) ≡ true) × (count * 240 ≤ length (now file)) × (count ≤ maxRows) × (count ≤ length (now lines)) ⌝ }
     ensures { λ r. ⌜ Worked (now (m .entry)) n (now (file .entry)) count (now (lines .entry)) (now (m .exit)) (now (lines .exit)) r ⌝ }
 {
@@ -114,7 +114,7 @@ fn work(m: &mut [u8], n: usize, file: &[u8], count: usize, lines: &mut [u16]) ->
 }
 
 // Posts each line of a collection file to a master, and lists the numbers of those that are not posted.
-pub fn post(master: &mut [u8], rows: usize, file: &[u8], lines: &mut [u16]) -> Posted
+pub fn post(master: &mut [u8], rows: usize, file: &[u8], lines: &mut [u32]) -> Posted
     ensures { λ r. ⌜ postedAs r (now (master .exit)) (now (lines .exit)) ≡ postOutcome (postCall (now (master .entry)) rows (now (file .entry)) (now (lines .entry))) ⌝ }
 {
     let first = refusals::master_refusal(master, rows);

@@ -6,16 +6,17 @@ use mathlib.Core.Bool.{Bool, true, false, cond, false≢true}
 use mathlib.Core.List.{List}
 use native.Mathlib.Nat.{mul-le-mul-left}
 use native.Mathlib.Omega.{arith}
-use lib.Dec.{eqb, lit<}
+use lib.Dec.{eqb}
 use lib.ListN.{length, take, drop}
 use lib.Seq.{take-at, drop-at}
 use borrow.Author.Tests.{eqb-true, ne-eqb, ltb-false}
 use Rattle.text.specs.Blocks.{over}
 use Rattle.layout.specs.Limits.{maxRows}
 use Rattle.layout.specs.Batch.{detailCount}
-use Rattle.layout.proofs.LimitsLaws.{max-rows}
+use Rattle.layout.proofs.LimitsLaws.{few-groups}
 use Rattle.casemaster.specs.Refusals.{orElse}
 use Rattle.journal.specs.Journal.{journalOf, journalBytes}
+use Rattle.journal.specs.Space.{journalSpace}
 use Rattle.journal.proofs.LengthLaws.{journal-length}
 use Rattle.batch.specs.Refusals.{applyRefusal}
 use Rattle.batch.specs.Apply.{Outcome, IsOutcome, isCarriedOut, callRows, carriedOut, leftAlone}
@@ -110,14 +111,11 @@ every-buffer j o d room =
 pub journal-bound : JournalLength
 journal-bound j o d k l = bound j o d k l
 
-few-groups : maxRows < 128 ^ 3
-few-groups = subst (λ (n : ℕ). n < 128 ^ 3) (sym max-rows) (lit< tt)
-
 pub enough-room : EnoughRoom
 unfolding refusal25
 enough-room j o d l =
-    let r = ltb-false (length (j .journal)) (12 + 204 * detailCount (j .call .batch)) (not-25 j o d) in
-    omega (arith, r, bound j o d 2 (omega (arith, l, few-groups)))
+    let r = ltb-false (length (j .journal)) (journalSpace (detailCount (j .call .batch))) (not-25 j o d) in
+    omega (arith, r, bound j o d 3 (omega (arith, l, few-groups)))
 
 -- what is left beside the journal keeps the promise of `apply`
 plain : (j : JournaledCall) → refusal25 (j .call .batch) (j .journal) ≡ false → IsOutcome (j .call) (journaledOutcome j .outcome)

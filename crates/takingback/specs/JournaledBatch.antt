@@ -48,7 +48,7 @@ JournalLength =
     (j : JournaledCall) (o : JournaledOutcome) → IsDone j o → (k : ℕ) → j .call .limit < 128 ^ suc k
     → length (callJournal (j .call)) ≤ suc k + suc k + (suc k + 201) * detailCount (j .call .batch)
 
--- so 12 + 204 × (details) is room at the limit of the code
+-- so 12 + 205 × (details) is room at the limit of the code
 abbrev pub EnoughRoom : Type 0
 EnoughRoom = (j : JournaledCall) (o : JournaledOutcome) → IsDone j o → j .call .limit ≤ maxRows → HasRoom j
 

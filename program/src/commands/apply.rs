@@ -13,7 +13,8 @@ use crate::files::length;
 use crate::files::outputs::{expect, Outputs, Wanted};
 use crate::files::read::{read, Input};
 use crate::files::target::Target;
-use crate::log::record::Record;
+use crate::log::record::{previous_run, Record};
+use crate::memory::zeros;
 use crate::progress::Progress;
 use crate::records::columns::control;
 use crate::records::field::{Form, Placeholder};
@@ -38,10 +39,10 @@ pub fn check(arguments: &Arguments, progress: &Progress) -> Result<Status, Failu
     let master = Target::of(arguments.path(0))?;
     expect(&master, arguments)?;
     let files = Files::read(arguments, progress)?;
-    let record = Record::look("apply", &master, &files.master, &files.inputs())?;
+    let before = previous_run("apply", &master, &files.master, &files.batch)?;
     let judged = files.judge(arguments, progress)?;
     let mut summary = judged.summary("check").would_be();
-    if let Some(time) = record.as_ref().and_then(Record::taken_before) {
+    if let Some(time) = before {
         summary = summary.text("applied before", time);
     }
     judged.report(arguments, progress, &summary, Charset::Ebcdic)
@@ -127,10 +128,12 @@ fn judge(files: Files, arguments: &Arguments, progress: &Progress) -> Result<Jud
     let year = arguments.number("--year")?.unwrap_or_default();
     let details = batch.records().saturating_sub(1);
     let rows_before = master.records();
-    let mut verdicts = vec![0; details];
-    let mut rejects = vec![0; RECORD * (details + 1)];
-    let wanted = arguments.flag("--journal");
-    let mut journal = wanted.then(|| vec![0; journal_size(details)]);
+    let mut verdicts = zeros(details)?;
+    let mut rejects = zeros(RECORD * (details + 1))?;
+    let mut journal = match arguments.flag("--journal") {
+        true => Some(zeros(journal_size(details))?),
+        false => None,
+    };
     progress.now(format!("judging {}", counted(details as u64, "record")));
     let call = Call {
         master: &mut master.bytes,

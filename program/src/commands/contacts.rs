@@ -9,6 +9,7 @@ use crate::failure::{counted, Failure, Status};
 use crate::files::length;
 use crate::files::outputs::{Outputs, Wanted};
 use crate::files::read::{read, read_with_room, Input};
+use crate::memory::zeros;
 use crate::progress::Progress;
 use crate::records::columns::{contact, Field};
 use crate::records::field::Form;
@@ -42,7 +43,7 @@ pub fn run(arguments: &Arguments, progress: &Progress) -> Result<Status, Failure
     let sent = file.records();
     let mut table = read_table(arguments, sent, progress)?;
     let before = table.records();
-    let mut list = vec![0; sent];
+    let mut list = zeros(sent)?;
     progress.now(format!(
         "reading {}",
         counted(sent as u64, "contact record")
@@ -83,7 +84,7 @@ fn read_table(
         _ => length,
     };
     if arguments.flag("--new") {
-        return Ok(Input::none(path, &TABLE, room(0)));
+        return Input::none(path, &TABLE, room(0));
     }
     read_with_room(path, &TABLE, Charset::Ebcdic, &room, progress)
 }
@@ -101,7 +102,7 @@ fn notes_of(refusal: Refusal, table: &Input, file: &Input) -> Vec<String> {
 }
 
 /// The faulty records.
-fn faulty<'a>(arguments: &Arguments, numbers: &'a [u16], file: &'a Input) -> Listed<'a> {
+fn faulty<'a>(arguments: &Arguments, numbers: &'a [u32], file: &'a Input) -> Listed<'a> {
     let mut notes = length::of_file(file);
     notes.push(REASONS.to_string());
     Listed {

@@ -77,7 +77,7 @@ fn row_of(
     let mut master = read_master(arguments, 0, progress)?;
     progress.now("finding the case");
     let rows = master.records();
-    let place = find(&master.bytes, rows, &key.bytes).map_err(|refusal| {
+    let place = find(&master.bytes, rows, key.bytes()).map_err(|refusal| {
         let full = arguments.flag("--full");
         refused(refusal, notes_of(refusal, &mut master, full))
     })?;

@@ -51,12 +51,11 @@ type LookedUp = Result<(Vec<Answer>, u64), Refusal>;
 /// Looks up the one key that is given.
 fn look_up_one(keys: Keys, master: &Input) -> LookedUp {
     let answer = |key: Key| {
-        let place = Ok(fantanolive::find(
-            &master.bytes,
-            master.records(),
-            &key.bytes,
-        )?);
-        Ok(Answer { key, place })
+        let found = fantanolive::find(&master.bytes, master.records(), key.bytes());
+        Ok(Answer {
+            key,
+            place: Ok(found?),
+        })
     };
     let answers: Result<_, Refusal> = keys.list.into_iter().map(answer).collect();
     Ok((answers?, 0))
@@ -65,23 +64,25 @@ fn look_up_one(keys: Keys, master: &Input) -> LookedUp {
 /// Looks up several keys by one call, which wants sound ones in rising order, each once.
 fn look_up(keys: Keys, master: &Input) -> LookedUp {
     // over no rows the call looks at the key alone
-    let is_sound = |key: &&Key| fantanolive::find(&[], 0, &key.bytes) != Err(Refusal::UnsoundKey);
+    let is_sound = |key: &&Key| fantanolive::find(&[], 0, key.bytes()) != Err(Refusal::UnsoundKey);
     let sound = keys.list.iter().filter(is_sound);
-    let mut rising: Vec<&[u8]> = sound.map(|key| &key.bytes[..]).collect();
+    let mut rising: Vec<[u8; KEY]> = sound
+        .filter_map(|key| key.bytes().try_into().ok())
+        .collect();
     rising.sort_unstable();
     rising.dedup();
     let mut places = vec![NO_PLACE; rising.len()];
-    let joined = rising.concat();
-    let comparisons =
-        fantanolive::find_many(&master.bytes, master.records(), &joined, &mut places)?;
-    let place = |key: &Key| match rising.binary_search(&&key.bytes[..]) {
+    let joined = rising.as_flattened();
+    let comparisons = fantanolive::find_many(&master.bytes, master.records(), joined, &mut places)?;
+    let place = |key: &Key| match rising.binary_search_by(|other| other[..].cmp(key.bytes())) {
         Err(_) => Err(Refusal::UnsoundKey),
         Ok(at) if places[at] == NO_PLACE => Err(Refusal::NoSuchRow),
         Ok(at) => Ok(u64::from(places[at])),
     };
-    let found: Vec<_> = keys.list.iter().map(place).collect();
-    let answers = keys.list.into_iter().zip(found);
-    let answers = answers.map(|(key, place)| Answer { key, place });
+    let answers = keys.list.into_iter().map(|key| Answer {
+        place: place(&key),
+        key,
+    });
     Ok((answers.collect(), comparisons))
 }
 
@@ -123,7 +124,7 @@ impl Found<'_> {
 
     /// The key of an answer; none where it is no key.
     fn key(&self, answer: &Answer) -> Option<String> {
-        let bytes = &answer.key.bytes;
+        let bytes = answer.key.bytes();
         let is_key = answer.place != Err(Refusal::UnsoundKey) && bytes.len() == KEY;
         is_key.then(|| {
             let mut shown = String::new();

@@ -5,6 +5,8 @@ use std::io::{self, BufRead, BufReader};
 use std::os::unix::ffi::OsStrExt;
 use std::path::Path;
 
+use fantanolive::KEY;
+
 use crate::arguments::Arguments;
 use crate::code_page::argument;
 use crate::failure::{words, Failure, STANDARD};
@@ -16,7 +18,23 @@ const LONGEST: usize = 64;
 /// A key in EBCDIC, and its number among the arguments or lines, the first being 1.
 pub struct Key {
     pub number: u64,
-    pub bytes: Vec<u8>,
+    /// None where it is longer or shorter than a key.
+    bytes: Option<[u8; KEY]>,
+}
+
+impl Key {
+    /// That of a text in ASCII.
+    fn of(number: u64, text: &[u8]) -> Key {
+        Key {
+            number,
+            bytes: argument(text).try_into().ok(),
+        }
+    }
+
+    /// What is lent to the calls: nothing where it is longer or shorter, which they refuse as they refuse that.
+    pub fn bytes(&self) -> &[u8] {
+        self.bytes.as_ref().map_or(&[], |bytes| bytes)
+    }
 }
 
 /// The keys, and what their numbers count; none where it is one key alone.
@@ -59,8 +77,7 @@ fn keys_in(path: &Path) -> Result<Keys, Failure> {
     while let Some(line) = next_line(&mut input).map_err(failed)? {
         number += 1;
         if !line.is_empty() {
-            let bytes = argument(&line);
-            list.push(Key { number, bytes });
+            list.push(Key::of(number, &line));
         }
     }
     if list.is_empty() {
@@ -74,10 +91,7 @@ fn keys_in(path: &Path) -> Result<Keys, Failure> {
 
 /// The keys that are given one by one.
 fn keys_given(given: &[OsString]) -> Keys {
-    let key = |(number, key): (u64, &OsString)| Key {
-        number,
-        bytes: argument(key.as_bytes()),
-    };
+    let key = |(number, key): (u64, &OsString)| Key::of(number, key.as_bytes());
     Keys {
         counted: (given.len() > 1).then_some("argument"),
         list: (1..).zip(given).map(key).collect(),

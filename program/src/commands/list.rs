@@ -23,6 +23,6 @@ pub fn read_list(
 ) -> Result<Input, Failure> {
     match arguments.value("--locals") {
         Some(path) => read(Path::new(path), &LOCALS, charset, progress)?.into_ebcdic(),
-        None => Ok(Input::none(Path::new(""), &LOCALS, 0)),
+        None => Input::none(Path::new(""), &LOCALS, 0),
     }
 }

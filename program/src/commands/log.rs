@@ -1,18 +1,18 @@
 //! log: the runs on a master, and what became of each.
 
-use std::io::{self, Write};
+use std::fs::File;
+use std::io::{self, Read, Write};
+use std::path::Path;
 
 use crate::arguments::Arguments;
-use crate::code_page::Charset;
 use crate::commands::output::print;
 use crate::failure::{grouped, shown, Failure, Status};
-use crate::files::read::{read, Input};
+use crate::files::read::unread;
 use crate::files::target::Target;
 use crate::log::history::{outcomes, read_log, Outcome};
 use crate::log::line::Run;
-use crate::log::record::master_print;
+use crate::log::sha256::Sha256;
 use crate::progress::Progress;
-use crate::records::kinds::MASTER;
 use crate::report::json::Json;
 use crate::report::screen::{Screen, Style};
 use crate::report::summary::Summary;
@@ -25,11 +25,10 @@ pub fn run(arguments: &Arguments, progress: &Progress) -> Result<Status, Failure
         return Err(Failure::file(&target.given, "no such file"));
     }
     // a first run that was cut off has a log and no master
-    let master = match is_gone {
-        true => Input::none(arguments.path(0), &MASTER, 0),
-        false => read(arguments.path(0), &MASTER, Charset::Ebcdic, progress)?,
+    let now = match is_gone {
+        true => None,
+        false => print_of_file(arguments.path(0), progress)?,
     };
-    let now = master_print(&master.bytes);
     let outcomes = outcomes(&runs, now.as_deref());
     let count = |wanted| {
         outcomes
@@ -53,6 +52,28 @@ pub fn run(arguments: &Arguments, progress: &Progress) -> Result<Status, Failure
         |screen| put_text(screen, &lines),
         |json| put_json(json, &lines, now.as_deref()),
     )
+}
+
+/// Bytes that are read at a time: whole blocks of a fingerprint.
+const PART: usize = 1 << 20;
+
+/// The fingerprint of a master that is read in parts; none where it has no row.
+fn print_of_file(path: &Path, progress: &Progress) -> Result<Option<String>, Failure> {
+    progress.now(format!("reading {}", shown(path)));
+    let failed = |error: io::Error| unread(path, &error);
+    let mut file = File::open(path).map_err(failed)?;
+    let whole = file.metadata().map_err(failed)?.len();
+    let (mut print, mut part, mut done) = (Sha256::default(), Vec::with_capacity(PART), 0);
+    loop {
+        part.clear();
+        let read = (&mut file).take(PART as u64).read_to_end(&mut part);
+        done += read.map_err(failed)?;
+        progress.done(done, whole as usize);
+        if part.len() < PART {
+            return Ok((done > 0).then(|| print.end(&part)));
+        }
+        print.take(&part);
+    }
 }
 
 fn put_text<W: Write>(screen: &mut Screen<W>, runs: &[(Run, Outcome)]) -> io::Result<()> {

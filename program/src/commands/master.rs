@@ -26,7 +26,7 @@ pub fn read_master(
         _ => length,
     };
     if arguments.flag("--new") {
-        return Ok(Input::none(path, &MASTER, room(0)));
+        return Input::none(path, &MASTER, room(0));
     }
     let master = read_with_room(path, &MASTER, Charset::Ebcdic, &room, progress)?;
     if master.length == 0 {

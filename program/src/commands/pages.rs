@@ -1,5 +1,7 @@
 //! pages: the live cases of a master, page by page, for the printer.
 
+use std::io::Write;
+
 use fantanolive::{pages_size, PAGE_CASES, PAGE_LINE};
 
 use crate::arguments::Arguments;
@@ -8,6 +10,8 @@ use crate::commands::master::{notes_of, read_master};
 use crate::commands::output::print_summary;
 use crate::failure::{Failure, Status};
 use crate::files::outputs::{Outputs, Wanted};
+use crate::files::replace::WriteFailure;
+use crate::memory::zeros;
 use crate::progress::Progress;
 use crate::records::field::{Form, Placeholder};
 use crate::report::notes::refused;
@@ -16,6 +20,9 @@ use crate::terminal;
 
 /// The lines of a full page: a heading, those of cases, and a foot.
 const PAGE: usize = PAGE_CASES + 2;
+
+/// Pages that are written at a time.
+const PART: usize = 100;
 
 pub fn run(arguments: &Arguments, progress: &Progress) -> Result<Status, Failure> {
     see_no_terminal(arguments)?;
@@ -27,7 +34,7 @@ pub fn run(arguments: &Arguments, progress: &Progress) -> Result<Status, Failure
     let outputs = Outputs::open(arguments, &wanted)?;
     let mut master = read_master(arguments, 0, progress)?;
     let rows = master.records();
-    let mut out = vec![0; pages_size(rows)];
+    let mut out = zeros(pages_size(rows))?;
     progress.now("writing the pages");
     let pages = fantanolive::pages(&master.bytes, rows, &mut out)
         .map_err(|refusal| refused(refusal, notes_of(refusal, &mut master, false)))?;
@@ -38,11 +45,11 @@ pub fn run(arguments: &Arguments, progress: &Progress) -> Result<Status, Failure
         .number("rows", rows as u64)
         .of_which("live", lines as u64 - 2 * pages)
         .number("pages", pages);
-    if arguments.flag("--text") {
-        out = printable(&out);
-    }
-    let staged = vec![outputs.stage_bytes("--out", progress, &out)?];
-    let summary = summary.placed(outputs.put_in_place(staged)?);
+    let staged = match arguments.flag("--text") {
+        true => outputs.stage_made("--out", progress, |text| put_text(&out, text, progress))?,
+        false => outputs.stage_bytes("--out", progress, &out)?,
+    };
+    let summary = summary.placed(outputs.put_in_place(vec![staged])?);
     print_summary(arguments, progress, &summary)
 }
 
@@ -61,16 +68,23 @@ fn written_lines(out: &[u8]) -> usize {
     lines.take_while(|line| line[0] != 0).count()
 }
 
-/// Pages in ASCII: a line feed behind each line, whose last spaces go, and a form feed behind each page.
-fn printable(pages: &[u8]) -> Vec<u8> {
+/// Writes pages in ASCII: a line feed behind each line, whose last spaces go, and a form feed behind each page.
+fn put_text(pages: &[u8], out: &mut dyn Write, progress: &Progress) -> Result<(), WriteFailure> {
     let form = Form::new(Charset::Ebcdic, Placeholder::Dot, true);
     let mut text = String::new();
-    for page in pages.chunks(PAGE_LINE * PAGE) {
-        for line in page.chunks(PAGE_LINE) {
-            form.put_text(line, &mut text);
-            text.push('\n');
+    let mut done = 0;
+    for some in pages.chunks(PAGE_LINE * PAGE * PART) {
+        text.clear();
+        for page in some.chunks(PAGE_LINE * PAGE) {
+            for line in page.chunks(PAGE_LINE) {
+                form.put_text(line, &mut text);
+                text.push('\n');
+            }
+            text.push('\x0C');
         }
-        text.push('\x0C');
+        out.write_all(text.as_bytes())?;
+        done += some.len();
+        progress.done(done, pages.len());
     }
-    text.into_bytes()
+    Ok(())
 }

@@ -11,7 +11,8 @@ use crate::files::length;
 use crate::files::outputs::{expect, Outputs, Wanted};
 use crate::files::read::{read, Input};
 use crate::files::target::Target;
-use crate::log::record::Record;
+use crate::log::record::{previous_run, Record};
+use crate::memory::zeros;
 use crate::progress::Progress;
 use crate::records::columns::{line, total, Field};
 use crate::records::field::Form;
@@ -40,7 +41,7 @@ struct Posted {
     master: Input,
     file: Input,
     /// The numbers of the lines that are not posted.
-    listed: Vec<u16>,
+    listed: Vec<u32>,
 }
 
 pub fn run(arguments: &Arguments, progress: &Progress) -> Result<Status, Failure> {
@@ -72,10 +73,10 @@ fn dry_run(arguments: &Arguments, progress: &Progress) -> Result<Status, Failure
     let target = Target::of(arguments.path(0))?;
     expect(&target, arguments)?;
     let (master, file) = read_files(arguments, progress)?;
-    let record = Record::look("post", &target, &master, &[&file])?;
+    let before = previous_run("post", &target, &master, &file)?;
     let posted = Posted::of(master, file, arguments, progress)?;
     let mut summary = posted.summary().would_be();
-    if let Some(time) = record.as_ref().and_then(Record::taken_before) {
+    if let Some(time) = before {
         summary = summary.text("posted before", time);
     }
     posted.report(arguments, progress, &summary)
@@ -95,7 +96,7 @@ impl Posted {
         progress: &Progress,
     ) -> Result<Posted, Failure> {
         let (rows, lines) = (master.records(), file.records().saturating_sub(1));
-        let mut list = vec![0; lines];
+        let mut list = zeros(lines)?;
         progress.now(format!("posting {}", counted(lines as u64, "line")));
         let listed = fantanolive::post(&mut master.bytes, rows, &file.bytes, &mut list)
             .map_err(|refusal| refused(refusal, &mut master, &file, arguments.flag("--full")))?;

@@ -11,6 +11,7 @@ use crate::commands::output::print_summary;
 use crate::failure::{Failure, Status};
 use crate::files::length::place_note;
 use crate::files::outputs::{Outputs, Wanted};
+use crate::memory::zeros;
 use crate::progress::Progress;
 use crate::records::columns::rct;
 use crate::records::field::{Form, Placeholder};
@@ -28,7 +29,7 @@ pub fn run(arguments: &Arguments, progress: &Progress) -> Result<Status, Failure
     let mut master = read_master(arguments, 0, progress)?;
     let rows = master.records();
     let (state, date) = (arguments.needed("--state"), arguments.needed("--date"));
-    let mut out = vec![0; RECORD * (rows + 1)];
+    let mut out = zeros(RECORD * (rows + 1))?;
     progress.now("writing the records of the state");
     let (state_bytes, date_bytes) = (argument(state.as_bytes()), argument(date.as_bytes()));
     let records = fantanolive::reconcile(&master.bytes, rows, &state_bytes, &date_bytes, &mut out)

@@ -4,7 +4,7 @@ use std::ffi::OsString;
 use std::io::{self, Write};
 use std::path::PathBuf;
 
-use fantanolive::{Totals, RECORD};
+use fantanolive::{totals, Totals, RECORD};
 
 use crate::arguments::Arguments;
 use crate::code_page::{convert, Charset};
@@ -14,7 +14,7 @@ use crate::files::outputs::Outputs;
 use crate::files::read::{read, Input};
 use crate::progress::Progress;
 use crate::records::columns::control;
-use crate::records::control_record::batch_of;
+use crate::records::control_record::control_record;
 use crate::records::cuts::Cuts;
 use crate::records::kinds::BATCH;
 use crate::records::name_changes::{renamed, Renamed, KEY_FIELDS};
@@ -37,7 +37,7 @@ struct Part {
 pub fn run(arguments: &Arguments, progress: &Progress) -> Result<Status, Failure> {
     let way = Way::of(arguments)?;
     let charset = Charset::of_flag(arguments.flag("--ascii"));
-    let batch = read(arguments.path(0), &BATCH, charset, progress)?.into_ebcdic()?;
+    let mut batch = read(arguments.path(0), &BATCH, charset, progress)?.into_ebcdic()?;
     see_whole(&batch)?;
     progress.now("cutting the batch");
     let ends = ends_of(arguments, &batch, &way)?;
@@ -46,12 +46,14 @@ pub fn run(arguments: &Arguments, progress: &Progress) -> Result<Status, Failure
     let (mut parts, mut staged) = (Vec::new(), Vec::new());
     let mut first = 0;
     for (number, &end) in ends.iter().enumerate() {
-        let (part, mut bytes) = part_of(&batch, first, end)?;
+        let (part, mut record) = part_of(&batch, first, end)?;
+        let details = &mut batch.bytes[first * RECORD..end * RECORD];
         if charset == Charset::Ascii {
             // the batch came from ASCII
-            let _ = convert(&mut bytes, charset);
+            let _ = convert(details, charset);
+            let _ = convert(&mut record, charset);
         }
-        staged.push(outputs.stage_file(number, progress, &bytes)?);
+        staged.push(outputs.stage_file(number, progress, details, &record)?);
         parts.push(part);
         first = end;
     }
@@ -214,13 +216,13 @@ fn files_of(arguments: &Arguments, parts: usize) -> Result<Vec<PathBuf>, Failure
     Ok((1..=parts).map(name).collect())
 }
 
-/// A part with its control record.
+/// A part and its control record. The record behind its details, whatever it is, stands in that one's place for the totals.
 fn part_of(batch: &Input, first: usize, end: usize) -> Result<(Part, Vec<u8>), Failure> {
-    let details = &batch.bytes[first * RECORD..end * RECORD];
+    let with_next = &batch.bytes[first * RECORD..(end + 1) * RECORD];
+    let totals = totals(with_next).map_err(|refusal| refused(refusal, Vec::new()))?;
     let state = control::STATE.of(batch.last().unwrap_or_default());
-    let (bytes, totals) =
-        batch_of(state, details).map_err(|refusal| refused(refusal, Vec::new()))?;
-    Ok((Part { first, end, totals }, bytes))
+    let record = control_record(state, &totals);
+    Ok((Part { first, end, totals }, record))
 }
 
 /// The parts and their names.

@@ -26,10 +26,11 @@ const WORDS: Words = Words {
     members: ["changed_back", "taken_out", "put_in"],
 };
 
-/// A batch that was taken back in memory: the master at hand, and the rows from before the batch.
+/// A batch that was taken back in memory: the rows from before it, in the place of those at hand.
 struct TakenBack {
     master: Input,
-    rows: Vec<u8>,
+    rows_before: usize,
+    rows: usize,
 }
 
 pub fn run(arguments: &Arguments, progress: &Progress) -> Result<Status, Failure> {
@@ -45,12 +46,12 @@ pub fn run(arguments: &Arguments, progress: &Progress) -> Result<Status, Failure
     let (master, journal) = read_files(arguments, progress)?;
     let record = Record::begin(TAKE_BACK, outputs.master(), &master, &[&journal])?;
     let back = TakenBack::of(master, &journal, Some(&record), arguments, progress)?;
-    let differences = Differences::between(&back.master.bytes, &back.rows);
+    let differences = back.differences()?;
     let summary = back.summary(&differences);
-    let log = record.finish(&summary, &back.rows);
+    let log = record.finish(&summary, back.rows());
     let staged = vec![
         outputs.stage_log(progress, &log)?,
-        outputs.stage_state(progress, &back.rows)?,
+        outputs.stage_state(progress, back.rows())?,
     ];
     let summary = summary.placed(outputs.put_in_place(staged)?);
     report(arguments, progress, &summary, &differences)
@@ -63,7 +64,7 @@ fn dry_run(arguments: &Arguments, progress: &Progress) -> Result<Status, Failure
     let (master, journal) = read_files(arguments, progress)?;
     let record = Record::look(TAKE_BACK, &target, &master, &[&journal])?;
     let back = TakenBack::of(master, &journal, record.as_ref(), arguments, progress)?;
-    let differences = Differences::between(&back.master.bytes, &back.rows);
+    let differences = back.differences()?;
     let summary = back.summary(&differences).would_be();
     report(arguments, progress, &summary, &differences)
 }
@@ -83,9 +84,9 @@ impl TakenBack {
         progress: &Progress,
     ) -> Result<TakenBack, Failure> {
         progress.now("taking the batch back");
-        let mut rows = master.bytes.clone();
-        let count = fantanolive::take_back(&mut rows, master.records(), &journal.bytes);
-        let count = count.map_err(|refusal| {
+        let rows_before = master.records();
+        let rows = fantanolive::take_back(&mut master.bytes, rows_before, &journal.bytes);
+        let rows = rows.map_err(|refusal| {
             let full = arguments.flag("--full");
             notes::refused(
                 refusal,
@@ -97,14 +98,27 @@ impl TakenBack {
             let what = format!("{words}; --anyway does it all the same");
             return Err(Failure::file(&journal.path, what));
         }
-        rows.truncate(count as usize * ROW);
-        Ok(TakenBack { master, rows })
+        Ok(TakenBack {
+            master,
+            rows_before,
+            rows: rows as usize,
+        })
+    }
+
+    fn rows(&self) -> &[u8] {
+        &self.master.bytes[..self.rows * ROW]
+    }
+
+    /// What differs between the rows of the file, which are read again, and those from before the batch.
+    fn differences(&self) -> Result<Differences<'_>, Failure> {
+        let read = |first: usize, rows: &mut [u8]| self.master.read_again(first * ROW, rows);
+        Differences::between(self.rows_before, read, self.rows())
     }
 
     fn summary(&self, differences: &Differences) -> Summary {
         let summary = Summary::new(TAKE_BACK, Status::Done)
-            .number("rows before", self.master.records() as u64)
-            .number("rows", (self.rows.len() / ROW) as u64)
+            .number("rows before", self.rows_before as u64)
+            .number("rows", self.rows as u64)
             .number("rows changed back", differences.changed.len() as u64)
             .number("rows taken out", differences.gone.len() as u64);
         // no journal that apply wrote puts rows in

@@ -2,6 +2,7 @@
 //! contact records) and the files that it makes. They are told apart from the inputs and from each other, nothing is
 //! overwritten by a slip, each is locked, and all are put in place together.
 
+use std::borrow::Cow;
 use std::io::Write;
 use std::path::{Path, PathBuf};
 use std::time::Duration;
@@ -10,7 +11,9 @@ use crate::arguments::Arguments;
 use crate::failure::{shown, Failure, STANDARD};
 use crate::files::lock::Lock;
 use crate::files::protect::may_be_made;
-use crate::files::replace::{self, stage, NewFile, Placed, Staged, WriteFailure, OWNER_ALONE};
+use crate::files::replace::{
+    self, stage, write_all, NewFile, Placed, Staged, WriteFailure, OWNER_ALONE,
+};
 use crate::files::target::{all_apart, Target};
 use crate::progress::Progress;
 
@@ -152,73 +155,85 @@ impl Outputs {
             .try_for_each(|target| may_be_made(target, force))
     }
 
-    /// Writes a file that an option names under its temporary name.
+    /// The file that an option names; none where that is standard output.
+    fn file_of(&self, option: &str) -> Option<&Target> {
+        let named = self.made.iter().find(|(name, _)| *name == option);
+        match named {
+            Some((_, Place::File(target))) => Some(target),
+            _ => None,
+        }
+    }
+
+    /// Writes a file that an option names under its temporary name, or keeps it for standard output.
     pub fn stage_made(
         &self,
         option: &str,
         progress: &Progress,
         write: impl FnOnce(&mut dyn Write) -> Result<(), WriteFailure>,
-    ) -> Result<Staged, Failure> {
-        let place = self.made.iter().find(|(name, _)| *name == option);
-        self.stage_at(place.map(|(_, place)| place), progress, write)
+    ) -> Result<Staged<'static>, Failure> {
+        if let Some(target) = self.file_of(option) {
+            return stage(target, &NewFile::of_mode(self.mode), progress, write);
+        }
+        let mut bytes = Vec::new();
+        match write(&mut bytes) {
+            Ok(()) => Ok(Staged::Standard(Cow::Owned(bytes))),
+            Err(WriteFailure::Other(failure)) => Err(failure),
+            Err(WriteFailure::Write(error)) => Err(Failure::Output {
+                error,
+                changed: false,
+            }),
+        }
     }
 
-    /// Writes a file under its temporary name, or keeps it for standard output.
-    fn stage_at(
+    /// The same from bytes.
+    pub fn stage_bytes<'a>(
         &self,
-        place: Option<&Place>,
+        option: &str,
         progress: &Progress,
-        write: impl FnOnce(&mut dyn Write) -> Result<(), WriteFailure>,
-    ) -> Result<Staged, Failure> {
-        match place {
-            Some(Place::File(target)) => {
-                stage(target, &NewFile::of_mode(self.mode), progress, write)
-            }
-            _ => {
-                let mut bytes = Vec::new();
-                match write(&mut bytes) {
-                    Ok(()) => Ok(Staged::Standard(bytes)),
-                    Err(WriteFailure::Other(failure)) => Err(failure),
-                    Err(WriteFailure::Write(error)) => Err(Failure::Output {
-                        error,
-                        changed: false,
-                    }),
-                }
+        bytes: &'a [u8],
+    ) -> Result<Staged<'a>, Failure> {
+        match self.file_of(option) {
+            None => Ok(Staged::Standard(Cow::Borrowed(bytes))),
+            Some(target) => {
+                let new = NewFile::of_mode(self.mode);
+                stage(target, &new, progress, |out| {
+                    write_all(out, bytes, progress)
+                })
             }
         }
     }
 
-    /// Writes one of the files that the command names, the first being 0.
+    /// Writes one of the files that the command names, the first being 0, from bytes and those behind them.
     pub fn stage_file(
         &self,
         number: usize,
         progress: &Progress,
         bytes: &[u8],
-    ) -> Result<Staged, Failure> {
-        let place = self.made.get(number).map(|(_, place)| place);
-        self.stage_at(place, progress, |out| Ok(out.write_all(bytes)?))
-    }
-
-    /// The same from bytes.
-    pub fn stage_bytes(
-        &self,
-        option: &str,
-        progress: &Progress,
-        bytes: &[u8],
-    ) -> Result<Staged, Failure> {
-        self.stage_made(option, progress, |out| Ok(out.write_all(bytes)?))
+        behind: &[u8],
+    ) -> Result<Staged<'static>, Failure> {
+        let Some((_, Place::File(target))) = self.made.get(number) else {
+            unreachable!("the command names files alone");
+        };
+        stage(target, &NewFile::of_mode(self.mode), progress, |out| {
+            write_all(out, bytes, progress)?;
+            Ok(out.write_all(behind)?)
+        })
     }
 
     /// Writes the new state under its temporary name.
-    pub fn stage_state(&self, progress: &Progress, bytes: &[u8]) -> Result<Staged, Failure> {
+    pub fn stage_state(
+        &self,
+        progress: &Progress,
+        bytes: &[u8],
+    ) -> Result<Staged<'static>, Failure> {
         let new = NewFile::of_mode(self.mode);
         stage(self.master(), &new, progress, |out| {
-            Ok(out.write_all(bytes)?)
+            write_all(out, bytes, progress)
         })
     }
 
     /// Writes the log of the state under its temporary name. It is its owner's alone, and the owner is that of the state.
-    pub fn stage_log(&self, progress: &Progress, bytes: &[u8]) -> Result<Staged, Failure> {
+    pub fn stage_log(&self, progress: &Progress, bytes: &[u8]) -> Result<Staged<'static>, Failure> {
         let access = self.master().access();
         let new = NewFile {
             mode: OWNER_ALONE,

@@ -1,9 +1,13 @@
 //! Files that no output may take the place of, whatever their names: masters, tables of contact records and logs. Whether a
-//! file is one is asked of the library.
+//! file is one is asked of the library, over its front.
+
+use std::fs::File;
+use std::io::{self, Read};
 
 use fantanolive::{add_cents, contacts_codes, find, Refusal, CONTACT, MAX_ROWS, ROW};
 
-use crate::failure::{words, Failure};
+use crate::failure::Failure;
+use crate::files::read::unread;
 use crate::files::target::Target;
 use crate::log::line;
 use crate::records::kinds::TABLE;
@@ -14,6 +18,9 @@ const LONGEST: usize = if MAX_ROWS * ROW > TABLE.most * CONTACT {
 } else {
     TABLE.most * CONTACT
 };
+
+/// How much of a file is looked at: whole rows, and whole contact records.
+const FRONT: usize = 500 * (ROW * CONTACT / 20);
 
 /// Whether the library takes bytes as the rows of a master, from before the cents too.
 pub fn is_master(bytes: &[u8]) -> bool {
@@ -30,18 +37,28 @@ fn is_table(bytes: &[u8]) -> bool {
     bytes.len() % CONTACT == 0 && answer != Err(Refusal::WrongContacts)
 }
 
-/// What a file is that must not be replaced by another kind.
-fn protected(bytes: &[u8]) -> Option<&'static str> {
-    if bytes.is_empty() {
+/// What a file of a length is, by its front, that must not be replaced by another kind.
+fn protected(front: &[u8], length: u64) -> Option<&'static str> {
+    let has_whole = |width: usize| length.is_multiple_of(width as u64);
+    if front.is_empty() {
         return None;
     }
-    if is_master(bytes) {
+    if has_whole(ROW) && is_master(front) {
         return Some("a master");
     }
-    if is_table(bytes) {
+    if has_whole(CONTACT) && is_table(front) {
         return Some("a table of contact records");
     }
-    line::is_log(bytes).then_some("a log of runs")
+    line::is_log(front).then_some("a log of runs")
+}
+
+/// The length of a file, and its front.
+fn front_of(target: &Target) -> io::Result<(u64, Vec<u8>)> {
+    let file = File::open(&target.path)?;
+    let length = file.metadata()?.len();
+    let mut front = Vec::new();
+    file.take(FRONT as u64).read_to_end(&mut front)?;
+    Ok((length, front))
 }
 
 /// Sees that a file to be made is not there, or with --force that it is nothing that is kept.
@@ -53,15 +70,9 @@ pub fn may_be_made(target: &Target, force: bool) -> Result<(), Failure> {
         let what = "is there already; --force replaces it";
         return Err(Failure::file(&target.given, what));
     }
-    let length = std::fs::metadata(&target.path).map_or(0, |about| about.len());
-    if length > LONGEST as u64 {
-        return Ok(());
-    }
-    let bytes = std::fs::read(&target.path).map_err(|error| {
-        let what = format!("can't be read: {}", words(&error));
-        Failure::file(&target.given, what)
-    })?;
-    match protected(&bytes) {
+    let read = front_of(target).map_err(|error| unread(&target.given, &error));
+    let (length, front) = read?;
+    match protected(&front, length).filter(|_| length <= LONGEST as u64) {
         None => Ok(()),
         Some(kind) => {
             let what = format!("looks like {kind}, which --force doesn't replace; name another file, or move this one away");

@@ -1,13 +1,16 @@
-//! Files read whole. One that is longer than the library takes is read only so far that the library sees it.
+//! Files read whole. Of one that is longer than the library takes the front alone is read, and as many bytes are lent to the
+//! library that it sees it.
 
-use std::fs::{File, Metadata};
+use std::fs::File;
 use std::io::{self, Read};
 use std::os::fd::AsFd;
+use std::os::unix::fs::FileExt;
 use std::path::{Path, PathBuf};
 
 use crate::code_page::{convert, Charset};
 use crate::failure::{shown, words, Failure, STANDARD};
 use crate::files::length;
+use crate::memory::zeros;
 use crate::progress::Progress;
 use crate::records::kinds::FileKind;
 use fantanolive::Refusal;
@@ -19,23 +22,41 @@ pub struct Input {
     pub charset: Charset,
     /// What was read, and behind it the room that was asked for.
     pub bytes: Vec<u8>,
-    /// How much was read: the whole file but where it is longer than the library takes.
+    /// How much was read: the whole file; or one record more than the library takes, zeros behind the front.
     pub read: usize,
     /// How long the file is, or how much was read where it does not say.
     pub length: u64,
+    /// The file, where it can be read again.
+    file: Option<File>,
 }
+
+/// Bytes that are read at a time, so that progress can be told.
+const PART: usize = 1 << 24;
+
+/// Bytes that are read of a file that is longer than the library takes.
+const FRONT: usize = 1 << 16;
 
 impl Input {
     /// A file that is not there yet, with room for so many bytes.
-    pub fn none(path: &Path, kind: &'static FileKind, room: usize) -> Input {
-        Input {
+    pub fn none(path: &Path, kind: &'static FileKind, room: usize) -> Result<Input, Failure> {
+        Ok(Input {
             path: path.to_path_buf(),
             kind,
             charset: Charset::Ebcdic,
-            bytes: vec![0; room],
+            bytes: zeros(room)?,
             read: 0,
             length: 0,
-        }
+            file: None,
+        })
+    }
+
+    /// Fills a buffer with the bytes of the file from a place on, as they were read.
+    pub fn read_again(&self, place: usize, bytes: &mut [u8]) -> Result<(), Failure> {
+        let read = match &self.file {
+            Some(file) => file.read_exact_at(bytes, place as u64),
+            None => Err(io::Error::other("it can be read once alone")),
+        };
+        read.map_err(|error| unread(&self.path, &error))
     }
 
     /// Its name in messages.
@@ -59,9 +80,14 @@ impl Input {
             .map(|number| self.record(number))
     }
 
-    /// Turns what was read into EBCDIC, where it is in ASCII.
+    /// Whether it has more records than the library takes.
+    pub fn is_too_long(&self) -> bool {
+        self.records() > self.kind.most
+    }
+
+    /// Turns what was read into EBCDIC, where it is in ASCII and isn't refused by its length.
     pub fn into_ebcdic(mut self) -> Result<Input, Failure> {
-        if self.charset == Charset::Ascii {
+        if self.charset == Charset::Ascii && !self.is_too_long() {
             let behind = self.bytes[..self.read].get(self.kind.width).copied();
             if let Err(place) = convert(&mut self.bytes[..self.read], Charset::Ebcdic) {
                 return Err(Failure::Refused {
@@ -93,8 +119,7 @@ pub fn read_with_room(
     progress: &Progress,
 ) -> Result<Input, Failure> {
     progress.now(format!("reading {}", shown(path)));
-    let failed =
-        |error: io::Error| Failure::file(path, format!("can't be read: {}", words(&error)));
+    let failed = |error: io::Error| unread(path, &error);
     let mut file = open(path).map_err(failed)?;
     let about = file.metadata().map_err(failed)?;
     if about.is_dir() {
@@ -105,11 +130,19 @@ pub fn read_with_room(
     // what was read of standard input before is gone
     let has_length = about.is_file() && path != Path::new(STANDARD);
     let (bytes, read) = if has_length {
-        read_regular(&mut file, &about, most, room)
+        let length = usize::try_from(about.len()).unwrap_or(usize::MAX);
+        let read = length.min(most);
+        let mut bytes = zeros(room(read).max(read))?;
+        // of a longer file its length is enough, and its front for what can be said of it
+        let wanted = match length < most {
+            true => length,
+            false => read.min(FRONT),
+        };
+        read_regular(&mut file, length, &mut bytes[..wanted], progress).map_err(failed)?;
+        (bytes, read)
     } else {
-        read_stream(&mut file, most, room)
-    }
-    .map_err(failed)?;
+        read_stream(&mut file, most, room).map_err(failed)?
+    };
     let length = if has_length { about.len() } else { read as u64 };
     Ok(Input {
         path: path.to_path_buf(),
@@ -118,7 +151,13 @@ pub fn read_with_room(
         bytes,
         read,
         length,
+        file: has_length.then_some(file),
     })
+}
+
+/// A file that can't be read.
+pub fn unread(path: &Path, error: &io::Error) -> Failure {
+    Failure::file(path, format!("can't be read: {}", words(error)))
 }
 
 /// Opens a file to be read, or standard input.
@@ -130,25 +169,28 @@ pub fn open(path: &Path) -> io::Result<File> {
     File::open(path)
 }
 
-/// Reads a regular file, or the front of a longer one.
+/// Reads a regular file of a length, or the front of a longer one, which fills the buffer.
 fn read_regular(
     file: &mut File,
-    about: &Metadata,
-    most: usize,
-    room: &dyn Fn(usize) -> usize,
-) -> io::Result<(Vec<u8>, usize)> {
-    let whole = usize::try_from(about.len()).unwrap_or(usize::MAX);
-    let length = whole.min(most);
-    let mut bytes = vec![0; room(length).max(length)];
+    length: usize,
+    bytes: &mut [u8],
+    progress: &Progress,
+) -> io::Result<()> {
     let changed = || io::Error::other("it changed while it was read");
-    match file.read_exact(&mut bytes[..length]) {
-        Err(error) if error.kind() == io::ErrorKind::UnexpectedEof => return Err(changed()),
-        other => other?,
+    let whole = bytes.len();
+    let mut done = 0;
+    for part in bytes.chunks_mut(PART) {
+        match file.read_exact(part) {
+            Err(error) if error.kind() == io::ErrorKind::UnexpectedEof => return Err(changed()),
+            other => other?,
+        }
+        done += part.len();
+        progress.done(done, whole);
     }
-    if whole <= most && file.read(&mut [0])? != 0 {
+    if length == whole && file.read(&mut [0])? != 0 {
         return Err(changed());
     }
-    Ok((bytes, length))
+    Ok(())
 }
 
 /// Reads what has no length of its own: a pipe or a device.

@@ -1,6 +1,7 @@
 //! Files made and replaced whole. Each new file is written under a temporary name beside its own and synced; only when all are
 //! there are they renamed, in the order given; then the folders are synced. Where something fails the temporary files go.
 
+use std::borrow::Cow;
 use std::fs::{self, File, OpenOptions, Permissions};
 use std::io::{self, Write};
 use std::os::unix::fs::{OpenOptionsExt, PermissionsExt};
@@ -59,15 +60,15 @@ pub struct StagedFile {
 }
 
 /// What a run writes at its end.
-pub enum Staged {
+pub enum Staged<'a> {
     File(StagedFile),
     /// For standard output.
-    Standard(Vec<u8>),
+    Standard(Cow<'a, [u8]>),
 }
 
-impl Staged {
+impl Staged<'_> {
     /// The same, with its name on the disk before the files behind it are put in place.
-    pub fn before_others(mut self) -> Staged {
+    pub fn before_others(mut self) -> Self {
         if let Staged::File(file) = &mut self {
             file.before_others = true;
         }
@@ -93,6 +94,24 @@ impl From<io::Error> for WriteFailure {
     fn from(error: io::Error) -> WriteFailure {
         WriteFailure::Write(error)
     }
+}
+
+/// Bytes that are written at a time, so that progress can be told.
+const PART: usize = 1 << 24;
+
+/// Writes bytes, and says how much of them is written.
+pub fn write_all(
+    out: &mut dyn Write,
+    bytes: &[u8],
+    progress: &Progress,
+) -> Result<(), WriteFailure> {
+    let mut done = 0;
+    for part in bytes.chunks(PART) {
+        out.write_all(part)?;
+        done += part.len();
+        progress.done(done, bytes.len());
+    }
+    Ok(())
 }
 
 fn not_written(target: &Target, what: &str) -> Failure {
@@ -146,7 +165,7 @@ pub fn stage(
     new: &NewFile,
     progress: &Progress,
     write: impl FnOnce(&mut dyn Write) -> Result<(), WriteFailure>,
-) -> Result<Staged, Failure> {
+) -> Result<Staged<'static>, Failure> {
     progress.now(format!("writing {}", target.given.display()));
     let failed = |error: io::Error| not_written(target, &words(&error));
     let old = old_access(target)?;
@@ -173,6 +192,10 @@ pub fn stage(
     if old.is_none() {
         finish(&file, new).map_err(failed)?;
     }
+    progress.now(format!(
+        "waiting until {} is on the disk",
+        target.given.display()
+    ));
     file.sync_all().map_err(failed)?;
     Ok(Staged::File(staged))
 }

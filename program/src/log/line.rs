@@ -60,6 +60,19 @@ impl Run {
         }
     }
 
+    /// Whether its first input has this fingerprint.
+    pub fn takes(&self, sha256: &str) -> bool {
+        let first = self.inputs.first();
+        first.is_some_and(|first| first.sha256 == sha256)
+    }
+
+    /// Whether its first input may have so many records but the last: the count of apply or of post says so, or none does.
+    pub fn may_count(&self, records: u64) -> bool {
+        let is_count = |name: &str| matches!(name, "details" | "lines");
+        let mut counts = self.counts.iter().filter(|(name, _)| is_count(name));
+        counts.all(|(_, count)| *count == records)
+    }
+
     /// Writes the line, its line feed too.
     pub fn put(&self, out: &mut Vec<u8>) -> io::Result<()> {
         let mut json = Json::new(out);

@@ -1,6 +1,7 @@
 //! The line of the present run, and whether its input was taken before.
 
 use std::path::{Path, PathBuf};
+use std::thread;
 
 use crate::arguments::Arguments;
 use crate::failure::{shown, Failure};
@@ -35,9 +36,57 @@ fn print_of(kind: &FileKind, path: &Path, bytes: &[u8]) -> InputPrint {
     }
 }
 
+/// What a fingerprint is taken of: what was read, and nothing of a file that is longer than the library takes, which will be
+/// refused.
+fn printed(input: &Input) -> &[u8] {
+    match input.is_too_long() {
+        true => &[],
+        false => &input.bytes[..input.read],
+    }
+}
+
 /// That of a file as it was read.
 fn print_of_input(input: &Input) -> InputPrint {
-    print_of(input.kind, &input.path, &input.bytes[..input.read])
+    print_of(input.kind, &input.path, printed(input))
+}
+
+/// The time of a run of a command that took a first input with this fingerprint before, unless it was not carried out, or was
+/// taken back.
+fn taken_before(
+    runs: &[Run],
+    command: &str,
+    sha256: &str,
+    before: &Option<String>,
+) -> Option<String> {
+    let is_same = |run: &Run| run.command == command && run.takes(sha256);
+    let outcomes = outcomes(runs, before.as_deref());
+    let mut taken = runs.iter().zip(outcomes).rev();
+    taken
+        .find(|(run, outcome)| outcome.may_be_in_master() && is_same(run))
+        .map(|(run, _)| run.time.clone())
+}
+
+/// The same by the log of a master, for a run that writes nothing. Fingerprints of large files take seconds, so none is taken
+/// that can't matter: first the log is to have a run with as many records, then one with the same input.
+pub fn previous_run(
+    command: &str,
+    target: &Target,
+    master: &Input,
+    input: &Input,
+) -> Result<Option<String>, Failure> {
+    let (_, runs) = read_log(&target.log())?;
+    let details = input.records().saturating_sub(1) as u64;
+    let may_be_same = |run: &&Run| run.command == command && run.may_count(details);
+    let mut alike = runs.iter().filter(may_be_same).peekable();
+    if alike.peek().is_none() {
+        return Ok(None);
+    }
+    let sha256 = print_of_input(input).sha256;
+    if !alike.any(|run| run.takes(&sha256)) {
+        return Ok(None);
+    }
+    let before = master_print(printed(master));
+    Ok(taken_before(&runs, command, &sha256, &before))
 }
 
 impl Record {
@@ -72,8 +121,12 @@ impl Record {
         inputs: &[&Input],
     ) -> Record {
         let mut run = Run::now(command);
-        run.before = master_print(&master.bytes[..master.read]);
-        run.inputs = inputs.iter().map(|input| print_of_input(input)).collect();
+        // large files take seconds: the master's beside the others'
+        thread::scope(|scope| {
+            let before = scope.spawn(|| master_print(printed(master)));
+            run.inputs = inputs.iter().map(|input| print_of_input(input)).collect();
+            run.before = before.join().expect("no sum fails");
+        });
         Record {
             master: target.given.clone(),
             log,
@@ -82,24 +135,19 @@ impl Record {
         }
     }
 
-    /// The time of a run that took the same first input before, unless it was not carried out, or was taken back.
-    pub fn taken_before(&self) -> Option<&str> {
+    /// The time of a run that took the same first input before.
+    fn taken_before(&self) -> Option<String> {
         let first = self.run.inputs.first()?;
-        let outcomes = outcomes(&self.runs, self.run.before.as_deref());
-        let is_same = |run: &Run| {
-            let other = run.inputs.first();
-            other.is_some_and(|other| other.sha256 == first.sha256)
-                && run.command == self.run.command
-        };
-        let mut taken = self.runs.iter().zip(outcomes).rev();
-        taken
-            .find(|(run, outcome)| outcome.may_be_in_master() && is_same(run))
-            .map(|(run, _)| run.time.as_str())
+        let command = &self.run.command;
+        taken_before(&self.runs, command, &first.sha256, &self.run.before)
     }
 
     /// Stops a run whose input was taken before, unless --again asks for it.
     pub fn see_not_taken(&self, arguments: &Arguments, input: &Input) -> Result<(), Failure> {
-        let Some(time) = self.taken_before().filter(|_| !arguments.flag("--again")) else {
+        if arguments.flag("--again") {
+            return Ok(());
+        }
+        let Some(time) = self.taken_before() else {
             return Ok(());
         };
         let what = match input.kind.name {

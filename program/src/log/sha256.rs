@@ -68,37 +68,85 @@ fn compress_all(state: &mut [u32; 8], blocks: &[u8]) {
         .for_each(|block| compress(state, block));
 }
 
-/// The fingerprint of bytes as 64 hexadecimal digits.
-pub fn sha256(bytes: &[u8]) -> String {
-    sha256_with(bytes, |state, blocks| {
-        if !sha256_x86::compress_all(state, blocks) {
-            compress_all(state, blocks);
-        }
-    })
+/// The same by the processor's own instructions, where it has them.
+fn compress_fast(state: &mut [u32; 8], blocks: &[u8]) {
+    if !sha256_x86::compress_all(state, blocks) {
+        compress_all(state, blocks);
+    }
 }
 
-fn sha256_with(bytes: &[u8], compress_all: impl Fn(&mut [u32; 8], &[u8])) -> String {
-    let mut state = START;
-    let (whole, rest) = bytes.split_at(bytes.len() - bytes.len() % BLOCK);
-    compress_all(&mut state, whole);
-    // the end: one bit, zeros, and the length in bits in the last eight bytes
-    let mut end = [0; 2 * BLOCK];
-    end[..rest.len()].copy_from_slice(rest);
-    end[rest.len()] = 0x80;
-    let length = if rest.len() < BLOCK - 8 {
-        BLOCK
-    } else {
-        2 * BLOCK
-    };
-    let bits = 8 * bytes.len() as u64;
-    end[length - 8..length].copy_from_slice(&bits.to_be_bytes());
-    compress_all(&mut state, &end[..length]);
-    state.iter().map(|word| format!("{word:08x}")).collect()
+/// The fingerprint of bytes that come in parts.
+pub struct Sha256 {
+    state: [u32; 8],
+    /// The bytes before the present part.
+    before: u64,
+    compress: fn(&mut [u32; 8], &[u8]),
+}
+
+impl Default for Sha256 {
+    fn default() -> Sha256 {
+        Sha256 {
+            state: START,
+            before: 0,
+            compress: compress_fast,
+        }
+    }
+}
+
+impl Sha256 {
+    /// Takes a part of whole blocks.
+    pub fn take(&mut self, part: &[u8]) {
+        (self.compress)(&mut self.state, part);
+        self.before += part.len() as u64;
+    }
+
+    /// The fingerprint with the last part, of any length, as 64 hexadecimal digits.
+    pub fn end(mut self, last: &[u8]) -> String {
+        let (whole, rest) = last.split_at(last.len() - last.len() % BLOCK);
+        self.take(whole);
+        // the end: one bit, zeros, and the length in bits in the last eight bytes
+        let mut end = [0; 2 * BLOCK];
+        end[..rest.len()].copy_from_slice(rest);
+        end[rest.len()] = 0x80;
+        let length = if rest.len() < BLOCK - 8 {
+            BLOCK
+        } else {
+            2 * BLOCK
+        };
+        let bits = 8 * (self.before + rest.len() as u64);
+        end[length - 8..length].copy_from_slice(&bits.to_be_bytes());
+        (self.compress)(&mut self.state, &end[..length]);
+        let words = self.state.iter();
+        words.map(|word| format!("{word:08x}")).collect()
+    }
+}
+
+/// The fingerprint of bytes as 64 hexadecimal digits.
+pub fn sha256(bytes: &[u8]) -> String {
+    Sha256::default().end(bytes)
 }
 
 #[cfg(test)]
 mod tests {
     use super::*;
+
+    fn sha256_with(bytes: &[u8], compress: fn(&mut [u32; 8], &[u8])) -> String {
+        let start = Sha256 {
+            compress,
+            ..Sha256::default()
+        };
+        start.end(bytes)
+    }
+
+    #[test]
+    fn parts_are_the_whole() {
+        let bytes: Vec<u8> = (0..1000u32).map(|n| (n * n >> 3) as u8).collect();
+        for cut in (0..bytes.len()).step_by(BLOCK) {
+            let mut print = Sha256::default();
+            print.take(&bytes[..cut]);
+            assert_eq!(print.end(&bytes[cut..]), sha256(&bytes), "{cut}");
+        }
+    }
 
     #[test]
     fn vectors_of_the_standard() {

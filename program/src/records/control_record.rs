@@ -10,18 +10,24 @@ pub fn batch_of(state: &[u8], details: &[u8]) -> Result<(Vec<u8>, Totals), Refus
     let mut batch = details.to_vec();
     batch.resize(details.len() + RECORD, argument(b" ")[0]);
     let totals = totals(&batch)?;
-    let record = &mut batch[details.len()..];
-    control::STATE.set(record, state);
-    control::MARK.set(record, &argument(b"CTL"));
-    for (field, total) in fields_of(&totals) {
-        let width = field.last + 1 - field.first;
-        let digits = format!("{total:0width$}");
-        field.set(record, &argument(digits.as_bytes()));
-    }
+    batch[details.len()..].copy_from_slice(&control_record(state, &totals));
     match refusal_of(&batch) {
         None => Ok((batch, totals)),
         Some(refusal) => Err(refusal),
     }
+}
+
+/// The control record of a state with these totals.
+pub fn control_record(state: &[u8], totals: &Totals) -> Vec<u8> {
+    let mut record = argument(&[b' '; RECORD]);
+    control::STATE.set(&mut record, state);
+    control::MARK.set(&mut record, &argument(b"CTL"));
+    for (field, total) in fields_of(totals) {
+        let width = field.last + 1 - field.first;
+        let digits = format!("{total:0width$}");
+        field.set(&mut record, &argument(digits.as_bytes()));
+    }
+    record
 }
 
 /// The four totals, each with its field in the control record.

@@ -13,7 +13,7 @@ pub struct Cuts<'a> {
 
 impl<'a> Cuts<'a> {
     pub fn of(details: usize, renamed: &'a [Renamed]) -> Cuts<'a> {
-        let mut changes = vec![0_i64; details + 1];
+        let mut changes = vec![0_i32; details + 1];
         for key in renamed {
             changes[key.first + 1] += 1;
             changes[key.last + 1] -= 1;

@@ -14,7 +14,7 @@ pub struct Listed<'a> {
     pub heading: (&'static str, &'static str),
     pub member: &'static str,
     /// Their numbers, the first record being 1.
-    pub numbers: &'a [u16],
+    pub numbers: &'a [u32],
     pub file: &'a Input,
     pub form: Form,
     /// What is printed of a record behind its number.
@@ -27,8 +27,8 @@ pub struct Listed<'a> {
 
 impl Listed<'_> {
     /// The number of each record, with its bytes.
-    fn records(&self) -> impl Iterator<Item = (u16, &[u8])> {
-        let record = |&number: &u16| (number, self.file.record(usize::from(number) - 1));
+    fn records(&self) -> impl Iterator<Item = (u32, &[u8])> {
+        let record = |&number: &u32| (number, self.file.record(number as usize - 1));
         self.numbers.iter().map(record)
     }
 

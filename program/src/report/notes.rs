@@ -1,6 +1,8 @@
 //! What is known of the files when a call is refused. Nothing is judged here: the library is asked again over parts of what it
 //! refused, or fields are shown as they stand.
 
+use std::ops::Range;
+
 use fantanolive::{add_cents, apply, contacts_codes, find, Refusal, CONTACT, LOCAL_CODE, ROW};
 
 use crate::code_page::Charset;
@@ -34,6 +36,19 @@ fn first_at(most: usize, mut holds: impl FnMut(usize) -> bool) -> usize {
     at
 }
 
+/// Rows that are looked at together.
+const PART: usize = 1 << 16;
+
+/// The first row, from 1 on, at which something holds of the rows up to it that holds of all rows: of parts that begin with
+/// the last row of the part before, so that each row is looked at beside the one before it.
+fn first_row(rows: usize, mut holds: impl FnMut(Range<usize>) -> bool) -> usize {
+    let part_of = |start: usize| start.saturating_sub(1)..(start + PART).min(rows);
+    let starts = (0..rows).step_by(PART);
+    let part = starts.map(part_of).find(|part| holds(part.clone()));
+    let part = part.unwrap_or(0..rows);
+    part.start + first_at(part.len(), |count| holds(part.start..part.start + count))
+}
+
 /// Notes on a master that was refused by 4: the first row at which the library refuses the rows up to it, or that they are
 /// from before the cents. The master may be changed here.
 pub fn of_rows(master: &mut Input, rows: usize, full: bool) -> Vec<String> {
@@ -43,9 +58,11 @@ pub fn of_rows(master: &mut Input, rows: usize, full: bool) -> Vec<String> {
             "{path}: the rows are from before the cents: run `fantanolive add-cents` once"
         )];
     }
-    let unsound =
-        |count: usize| find(&master.bytes[..count * ROW], count, &[]) == Err(Refusal::UnsoundRow);
-    vec![row_note(master, first_at(rows, unsound), full)]
+    let unsound = |part: Range<usize>| {
+        let bytes = &master.bytes[part.start * ROW..part.end * ROW];
+        find(bytes, part.len(), &[]) == Err(Refusal::UnsoundRow)
+    };
+    vec![row_note(master, first_row(rows, unsound), full)]
 }
 
 /// Notes on a master that add-cents refused by 4.
@@ -55,13 +72,13 @@ pub fn of_old_rows(master: &Input, rows: usize) -> Vec<String> {
         return vec![format!("{path}: the rows have their cents already")];
     }
     let mut copy = Vec::new();
-    let unsound = |count: usize| {
+    let unsound = |part: Range<usize>| {
         // a call that is carried out changes the rows
         copy.clear();
-        copy.extend_from_slice(&master.bytes[..count * ROW]);
-        add_cents(&mut copy, count) == Err(Refusal::UnsoundRow)
+        copy.extend_from_slice(&master.bytes[part.start * ROW..part.end * ROW]);
+        add_cents(&mut copy, part.len()) == Err(Refusal::UnsoundRow)
     };
-    vec![row_note(master, first_at(rows, unsound), false)]
+    vec![row_note(master, first_row(rows, unsound), false)]
 }
 
 /// The number and key of a row, the first being 1.
@@ -142,4 +159,24 @@ pub fn of_last_record(input: &Input, fields: &[Field]) -> Vec<String> {
         })
         .collect();
     vec![format!("{start} has {}", list.join(", "))]
+}
+
+#[cfg(test)]
+mod tests {
+    use super::*;
+
+    #[test]
+    fn the_first_row_of_several_parts() {
+        let rows = 3 * PART + 5;
+        for bad in [1, 2, PART - 1, PART, PART + 1, 2 * PART, rows - 1, rows] {
+            // rows from this one on; and this one beside the one before it
+            let within = |part: Range<usize>| part.contains(&(bad - 1));
+            assert_eq!(first_row(rows, within), bad);
+            let beside = |part: Range<usize>| {
+                part.contains(&(bad - 1)) && part.start < bad.max(2) - 1
+                    || bad == 1 && part.start == 0
+            };
+            assert_eq!(first_row(rows, beside), bad);
+        }
+    }
 }

@@ -75,7 +75,7 @@ struct Seen {
     posting: Posting,
     exclusions: Exclusions,
     records: u64,
-    limits: u64,
+    large: u64,
     failed: u64,
 }
 
@@ -84,7 +84,7 @@ impl Seen {
         let number = (outcome.number as usize).min(ANSWERS - 1);
         if let Case::Apply(case) = before {
             let large = case.master.len() > 60_000 * 200 || case.batch.len() > 60_000 * 245;
-            self.limits += u64::from(large);
+            self.large += u64::from(large);
         }
         self.answers[outcome.call][number] += 1;
         if number != 0 {
@@ -186,8 +186,8 @@ impl Seen {
             self.not_added, self.kept_room
         );
         println!(
-            "REC records {}; cases at the limits of 65,535 rows or details {}",
-            self.records, self.limits
+            "REC records {}; cases of more than 60,000 rows or details {}",
+            self.records, self.large
         );
         for line in CODES.chunks(5) {
             let cells: Vec<String> = line

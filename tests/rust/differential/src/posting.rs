@@ -76,7 +76,7 @@ fn turns<'a>(case: &'a PostCase, after: &PostCase) -> Vec<Turn<'a>> {
     let at_entry = balances(&case.master, case.rows);
     let mut now = at_entry.clone();
     let mut listed = after.list[..after.listed as usize].iter().peekable();
-    let lines = case.file.chunks_exact(LINE).zip(1..=u16::MAX);
+    let lines = case.file.chunks_exact(LINE).zip(1..=u32::MAX);
     let mut turns = Vec::new();
     for (line, number) in lines.take(case.file.len() / LINE - 1) {
         let key = line_key(line);

@@ -6,6 +6,9 @@ use crate::rows::ROW;
 use crate::text::{blank, byte, digits, put, put_text, SPACE};
 use crate::world::Key;
 
+/// The first number that sixteen bits don't hold; large cases have about so many rows or records.
+pub const SIXTEEN_BITS: usize = 65_536;
+
 /// The SSN and case type of a key number (below some 160 million).
 fn numbered(number: usize) -> (Vec<u8>, u8) {
     let place = number / 2;

@@ -2,7 +2,7 @@
 
 use std::collections::BTreeSet;
 
-use crate::bulk;
+use crate::bulk::{self, SIXTEEN_BITS};
 use crate::contacts::{self, CodesCase, UpdateCase};
 use crate::crowd;
 use crate::files::{convert_case, ConvertCase};
@@ -277,8 +277,9 @@ pub fn damage_length(rng: &mut Rng, master: &mut Vec<u8>, rows: &mut usize) {
                 usize::MAX,
                 usize::MAX / ROW,
                 usize::MAX / ROW + 1,
-                65_535,
                 65_536,
+                16_777_215,
+                16_777_216,
                 1 << 32,
                 1 << 63,
             ])
@@ -594,23 +595,22 @@ fn wild(rng: &mut Rng) -> Case {
     }
 }
 
-/// Cases at the limits of 65,535 rows and 65,536 records.
+/// Cases of about 65,536 rows or details.
 pub fn giant(rng: &mut Rng) -> ApplyCase {
     let state = [0xD6, 0xC8];
     let kind = rng.below(8);
     let (rows, room, details) = match kind {
-        // A row too many at entry.
-        0 => (65_536, 65_536, 1),
-        // Room in the buffer, yet a row above 65,535.
-        1 => (65_535, 65_540, 3),
-        // The last row that there can be.
-        2 => (65_534, 65_535, 1),
-        // As many records as there can be, and one more.
-        3 => (40, 50, 65_535),
-        4 => (40, 50, 65_536),
+        // No room for a row more.
+        0 => (SIXTEEN_BITS, SIXTEEN_BITS, 1),
+        // Room for it.
+        1 => (SIXTEEN_BITS - 1, SIXTEEN_BITS + 4, 3),
+        2 => (SIXTEEN_BITS, SIXTEEN_BITS + 1, 1),
+        // Details of few rows.
+        3 => (40, 50, SIXTEEN_BITS - 1),
+        4 => (40, 50, SIXTEEN_BITS + 1),
         // All of them under one key.
-        5 | 6 => (2, 2, 65_535),
-        _ => (65_535, 65_535, 20),
+        5 | 6 => (2, 2, SIXTEEN_BITS + 1),
+        _ => (SIXTEEN_BITS + 1, SIXTEEN_BITS + 1, 20),
     };
     let mut master = bulk::rows(state, rows, 2);
     master.resize(room * ROW, 0xA5);

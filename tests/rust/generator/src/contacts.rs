@@ -3,6 +3,7 @@
 
 use std::collections::BTreeMap;
 
+use crate::bulk::SIXTEEN_BITS;
 use crate::rng::Rng;
 use crate::text::{digits, put, put_text, state, EDGES, SPACE, STATES};
 
@@ -15,7 +16,7 @@ pub struct UpdateCase {
     pub table: Vec<u8>,
     pub count: usize,
     pub file: Vec<u8>,
-    pub faulty: Vec<u16>,
+    pub faulty: Vec<u32>,
     pub result: [u64; 2],
 }
 
@@ -273,8 +274,8 @@ fn spare(rng: &mut Rng, much: usize) -> usize {
     }
 }
 
-fn numbers(rng: &mut Rng, length: usize) -> Vec<u16> {
-    (0..length).map(|_| rng.number() as u16).collect()
+fn numbers(rng: &mut Rng, length: usize) -> Vec<u32> {
+    (0..length).map(|_| rng.number() as u32).collect()
 }
 
 pub fn update_case(rng: &mut Rng) -> UpdateCase {
@@ -417,9 +418,9 @@ pub fn codes_case(rng: &mut Rng) -> CodesCase {
     case
 }
 
-/// As many records as a file can have, or one more, most of them good.
+/// About 65,536 records, most of them good.
 pub fn giant(rng: &mut Rng) -> UpdateCase {
-    let records = rng.pick(&[65_535, 65_535, 65_536]);
+    let records = rng.pick(&[SIXTEEN_BITS - 1, SIXTEEN_BITS, SIXTEEN_BITS + 1]);
     let mut file: Vec<Contact> = (0..records).map(|at| numbered(at % 54_000)).collect();
     rng.shuffle(&mut file);
     for _ in 0..20 {

@@ -26,8 +26,8 @@ pub struct TakeBackCase {
 }
 
 /// The journal buffer that so many details ask for.
-pub fn enough(details: usize) -> usize {
-    12 + 204 * details
+pub const fn enough(details: usize) -> usize {
+    12 + 205 * details
 }
 
 /// A case for apply with a journal buffer: just enough, more, or too short.

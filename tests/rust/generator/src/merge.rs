@@ -114,13 +114,13 @@ fn wide(rng: &mut Rng) -> Two {
     (state, both)
 }
 
-/// As many details as there can be, and one more.
+/// About 65,536 details together.
 fn giant(rng: &mut Rng) -> Two {
     let state = [0xD6, 0xC8];
-    let most = rng.pick(&[65_535, 65_536]);
+    let both = bulk::SIXTEEN_BITS - 1 + rng.below(3);
     let first = rng.pick(&[0, 1, 30_000, 32_768]);
     let record = bulk::change(rng, state, 2, b"MCL");
-    (state, [vec![record; first], vec![record; most - first]])
+    (state, [vec![record; first], vec![record; both - first]])
 }
 
 fn damage(rng: &mut Rng, batch: &mut Vec<u8>) {

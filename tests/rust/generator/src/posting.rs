@@ -28,7 +28,7 @@ pub struct PostCase {
     pub master: Vec<u8>,
     pub rows: usize,
     pub file: Vec<u8>,
-    pub list: Vec<u16>,
+    pub list: Vec<u32>,
     pub listed: u64,
 }
 
@@ -219,7 +219,7 @@ pub fn post_case(rng: &mut Rng) -> PostCase {
         rows: world.known.len(),
         master,
         file,
-        list: (0..numbers).map(|_| rng.number() as u16).collect(),
+        list: (0..numbers).map(|_| rng.number() as u32).collect(),
         listed: rng.number(),
     };
     let faults = match rng.below(100) {
@@ -294,11 +294,11 @@ pub fn numbered(rng: &mut Rng, state: [u8; 2], number: usize) -> Line {
     line
 }
 
-/// As many records as a file can have, or one more.
+/// About 65,536 lines.
 pub fn giant(rng: &mut Rng) -> PostCase {
     let state = [0xD6, 0xC8];
-    let lines = rng.pick(&[65_535, 65_535, 65_536]);
-    let rows = rng.pick(&[1, 40, 65_535]);
+    let lines = bulk::SIXTEEN_BITS - 1 + rng.below(3);
+    let rows = rng.pick(&[1, 40, bulk::SIXTEEN_BITS]);
     let lines: Vec<Line> = (0..lines)
         .map(|_| {
             let number = 2 * rng.below(rows);

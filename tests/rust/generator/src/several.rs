@@ -1,5 +1,6 @@
 //! A file sent as several: details with the places where they are cut.
 
+use crate::bulk::SIXTEEN_BITS;
 use crate::cases::{added, apply_only, size};
 use crate::crowd;
 use crate::records::{batch, detail, Record, RECORD};
@@ -135,7 +136,7 @@ impl SeveralCase {
 pub fn totals_case(rng: &mut Rng) -> Vec<u8> {
     match rng.below(200) {
         0..=5 => {
-            let records = rng.pick(&[65_536, 65_537]);
+            let records = SIXTEEN_BITS + rng.below(3);
             let mut bytes = vec![SPACE; records * RECORD];
             bytes[72] = 0xD4;
             bytes[73] = 0xC1;

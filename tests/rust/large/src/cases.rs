@@ -177,8 +177,8 @@ fn taken_back(files: &Files, folder: &Path, applied: &Applied) -> Case {
     case.changed = vec![("master.bin", Some(applied.master.clone()))];
     case.written = vec![("master.bin", files.master.clone())];
     case.listed = ("row ", changed);
-    // the places of the rows that differ
-    case.lists = 32 * MOST as u64;
+    // the rows that differ, and their places
+    case.lists = 24 * MOST as u64;
     case.time_files(folder, &["master.bin", "back.bin"])
 }
 
@@ -259,7 +259,7 @@ fn find_many(files: &Files, folder: &Path) -> Case {
     case.changed = vec![("master.bin", Some(files.master.clone()))];
     case.listed = ("  row ", MOST);
     // each key with its number, its place in the order and its answer
-    case.lists = 160 * MOST as u64;
+    case.lists = 100 * MOST as u64;
     case.time_files(folder, &["master.bin", "keys.txt"])
 }
 

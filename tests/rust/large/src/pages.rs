@@ -6,7 +6,7 @@ use generator::text::{digits, put, put_text, SPACE};
 /// Columns of a line, lines of cases on a full page, and digits of a page's number.
 const COLUMNS: usize = 132;
 const CASES: usize = 58;
-const DIGITS: usize = 5;
+const DIGITS: usize = 6;
 
 /// A word in column 1 and a number in column 7.
 fn titled(word: &str, number: usize, width: usize) -> Vec<u8> {

@@ -71,7 +71,7 @@ extern "C" {
         count: usize,
         file: *const u8,
         file_length: usize,
-        faulty: *mut u16,
+        faulty: *mut u32,
         faulty_length: usize,
         result: *mut u64,
     ) -> u64;
@@ -92,7 +92,7 @@ extern "C" {
         rows: usize,
         file: *const u8,
         file_length: usize,
-        lines: *mut u16,
+        lines: *mut u32,
         lines_length: usize,
         listed: *mut u64,
     ) -> u64;
@@ -204,7 +204,7 @@ pub fn contacts_update(
     table: &mut [u8],
     count: usize,
     file: &[u8],
-    faulty: &mut [u16],
+    faulty: &mut [u32],
     result: &mut [u64; 2],
 ) -> u64 {
     // SAFETY: each pointer comes with the length of its slice.
@@ -256,7 +256,7 @@ pub fn post(
     master: &mut [u8],
     rows: usize,
     file: &[u8],
-    lines: &mut [u16],
+    lines: &mut [u32],
     listed: &mut u64,
 ) -> u64 {
     // SAFETY: each pointer comes with the length of its slice.

@@ -1,20 +1,21 @@
-//! The contact file through the library at its limits, which random cases seldom reach.
+//! Contact files of many records through the library, which random cases seldom reach.
 
 use generator::contacts::{numbered, CONTACT};
 
-const MOST: usize = 65_535;
+/// More than sixteen bits count.
+const MANY: usize = 65_537;
 
 /// Answer, result, table and list of an update of an empty table.
-fn updated(file: &[u8], space: usize, list: usize) -> (u64, [u64; 2], Vec<u8>, Vec<u16>) {
-    let (mut table, mut faulty) = (vec![0xEE; space * CONTACT], vec![0xEEEE; list]);
+fn updated(file: &[u8], space: usize, list: usize) -> (u64, [u64; 2], Vec<u8>, Vec<u32>) {
+    let (mut table, mut faulty) = (vec![0xEE; space * CONTACT], vec![0xEEEE_EEEE; list]);
     let mut result = [77; 2];
     let answer = library::contacts_update(&mut table, 0, file, &mut faulty, &mut result);
     (answer, result, table, faulty)
 }
 
 /// The same by the reference.
-fn expected(file: &[u8], space: usize, list: usize) -> (u64, [u64; 2], Vec<u8>, Vec<u16>) {
-    let (mut table, mut faulty) = (vec![0xEE; space * CONTACT], vec![0xEEEE; list]);
+fn expected(file: &[u8], space: usize, list: usize) -> (u64, [u64; 2], Vec<u8>, Vec<u32>) {
+    let (mut table, mut faulty) = (vec![0xEE; space * CONTACT], vec![0xEEEE_EEEE; list]);
     let (answer, result) = match reference::contacts::update(&mut table, 0, file, &mut faulty) {
         Ok(result) => (0, result),
         Err(number) => (number, [77; 2]),
@@ -23,25 +24,17 @@ fn expected(file: &[u8], space: usize, list: usize) -> (u64, [u64; 2], Vec<u8>, 
 }
 
 #[test]
-fn a_file_of_most_records() {
-    let good: Vec<u8> = (0..MOST).flat_map(|at| numbered(at * 7 % 54_000)).collect();
-    let bad = vec![0x40; MOST * CONTACT];
+fn a_file_of_many_records() {
+    let good: Vec<u8> = (0..MANY).flat_map(|at| numbered(at * 7 % 54_000)).collect();
+    let bad = vec![0x40; MANY * CONTACT];
     for file in [&good, &bad] {
-        for (space, list) in [(MOST, MOST), (MOST - 1, MOST), (MOST, MOST - 1), (0, 0)] {
+        for (space, list) in [(MANY, MANY), (MANY - 1, MANY), (MANY, MANY - 1), (0, 0)] {
             assert!(updated(file, space, list) == expected(file, space, list));
         }
     }
-    let (answer, result, _, list) = updated(&bad, MOST, MOST);
-    assert_eq!((answer, result), (0, [0, 65_535]));
-    assert!(list.iter().copied().eq(1..=u16::MAX));
-}
-
-#[test]
-fn a_record_more() {
-    let file = vec![0x40; (MOST + 1) * CONTACT];
-    let (answer, result, table, list) = updated(&file, MOST + 1, MOST + 1);
-    assert_eq!((answer, result), (18, [77; 2]));
-    assert!(table.iter().all(|&byte| byte == 0xEE) && list.iter().all(|&one| one == 0xEEEE));
+    let (answer, result, _, list) = updated(&bad, MANY, MANY);
+    assert_eq!((answer, result), (0, [0, MANY as u64]));
+    assert!(list.iter().copied().eq(1..=MANY as u32));
 }
 
 #[test]

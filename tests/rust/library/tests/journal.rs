@@ -1,5 +1,5 @@
-//! Journals through the library: every cut and every bit of a real one, and the calls at their
-//! limits, which random cases seldom reach.
+//! Journals through the library: every cut and every bit of a real one, and the calls with many rows
+//! and details, which random cases seldom reach.
 
 use generator::bulk;
 use generator::journal::enough;
@@ -9,7 +9,7 @@ use generator::text::text;
 use reference::row::{refusal_04, ROW};
 
 const STATE: [u8; 2] = [0xD6, 0xC8];
-const MOST: usize = 65_535;
+const MANY: usize = 65_537;
 
 /// What a journaled batch leaves.
 #[derive(PartialEq)]
@@ -235,48 +235,50 @@ fn refused_before_25() {
 }
 
 #[test]
-fn as_many_changes_as_there_can_be() {
+fn many_changes() {
     let mut rng = Rng::new(3);
-    let master = bulk::rows(STATE, MOST, 2);
-    let mut details: Vec<Record> = (0..MOST)
+    let master = bulk::rows(STATE, MANY, 2);
+    let mut details: Vec<Record> = (0..MANY)
         .map(|at| bulk::change(&mut rng, STATE, 2 * at, b"MCRZST"))
         .collect();
     rng.shuffle(&mut details);
-    let done = applied(&master, MOST, &details, enough(MOST));
-    assert!(done == expected(&master, MOST, &details, enough(MOST)));
-    assert_eq!((done.answer, done.result[0]), (0, MOST as u64));
+    let done = applied(&master, MANY, &details, enough(MANY));
+    assert!(done == expected(&master, MANY, &details, enough(MANY)));
+    assert_eq!((done.answer, done.result[0]), (0, MANY as u64));
     let journal = &done.journal[..done.result[5] as usize];
-    let (answer, rows, left) = taken_back(&done.master, MOST, journal);
-    assert_eq!((answer, rows), (0, MOST as u64));
+    let (answer, rows, left) = taken_back(&done.master, MANY, journal);
+    assert_eq!((answer, rows), (0, MANY as u64));
     assert!(left == master);
-    let short = applied(&master, MOST, &details, enough(MOST) - 1);
+    let short = applied(&master, MANY, &details, enough(MANY) - 1);
     assert_eq!((short.answer, short.result), (25, [77; 6]));
     assert!(short.master == master);
 }
 
 #[test]
-fn as_many_adds_as_there_can_be() {
-    let room = vec![0xA5; MOST * ROW];
-    let details: Vec<Record> = (0..MOST).rev().map(|at| bulk::add(STATE, at)).collect();
-    let done = applied(&room, 0, &details, enough(MOST));
-    assert!(done == expected(&room, 0, &details, enough(MOST)));
+fn many_adds() {
+    let room = vec![0xA5; MANY * ROW];
+    let details: Vec<Record> = (0..MANY).rev().map(|at| bulk::add(STATE, at)).collect();
+    let done = applied(&room, 0, &details, enough(MANY));
+    assert!(done == expected(&room, 0, &details, enough(MANY)));
     let journal = &done.journal[..done.result[5] as usize];
-    assert_eq!(journal[..4], [0x00, 0xFF, 0xFF, 0x03]);
-    let (answer, rows, left) = taken_back(&done.master, MOST, journal);
+    assert_eq!(journal[..4], [0x00, 0x81, 0x80, 0x04]);
+    let (answer, rows, left) = taken_back(&done.master, MANY, journal);
     assert_eq!((answer, rows), (0, 0));
     // No row is left, and no byte is written.
     assert!(left == done.master);
 }
 
 #[test]
-fn counts_of_most_rows() {
-    let master = bulk::rows(STATE, MOST + 1, 2);
-    let journal = [0xFF, 0xFF, 0x03, 0xFF, 0xFF, 0x03];
-    assert_eq!(taken_back(&master, MOST, &journal).0, 0);
-    assert_eq!(taken_back(&master, MOST + 1, &journal).0, 3);
-    assert_eq!(taken_back(&master, MOST - 1, &journal).0, 26);
-    let more = [0x80, 0x80, 0x04, 0x80, 0x80, 0x04];
-    assert_eq!(taken_back(&master, MOST, &more).0, 26);
+fn counts_of_many_rows() {
+    let master = bulk::rows(STATE, MANY + 1, 2);
+    let journal = [0x81, 0x80, 0x04, 0x81, 0x80, 0x04];
+    assert_eq!(taken_back(&master, MANY, &journal).0, 0);
+    assert_eq!(taken_back(&master, MANY + 1, &journal).0, 26);
+    assert_eq!(taken_back(&master, MANY + 2, &journal).0, 3);
+    assert_eq!(taken_back(&master, MANY - 1, &journal).0, 26);
+    let more = [0x82, 0x80, 0x04, 0x82, 0x80, 0x04];
+    assert_eq!(taken_back(&master, MANY, &more).0, 26);
+    assert_eq!(taken_back(&master, MANY + 1, &more).0, 0);
     assert_eq!(taken_back(&[], 0, &[0, 0]).0, 0);
     assert_eq!(taken_back(&[], 0, &[]).0, 26);
     assert_eq!(taken_back(&[], 1, &[0, 0]).0, 3);

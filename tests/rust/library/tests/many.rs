@@ -1,10 +1,10 @@
-//! Many keys through the library at its limits, which random cases seldom reach.
+//! Many keys through the library, which random cases seldom reach.
 
 use generator::bulk;
 use reference::many::NONE;
 
 const STATE: [u8; 2] = [0xD6, 0xC8];
-const MOST: usize = 65_535;
+const MANY: usize = 65_537;
 
 /// Answer, comparisons and places by the library; the reference gives the same.
 fn found(master: &[u8], rows: usize, keys: &[u8], list: usize) -> (u64, u64, Vec<u32>) {
@@ -28,29 +28,29 @@ fn keys(numbers: impl Iterator<Item = usize>) -> Vec<u8> {
 
 #[test]
 fn a_key_for_every_row() {
-    let master = bulk::rows(STATE, MOST, 2);
-    let keys = keys((0..MOST).map(|at| 2 * at));
-    let (answer, comparisons, places) = found(&master, MOST, &keys, MOST + 1);
+    let master = bulk::rows(STATE, MANY, 2);
+    let keys = keys((0..MANY).map(|at| 2 * at));
+    let (answer, comparisons, places) = found(&master, MANY, &keys, MANY + 1);
     // Each row but the last is met by its key and passed by the next.
-    assert_eq!((answer, comparisons), (0, 2 * MOST as u64 - 1));
-    assert!(places[..MOST].iter().copied().eq(0..MOST as u32));
-    assert_eq!(places[MOST], 9);
-    assert_eq!(found(&master, MOST, &keys, MOST).0, 0);
-    assert_eq!(found(&master, MOST, &keys, MOST - 1).0, 28);
-    assert_eq!(found(&master, MOST, &keys, 0).0, 28);
+    assert_eq!((answer, comparisons), (0, 2 * MANY as u64 - 1));
+    assert!(places[..MANY].iter().copied().eq(0..MANY as u32));
+    assert_eq!(places[MANY], 9);
+    assert_eq!(found(&master, MANY, &keys, MANY).0, 0);
+    assert_eq!(found(&master, MANY, &keys, MANY - 1).0, 28);
+    assert_eq!(found(&master, MANY, &keys, 0).0, 28);
 }
 
 #[test]
 fn more_keys_than_rows() {
-    let master = bulk::rows(STATE, MOST, 2);
-    let keys = keys(0..2 * MOST + 10);
+    let master = bulk::rows(STATE, MANY, 2);
+    let keys = keys(0..2 * MANY + 10);
     let count = keys.len() / 12;
-    let (answer, comparisons, places) = found(&master, MOST, &keys, count);
+    let (answer, comparisons, places) = found(&master, MANY, &keys, count);
     // An even number meets its row, an odd one passes it and meets the next.
-    assert_eq!((answer, comparisons), (0, 3 * MOST as u64 - 1));
-    assert!(comparisons <= (MOST + count) as u64);
+    assert_eq!((answer, comparisons), (0, 3 * MANY as u64 - 1));
+    assert!(comparisons <= (MANY + count) as u64);
     for (number, &place) in places.iter().enumerate() {
-        let row = number % 2 == 0 && number < 2 * MOST;
+        let row = number % 2 == 0 && number < 2 * MANY;
         assert_eq!(place, if row { number as u32 / 2 } else { NONE });
     }
 }
@@ -71,10 +71,10 @@ fn keys_below_and_above() {
 
 #[test]
 fn refusals() {
-    let master = bulk::rows(STATE, MOST + 1, 2);
+    let master = bulk::rows(STATE, MANY, 2);
     let right = keys([0, 1, 2].into_iter());
-    assert_eq!(found(&master, MOST + 1, &right, 3).0, 3);
-    assert_eq!(found(&master, MOST, &right, 3).0, 0);
+    assert_eq!(found(&master, MANY + 1, &right, 3).0, 3);
+    assert_eq!(found(&master, MANY, &right, 3).0, 0);
     assert_eq!(found(&master[..199], 0, &right, 3).0, 3);
     assert_eq!(found(&[], usize::MAX, &[], 0).0, 3);
     let mut unsound = bulk::rows(STATE, 2, 2);

@@ -1,11 +1,11 @@
-//! Merging through the library at its limits, which random cases seldom reach.
+//! Merging many details and large amounts through the library, which random cases seldom reach.
 
 use generator::bulk;
 use generator::records::{batch, Record, RECORD};
 use generator::text::{digits, put, put_text};
 
 const STATE: [u8; 2] = [0xD6, 0xC8];
-const MOST: usize = 65_535;
+const MANY: usize = 65_537;
 
 /// Answer, result and output by the library; the reference gives the same.
 fn merged(first: &[u8], second: &[u8], length: usize) -> (u64, u64, Vec<u8>) {
@@ -26,19 +26,16 @@ fn adds(count: usize) -> Vec<Record> {
 }
 
 #[test]
-fn as_many_details_as_there_can_be() {
-    let room = (MOST + 2) * RECORD;
-    for first in [0, 1, MOST / 2, MOST - 1, MOST] {
+fn many_details() {
+    let room = (MANY + 2) * RECORD;
+    for first in [0, 1, MANY / 2, MANY - 1, MANY] {
         let one = batch(STATE, &adds(first));
-        let two = batch(STATE, &adds(MOST - first));
+        let two = batch(STATE, &adds(MANY - first));
         let (answer, records, out) = merged(&one, &two, room);
-        assert_eq!((answer, records), (0, MOST as u64 + 1));
-        assert!(out[..room - RECORD] == batch(STATE, &adds(MOST)));
+        assert_eq!((answer, records), (0, MANY as u64 + 1));
+        assert!(out[..room - RECORD] == batch(STATE, &adds(MANY)));
         assert!(out[room - RECORD..].iter().all(|&byte| byte == 0xEE));
-        let more = batch(STATE, &adds(MOST - first + 1));
-        let expected = if first == 0 { 5 } else { 32 };
-        assert_eq!(merged(&one, &more, room).0, expected);
-        let enough = (MOST + 1) * RECORD;
+        let enough = (MANY + 1) * RECORD;
         assert_eq!(merged(&one, &two, enough).0, 0);
         assert_eq!(merged(&one, &two, enough - 1).0, 33);
     }
@@ -95,7 +92,6 @@ fn faulty() -> Vec<(u64, Vec<u8>)> {
     vec![
         (5, vec![]),
         (5, right[1..].to_vec()),
-        (5, vec![0x40; (MOST + 2) * RECORD]),
         (6, with(3, "CTR")),
         (20, with(1, "ZZ")),
         (21, with(6, " ")),

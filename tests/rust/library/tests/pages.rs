@@ -1,4 +1,4 @@
-//! Case pages through the library at their limits, which random cases seldom reach.
+//! Case pages of many rows through the library, which random cases seldom reach.
 
 use generator::bulk;
 use generator::pages::enough;
@@ -6,7 +6,7 @@ use generator::text::{put_text, text};
 use reference::pages::{LINES, NUMBER_DIGITS, WIDTH};
 
 const STATE: [u8; 2] = [0xD6, 0xC8];
-const MOST: usize = 65_535;
+const MANY: usize = 65_537;
 
 /// Answer, result and output by the library; the reference gives the same.
 fn printed(master: &[u8], rows: usize, length: usize) -> (u64, u64, Vec<u8>) {
@@ -22,11 +22,11 @@ fn printed(master: &[u8], rows: usize, length: usize) -> (u64, u64, Vec<u8>) {
 }
 
 #[test]
-fn as_many_rows_as_there_can_be() {
-    let master = bulk::rows(STATE, MOST + 1, 2);
-    let length = enough(MOST);
-    let (answer, pages, out) = printed(&master, MOST, length + 1);
-    assert_eq!((answer, pages), (0, MOST.div_ceil(LINES) as u64));
+fn many_rows() {
+    let master = bulk::rows(STATE, MANY + 1, 2);
+    let length = enough(MANY);
+    let (answer, pages, out) = printed(&master, MANY, length + 1);
+    assert_eq!((answer, pages), (0, MANY.div_ceil(LINES) as u64));
     assert_eq!(out[length], 0xEE);
     for (page, number) in out[..length].chunks((LINES + 2) * WIDTH).zip(1..) {
         let heading = text(&format!("CASES {number:0NUMBER_DIGITS$} "));
@@ -35,10 +35,11 @@ fn as_many_rows_as_there_can_be() {
         let foot = text(&format!("TOTAL {lines:04} "));
         assert!(page[page.len() - WIDTH..].starts_with(&foot));
     }
-    assert_eq!(printed(&master, MOST, length).0, 0);
-    assert_eq!(printed(&master, MOST, length - 1).0, 31);
-    assert_eq!(printed(&master, MOST, 0).0, 31);
-    assert_eq!(printed(&master, MOST + 1, length).0, 3);
+    assert_eq!(printed(&master, MANY, length).0, 0);
+    assert_eq!(printed(&master, MANY, length - 1).0, 31);
+    assert_eq!(printed(&master, MANY, 0).0, 31);
+    assert_eq!(printed(&master, MANY + 1, length).0, 31);
+    assert_eq!(printed(&master, MANY + 2, length).0, 3);
 }
 
 #[test]

@@ -1,4 +1,4 @@
-//! The totals of a batch through the library at their limits, which random cases seldom reach.
+//! The totals of many details through the library, which random cases seldom reach.
 
 use generator::bulk;
 use generator::records::{batch, Record, RECORD};
@@ -6,7 +6,7 @@ use generator::rng::Rng;
 use generator::text::put_text;
 
 const STATE: [u8; 2] = [0xD6, 0xC8];
-const MOST: usize = 65_535;
+const MANY: usize = 65_537;
 
 /// Answer and totals by the library; the reference gives the same.
 fn summed(batch: &[u8]) -> (u64, [u64; 4]) {
@@ -28,15 +28,13 @@ fn largest(number: usize) -> Record {
 }
 
 #[test]
-fn as_many_details_as_there_can_be() {
+fn many_details() {
     // An even number is TANF, an odd one Non-TANF.
-    let sum = MOST as u64 * 99_999_999;
-    let tanf = batch(STATE, &vec![largest(0); MOST]);
-    assert_eq!(summed(&tanf), (0, [MOST as u64, 0, sum, 0]));
-    let other = batch(STATE, &vec![largest(1); MOST]);
-    assert_eq!(summed(&other), (0, [0, MOST as u64, 0, sum]));
-    let more = batch(STATE, &vec![largest(0); MOST + 1]);
-    assert_eq!(summed(&more), (5, [77; 4]));
+    let sum = MANY as u64 * 99_999_999;
+    let tanf = batch(STATE, &vec![largest(0); MANY]);
+    assert_eq!(summed(&tanf), (0, [MANY as u64, 0, sum, 0]));
+    let other = batch(STATE, &vec![largest(1); MANY]);
+    assert_eq!(summed(&other), (0, [0, MANY as u64, 0, sum]));
 }
 
 #[test]

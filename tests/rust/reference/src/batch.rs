@@ -3,17 +3,15 @@
 use std::collections::BTreeMap;
 
 use crate::errors::{code_digits, given_name, is_type, Names, Surroundings};
-use crate::limits::MOST;
+use crate::limits::{MOST, MOST_RECORDS};
 use crate::machine::{step, Verdict};
-use crate::row::{refusal_03, refusal_04, row_key, rows_of, Key, Row, MOST_ROWS, ROW};
+use crate::row::{refusal_03, refusal_04, row_key, rows_of, Key, Row, ROW};
 use crate::text::{
     all_digits, column, columns, columns_mut, ebcdic, ebcdic_byte, in_state_table, is_blank,
     number, write_number, SPACE,
 };
 
 pub const RECORD: usize = 245;
-/// The details and the control record.
-pub const MOST_RECORDS: usize = MOST + 1;
 
 /// "The result carries accepted, rejected and warned, neither and rows."
 #[derive(Clone, Copy, Debug, PartialEq, Eq, Default)]
@@ -48,7 +46,7 @@ pub fn refusal_02(list: &[u8]) -> bool {
         || codes.windows(2).any(|pair| pair[0] >= pair[1])
 }
 
-/// "5 batch empty, no multiple of 245, or over 65,536 records"
+/// "5 batch empty, no multiple of 245, or over" the limit's records
 pub fn refusal_05(batch: &[u8]) -> bool {
     batch.is_empty() || !batch.len().is_multiple_of(RECORD) || batch.len() / RECORD > MOST_RECORDS
 }
@@ -101,14 +99,14 @@ pub fn refusal_08(details: &[&[u8]], control: &[u8]) -> bool {
         || number(columns(control, 35, 45)) != Some(amount(details, b'N'))
 }
 
-/// "9 rows plus A records whose key has no row at entry exceed length ÷ 200 or 65,535"
+/// "9 rows plus A records whose key has no row at entry exceed length ÷ 200" or the limit
 pub fn refusal_09(master: &[u8], cases: &BTreeMap<Key, Row>, details: &[&[u8]]) -> bool {
     let new = details
         .iter()
         .filter(|record| is_type(record, b"A") && !cases.contains_key(&record_key(record)))
         .count();
     let rows = cases.len() + new;
-    rows > master.len() / ROW || rows > MOST_ROWS
+    rows > master.len() / ROW || rows > MOST
 }
 
 /// "10 verdict list shorter than the details"
@@ -233,13 +231,12 @@ pub fn apply(
 
 /// The rows by key.
 pub fn cases_of(master: &[u8], rows: usize) -> BTreeMap<Key, Row> {
-    let mut cases = BTreeMap::new();
-    for bytes in rows_of(master, rows) {
+    let case = |bytes: &[u8]| {
         let mut row = [SPACE; ROW];
         row.copy_from_slice(bytes);
-        cases.insert(row_key(bytes), row);
-    }
-    cases
+        (row_key(bytes), row)
+    };
+    rows_of(master, rows).map(case).collect()
 }
 
 /// By key, the names that its B records give, "anywhere in the batch".

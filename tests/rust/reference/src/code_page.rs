@@ -52,14 +52,16 @@ pub fn ascii(byte: u8) -> Option<u8> {
 }
 
 fn convert(code: fn(u8) -> Option<u8>, input: &[u8], out: &mut [u8]) -> Result<(), Refusal> {
-    let codes: Vec<Option<u8>> = input.iter().map(|&byte| code(byte)).collect();
-    if let Some(place) = codes.iter().position(Option::is_none) {
+    if let Some(place) = input.iter().position(|&byte| code(byte).is_none()) {
         return Err(Refusal::NoCounterpart(place as u64));
     }
     if out.len() < input.len() {
         return Err(Refusal::TooShort);
     }
-    for (to, code) in out.iter_mut().zip(codes.into_iter().flatten()) {
+    for (to, code) in out
+        .iter_mut()
+        .zip(input.iter().filter_map(|&byte| code(byte)))
+    {
         *to = code;
     }
     Ok(())

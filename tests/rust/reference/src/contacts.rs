@@ -10,7 +10,6 @@ use crate::text::{
 };
 
 pub const CONTACT: usize = 220;
-pub const MOST_CONTACTS: usize = MOST;
 
 const OPENING: u8 = 0x4D;
 const CLOSING: u8 = 0x5D;
@@ -116,14 +115,14 @@ pub fn refusal_18_table(table: &[u8], count: usize) -> bool {
             .any(|(one, two)| contact_key(one) >= contact_key(two))
 }
 
-/// 18: "a file .. length no multiple of 220, a file over 65,535 records"
+/// 18: "a file .. length no multiple of 220, a file over" the limit's records
 pub fn refusal_18_file(file: &[u8]) -> bool {
-    !file.len().is_multiple_of(CONTACT) || file.len() / CONTACT > MOST_CONTACTS
+    !file.len().is_multiple_of(CONTACT) || file.len() / CONTACT > MOST
 }
 
 /// 19: "a table without space for every record (faulty and repeated ones counted) whose key it
 /// lacks at entry, or a list shorter than the records"
-fn refusal_19(table: &[u8], contacts: &Contacts, records: &[&[u8]], list: &[u16]) -> bool {
+fn refusal_19(table: &[u8], contacts: &Contacts, records: &[&[u8]], list: &[u32]) -> bool {
     let lacking = records
         .iter()
         .filter(|record| !contacts.contains_key(&contact_key(record)))
@@ -152,7 +151,7 @@ pub fn update(
     table: &mut [u8],
     count: usize,
     file: &[u8],
-    list: &mut [u16],
+    list: &mut [u32],
 ) -> Result<[u64; 2], u64> {
     if refusal_18_file(file) || refusal_18_table(table, count) {
         return Err(18);
@@ -163,7 +162,7 @@ pub fn update(
         return Err(19);
     }
     let mut faulty = Vec::new();
-    for (record, number) in records.iter().zip(1..=u16::MAX) {
+    for (record, number) in records.iter().zip(1..=u32::MAX) {
         // "A faulty record is skipped and its number, from 1, goes to a list."
         if is_faulty(record) {
             faulty.push(number);

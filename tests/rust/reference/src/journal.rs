@@ -9,7 +9,7 @@ use crate::text::SPACE;
 /// Room for the two counts.
 pub const LEAST_BUFFER: usize = 12;
 /// Room for one entry.
-pub const BUFFER_PER_DETAIL: usize = 204;
+pub const BUFFER_PER_DETAIL: usize = 205;
 
 pub const NEW: u8 = 0x00;
 pub const CHANGED: u8 = 0x01;
@@ -148,7 +148,7 @@ fn read_entry(bytes: &mut &[u8]) -> Option<Entry> {
     }
 }
 
-/// "a journal buffer below 12 + 204 × (details) bytes"
+/// "a journal buffer below 12 + 205 × (details)" bytes
 pub fn refusal_25(journal: &[u8], details: usize) -> bool {
     journal.len() < LEAST_BUFFER + BUFFER_PER_DETAIL * details
 }

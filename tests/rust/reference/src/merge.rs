@@ -35,7 +35,7 @@ impl<'a> Merged<'a> {
         })
     }
 
-    /// "two different states, over 65,535 details, or an amount total above eleven digits"
+    /// "two different states", more details than the limit, "or an amount total above eleven digits"
     fn refusal_32(&self) -> bool {
         let [one, two] = self.states;
         let amounts = &self.totals[2..];

@@ -7,8 +7,8 @@ use crate::text::{column, columns, columns_mut, ebcdic, write_number, SPACE};
 pub const WIDTH: usize = 132;
 /// "58 lines for live rows"
 pub const LINES: usize = 58;
-/// "five digits of page number"
-pub const NUMBER_DIGITS: usize = 5;
+/// "The page number becomes six digits." (item 14)
+pub const NUMBER_DIGITS: usize = 6;
 /// "four digits for the lines of this page"
 const COUNT_DIGITS: usize = 4;
 
@@ -58,15 +58,17 @@ pub fn pages(master: &[u8], rows: usize, out: &mut [u8]) -> Result<u64, u64> {
         return Err(4);
     }
     let live: Vec<&[u8]> = rows_of(master, rows).filter(|row| is_live(row)).collect();
-    let pages: Vec<Vec<Line>> = (1..)
-        .zip(live.chunks(LINES))
-        .map(|(number, rows)| page(number, rows))
-        .collect();
-    let bytes = pages.concat().concat();
+    let pages = live.chunks(LINES);
+    let (count, lines) = (pages.len(), live.len() + 2 * pages.len());
     // "31, a buffer too short for the pages"
-    if out.len() < bytes.len() {
+    if out.len() < lines * WIDTH {
         return Err(31);
     }
-    out[..bytes.len()].copy_from_slice(&bytes);
-    Ok(pages.len() as u64)
+    let written = (1..)
+        .zip(pages)
+        .flat_map(|(number, rows)| page(number, rows));
+    for (place, line) in out.chunks_exact_mut(WIDTH).zip(written) {
+        place.copy_from_slice(&line);
+    }
+    Ok(count as u64)
 }

@@ -2,15 +2,13 @@
 
 use crate::batch::{cases_of, write_master};
 use crate::errors::live;
-use crate::limits::MOST;
+use crate::limits::MOST_RECORDS;
 use crate::row::{refusal_03, refusal_04, refusal_04_old, Key, Row, DELETED, ROW};
 use crate::text::{
     all_digits, column, columns, columns_mut, ebcdic, is_digit, number, write_number, SPACE,
 };
 
 pub const LINE: usize = 240;
-/// The lines and the last record.
-pub const MOST_RECORDS: usize = MOST + 1;
 
 /// Whole dollars, as in a row's 66–73.
 #[derive(Clone, Copy, Debug, PartialEq, Eq)]
@@ -95,7 +93,7 @@ pub fn adjustment(line: &[u8]) -> Option<Cents> {
     amount(columns(line, 87, 97))
 }
 
-/// "22 is a file empty, no multiple of 240 or over 65,536 records"
+/// "22 is a file empty, no multiple of 240 or over" the limit's records
 pub fn refusal_22(file: &[u8]) -> bool {
     file.is_empty() || !file.len().is_multiple_of(LINE) || file.len() / LINE > MOST_RECORDS
 }
@@ -117,7 +115,7 @@ pub fn refusal_23(lines: &[&[u8]], last: &[u8]) -> bool {
 }
 
 /// "24 a line list shorter than the lines"
-pub fn refusal_24(list: &[u16], lines: &[&[u8]]) -> bool {
+pub fn refusal_24(list: &[u32], lines: &[&[u8]]) -> bool {
     list.len() < lines.len()
 }
 
@@ -142,7 +140,7 @@ fn posted(row: Option<&Row>, line: &[u8]) -> Option<Row> {
 }
 
 /// Posts a file to the master: the count of the lines listed. Err holds the refusal's number.
-pub fn post(master: &mut [u8], rows: usize, file: &[u8], list: &mut [u16]) -> Result<u64, u64> {
+pub fn post(master: &mut [u8], rows: usize, file: &[u8], list: &mut [u32]) -> Result<u64, u64> {
     if refusal_03(master, rows) {
         return Err(3);
     }
@@ -164,7 +162,7 @@ pub fn post(master: &mut [u8], rows: usize, file: &[u8], list: &mut [u16]) -> Re
     }
     let mut cases = cases_of(master, rows);
     let mut listed = Vec::new();
-    for (line, number) in lines.iter().zip(1..=u16::MAX) {
+    for (line, number) in lines.iter().zip(1..=u32::MAX) {
         let key = line_key(line);
         match posted(cases.get(&key), line) {
             Some(row) => {

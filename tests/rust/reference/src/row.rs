@@ -5,7 +5,6 @@ use crate::limits::MOST;
 use crate::text::{all_digits, column, columns, ebcdic_byte, in_state_table, is_blank, SPACE};
 
 pub const ROW: usize = 200;
-pub const MOST_ROWS: usize = MOST;
 pub const DELETED: u8 = ebcdic_byte(b'D');
 
 pub type Row = [u8; ROW];
@@ -71,9 +70,9 @@ pub fn rows_of(master: &[u8], rows: usize) -> impl Iterator<Item = &[u8]> {
     master.chunks_exact(ROW).take(rows)
 }
 
-/// 3: "master length no multiple of 200, or row count above length ÷ 200 or 65,535"
+/// 3: "master length no multiple of 200, or row count above length ÷ 200" or the limit
 pub fn refusal_03(master: &[u8], rows: usize) -> bool {
-    !master.len().is_multiple_of(ROW) || rows > master.len() / ROW || rows > MOST_ROWS
+    !master.len().is_multiple_of(ROW) || rows > master.len() / ROW || rows > MOST
 }
 
 /// A row that isn't sound, or rows not in strictly rising order of key.

@@ -2,7 +2,7 @@
 //! which record it has at the end, and the table is written once, from the back.
 
 use crate::field::{at, state, word, NO_STATE, SPACE};
-use crate::vector;
+use crate::{vector, MOST};
 
 type Contact = [u8; 220];
 
@@ -140,14 +140,11 @@ pub fn update(
     table: &mut [u8],
     count: usize,
     file: &[u8],
-    list: &mut [u16],
+    list: &mut [u32],
 ) -> Result<[u64; 2], u64> {
     let (all, table_rest) = table.as_chunks_mut::<220>();
     let (records, file_rest) = file.as_chunks::<220>();
-    if !table_rest.is_empty()
-        || !file_rest.is_empty()
-        || records.len() > 65_535
-        || count > all.len()
+    if !table_rest.is_empty() || !file_rest.is_empty() || records.len() > MOST || count > all.len()
     {
         return Err(18);
     }
@@ -160,7 +157,7 @@ pub fn update(
         lacking += usize::from(own.is_none_or(|key| sources[key] == NONE));
         match own.filter(|_| right(record)) {
             Some(key) => keys.push((key as u32, number)),
-            None => faulty.push(number as u16 + 1),
+            None => faulty.push(number + 1),
         }
     }
     if count + lacking > all.len() || list.len() < records.len() {

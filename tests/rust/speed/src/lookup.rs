@@ -1,7 +1,7 @@
 //! Finding a case and reconciliation, written for speed.
 
 use crate::field::{self, at, copy, Row, NO_STATE, SPACE, ZERO};
-use crate::packed;
+use crate::{packed, MOST};
 
 /// A key's twelve bytes as a number.
 #[inline(always)]
@@ -14,7 +14,7 @@ fn order(key: &[u8; 12]) -> u128 {
 /// The rows, or the first of refusals 3 and 4 that holds.
 fn sound_rows(master: &[u8], rows: usize) -> Result<&[Row], u64> {
     let (all, rest) = master.as_chunks::<200>();
-    if !rest.is_empty() || rows > all.len() || rows > 65_535 {
+    if !rest.is_empty() || rows > all.len() || rows > MOST {
         return Err(3);
     }
     if !sound_order(&all[..rows]) {

@@ -3,7 +3,7 @@
 
 use crate::field::{at, digits, key_number, number, number8, sound, word, Row, SPACE, ZERO};
 use crate::lookup::sound_order;
-use crate::{packed, vector, Table, BLOCK, NONE};
+use crate::{packed, vector, Table, BLOCK, MOST, NONE, NUMBER_BITS};
 
 type Line = [u8; 240];
 
@@ -74,7 +74,7 @@ fn total_wrong(last: &Line, [adjusted, collected]: [u64; 2]) -> bool {
 }
 
 /// The rows of keys: by halving for few keys, else by a hash table.
-struct Places(Option<Table>);
+struct Places(Option<Table<NUMBER_BITS>>);
 
 impl Places {
     /// None for an unsound row or order.
@@ -167,7 +167,7 @@ fn post_to(row: &mut Row, cents: u64) -> bool {
 }
 
 /// Works the lines in order: how many are listed.
-fn work(rows: &mut [Row], orders: &[Order], places: &Places, list: &mut [u16]) -> usize {
+fn work(rows: &mut [Row], orders: &[Order], places: &Places, list: &mut [u32]) -> usize {
     let mut listed = 0;
     let mut number = 0u32;
     for block in orders.chunks(BLOCK) {
@@ -189,7 +189,7 @@ fn work(rows: &mut [Row], orders: &[Order], places: &Places, list: &mut [u16]) -
                     .get_mut(own as usize)
                     .is_none_or(|row| post_to(row, order.cents));
             if refused {
-                list[listed] = number as u16;
+                list[listed] = number;
                 listed += 1;
             }
         }
@@ -198,15 +198,15 @@ fn work(rows: &mut [Row], orders: &[Order], places: &Places, list: &mut [u16]) -
 }
 
 /// Posts a file: how many lines are listed, or the refusal's number.
-pub fn post(master: &mut [u8], rows: usize, file: &[u8], list: &mut [u16]) -> Result<u64, u64> {
+pub fn post(master: &mut [u8], rows: usize, file: &[u8], list: &mut [u32]) -> Result<u64, u64> {
     let (all, rest) = master.as_chunks_mut::<200>();
-    if !rest.is_empty() || rows > all.len() || rows > 65_535 {
+    if !rest.is_empty() || rows > all.len() || rows > MOST {
         return Err(3);
     }
     let rows = &mut all[..rows];
     let (records, rest) = file.as_chunks::<240>();
     let places = Places::new(rows, records.len().saturating_sub(1)).ok_or(4u64)?;
-    if !rest.is_empty() || records.len() > 65_536 {
+    if !rest.is_empty() || records.len() > MOST + 1 {
         return Err(22);
     }
     let (last, lines) = records.split_last().ok_or(22u64)?;

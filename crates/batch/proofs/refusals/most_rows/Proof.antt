@@ -14,7 +14,7 @@ returns : tie.Need-returns
 returns c = λ rows. least-left (length (now (c .before .args .m)) / 200) maxRows rows (omega (arith, max-rows, c .if1 .taken))
 
 returns-2 : tie.Need-returns-2
-returns-2 c = λ rows. rw max-rows (least-right (length (now (c .before .args .m)) / 200) 65535 rows (c .if1 .left))
+returns-2 c = λ rows. rw max-rows (least-right (length (now (c .before .args .m)) / 200) 16777215 rows (c .if1 .left))
 
 pub most-rows-spec : {M : Type 1} → statement M
 most-rows-spec = tie.close (tie.spec returns returns-2)

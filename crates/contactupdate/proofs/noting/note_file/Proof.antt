@@ -51,7 +51,6 @@ note-record-requires c κs =
     let s = c .before .before .before .before .before .before .before .before in
     let l = c .before .before .before .before .loop in (
       length-contact (s .args .n) (now (s .args .file)) (l .i) (c .before .before .before .loop-test .taken) (s .pre .0),
-      omega (arith, s .pre .1, c .before .before .before .loop-test .taken),
       l .inv .2,
       omega (arith, l .inv .1, l .inv .3, s .pre .3, c .before .before .before .loop-test .taken),
     )

@@ -1,5 +1,4 @@
 -- `note_record` notes a good record or lists a faulty one; a good one has a sound key. Assumes nothing.
-use Rattle.layout.proofs.LimitsLaws.{list-number}
 use Rattle.contactrecord.proofs.ContactLaws.{good-key}
 use denote.Ref.{now}
 use mathlib.Core.Path.{sym, _∙_}
@@ -10,9 +9,6 @@ use Rattle.contactupdate.proofs.noting.note_record.Tie as tie
 
 is-faulty-requires : tie.Need-is-faulty-requires
 is-faulty-requires c κs = search needs
-
-cast-faulty : tie.Need-cast-faulty
-cast-faulty c = omega (arith, list-number, c .before .before .before .before .before .pre .1)
 
 mul-faulty : tie.Need-mul-faulty
 mul-faulty c = search needs
@@ -39,7 +35,7 @@ mul-lasts : tie.Need-mul-lasts
 mul-lasts c = search needs
 
 slice-write-lasts : tie.Need-slice-write-lasts
-slice-write-lasts c = omega (arith, c .key-number .ensures .1, c .before .before .before .before .before .before .pre .2)
+slice-write-lasts c = omega (arith, c .key-number .ensures .1, c .before .before .before .before .before .before .pre .1)
 
 same-length-2 : tie.Need-same-length-2
 same-length-2 c = search needs
@@ -54,7 +50,6 @@ note-record-spec =
     tie.close
     (tie.spec
     is-faulty-requires
-    cast-faulty
     mul-faulty
     slice-write-faulty
     add-result

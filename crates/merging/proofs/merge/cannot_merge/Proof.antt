@@ -49,7 +49,7 @@ returns c =
     let a = c .before .before .before .before .before .before .before .before .before .before .before .before .before .before .before .args in
     let ea = c .before .before .before .before .before .before .before .before .before .before .before .before .control-of .ensures in
     let eb = c .before .before .before .before .before .before .before .before .before .before .before .control-of2 .ensures in
-    cannot-told maxRows (a .first .now) (a .second .now) _ 65536 _ (totalsIn (c .before .before .before .before .before .before .before .before .summed-totals .result)) (sym max-records)
+    cannot-told maxRows (a .first .now) (a .second .now) _ 16777216 _ (totalsIn (c .before .before .before .before .before .before .before .before .summed-totals .result)) (sym max-records)
     (c .before .before .before .same .ensures ∙ ap₂ sameBytes (c .before .before .before .before .before .before .field .ensures ∙ ap controlState ea) (c .before .before .before .before .field2 .ensures ∙ ap controlState eb))
     (c .before .before .merged-count .ensures)
     (c .before .before .before .before .before .before .before .before .summed-totals .ensures ∙ ap₂ (λ (x y : List ℕ). statedSum (statedBy x) (statedBy y)) ea eb)

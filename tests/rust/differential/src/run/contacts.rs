@@ -7,7 +7,7 @@ use reference::contacts::CONTACT;
 use super::{compare, compare_number, unchanged, Lent, Outcome};
 
 const GUARD: u8 = 0xB7;
-const GUARD_NUMBER: u16 = 0xB711;
+const GUARD_NUMBER: u32 = 0xB711_22C5;
 
 pub fn run_update(before: UpdateCase) -> Outcome {
     let mut case = before.clone();

@@ -1,10 +1,10 @@
 //! Merging two batches on both sides.
 
+use generator::bulk::SIXTEEN_BITS;
 use generator::merge::{merge_case, MergeCase};
 use generator::rng::Rng;
 use generator::text::shown;
 use reference::batch::{parts, RECORD};
-use reference::limits::MOST;
 
 use super::{compare, compare_number, unchanged, Lent};
 use crate::later::{Report, Run};
@@ -19,12 +19,11 @@ pub const MERGE: Run = Run {
         "one without details",
         "neither with details",
         "an amount of eleven digits",
-        "as many details as there can be",
+        "details above 65,536",
         "refused for the first, the second right",
         "refused for the second",
         "refused for the first, the second faulty too",
         "32, states",
-        "32, details",
         "32, an amount",
     ],
     share: 30,
@@ -82,7 +81,7 @@ fn meet_merged(report: &mut Report, case: &MergeCase) {
     report.meet("both with details", one > 0 && two > 0);
     report.meet("one without details", (one == 0) != (two == 0));
     report.meet("neither with details", one == 0 && two == 0);
-    report.meet("as many details as there can be", one + two == MOST);
+    report.meet("details above 65,536", one + two > SIXTEEN_BITS);
     let merged = &case.out[..case.records as usize * RECORD];
     match parts(merged) {
         Ok((details, control)) => {
@@ -109,8 +108,6 @@ fn cause_of_32(case: &MergeCase) -> &'static str {
     let state = |batch: &[u8]| batch[batch.len() - RECORD..][..2].to_vec();
     if state(&case.first) != state(&case.second) {
         "32, states"
-    } else if (case.first.len() + case.second.len()) / RECORD - 2 > MOST {
-        "32, details"
     } else {
         "32, an amount"
     }

@@ -9,7 +9,7 @@ use super::{compare, compare_number, unchanged, Lent, Outcome};
 use crate::posting::uneven;
 
 const GUARD: u8 = 0xB7;
-const GUARD_NUMBER: u16 = 0xB711;
+const GUARD_NUMBER: u32 = 0xB711_22C5;
 
 pub fn run_cents(before: CentsCase) -> Outcome {
     let mut case = before.clone();

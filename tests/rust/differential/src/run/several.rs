@@ -1,6 +1,7 @@
 //! A file sent as several: the parts one behind the other beside the whole file, and the totals of a
 //! batch.
 
+use generator::bulk::SIXTEEN_BITS;
 use generator::records::{batch, Record, RECORD};
 use generator::rng::Rng;
 use generator::several::{several_case, totals_case, SeveralCase};
@@ -38,8 +39,7 @@ pub const TOTALS: Run = Run {
         "as the control record says",
         "other than the control record says",
         "an amount above eleven digits",
-        "as many records as there can be",
-        "a record more",
+        "records above 65,536",
     ],
     share: 20,
     run: run_totals,
@@ -205,8 +205,6 @@ fn run_totals(rng: &mut Rng) -> Report {
     if number == 0 {
         meet_totals(&mut report, &case, expected);
     }
-    let most = reference::batch::MOST_RECORDS;
-    report.meet("a record more", case.len() == (most + 1) * RECORD);
     report
 }
 
@@ -218,9 +216,5 @@ fn meet_totals(report: &mut Report, case: &[u8], totals: [u64; 4]) {
     report.meet("other than the control record says", !said);
     let above = totals[2] > 99_999_999_999 || totals[3] > 99_999_999_999;
     report.meet("an amount above eleven digits", above);
-    let most = reference::batch::MOST_RECORDS;
-    report.meet(
-        "as many records as there can be",
-        case.len() == most * RECORD,
-    );
+    report.meet("records above 65,536", case.len() > SIXTEEN_BITS * RECORD);
 }

@@ -1,5 +1,7 @@
 //! Item 4 of document 02: the contact file, worked by hand.
 
+use sparse::Mapping;
+
 use crate::code_page::to_ebcdic;
 use crate::contacts::{codes, is_faulty, update, Contact, CONTACT, FAULTS};
 use crate::text::SPACE;
@@ -184,7 +186,7 @@ fn updated(
     space: usize,
     file: &[Contact],
     list: usize,
-) -> (Result<[u64; 2], u64>, Vec<u8>, Vec<u16>) {
+) -> (Result<[u64; 2], u64>, Vec<u8>, Vec<u32>) {
     let mut bytes = table.concat();
     bytes.resize(space * CONTACT, 7);
     let mut numbers = vec![9; list];
@@ -271,23 +273,18 @@ fn refusal_18() {
     // The file's length, before 19.
     let mut after = bytes.clone();
     assert_eq!(update(&mut after, 2, &bytes[..219], &mut []), Err(18));
-    assert_eq!(
-        update(&mut after, 2, &vec![0; 220 * 65_536], &mut []),
-        Err(18)
-    );
-    assert_eq!(
-        update(&mut after, 2, &vec![0; 220 * 65_535], &mut []),
-        Err(19)
-    );
+    let file = Mapping::zeros(220 * 16_777_216);
+    assert_eq!(update(&mut after, 2, &file, &mut []), Err(18));
+    assert_eq!(update(&mut after, 2, &file[220..], &mut []), Err(19));
 }
 
 #[test]
 fn every_record_faulty() {
-    let mut list = vec![0; 65_535];
-    let mut table = vec![7; 220 * 65_535];
-    let file = vec![0; 220 * 65_535];
-    assert_eq!(update(&mut table, 0, &file, &mut list), Ok([0, 65_535]));
-    assert_eq!((list[0], list[65_534]), (1, 65_535));
+    let mut list = vec![0; 65_537];
+    let mut table = vec![7; 220 * 65_537];
+    let file = vec![0; 220 * 65_537];
+    assert_eq!(update(&mut table, 0, &file, &mut list), Ok([0, 65_537]));
+    assert_eq!((list[0], list[65_536]), (1, 65_537));
     assert_eq!(update(&mut table[220..], 0, &file, &mut list), Err(19));
 }
 

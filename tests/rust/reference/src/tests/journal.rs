@@ -23,7 +23,7 @@ fn applied(rows: &[Row], details: &[[u8; RECORD]], amount: u64) -> Applied {
     let (batch, count) = (closed(details, amount), details.len());
     let mut master = [rows.concat(), vec![7; 2 * ROW]].concat();
     let mut plain = master.clone();
-    let mut buffer = vec![9; 12 + 204 * count + 1];
+    let mut buffer = vec![9; 12 + 205 * count + 1];
     let (mut verdicts, mut rejects) = (vec![8; count + 1], vec![6; RECORD * (count + 1)]);
     let (mut numbers, mut records) = (verdicts.clone(), rejects.clone());
     let (counts, length) = apply_journaled(
@@ -102,7 +102,7 @@ fn entry(front: &[u8], old: &Row) -> Vec<u8> {
     [front, old].concat()
 }
 
-const FORMS: [(u64, &[u8]); 9] = [
+const FORMS: [(u64, &[u8]); 12] = [
     (0, &[0x00]),
     (1, &[0x01]),
     (127, &[0x7F]),
@@ -112,6 +112,9 @@ const FORMS: [(u64, &[u8]); 9] = [
     (16_384, &[0x80, 0x80, 0x01]),
     (65_535, &[0xFF, 0xFF, 0x03]),
     (2_097_151, &[0xFF, 0xFF, 0x7F]),
+    (2_097_152, &[0x80, 0x80, 0x80, 0x01]),
+    (16_777_215, &[0xFF, 0xFF, 0xFF, 0x07]),
+    (268_435_455, &[0xFF, 0xFF, 0xFF, 0x7F]),
 ];
 
 #[test]
@@ -213,7 +216,7 @@ fn room_for_the_journal() {
     let details = [modify("00000100"), record("M", "SMYTH", "00000100")];
     for (details, amount) in [(&details[..], 200), (&details[..1], 100), (&[], 0)] {
         let (batch, count) = (closed(details, amount), details.len());
-        let enough = 12 + 204 * count;
+        let enough = 12 + 205 * count;
         for (rejects, length, answer) in [
             (245 * (count + 1), enough, Ok(())),
             (245 * (count + 1), enough - 1, Err(25)),

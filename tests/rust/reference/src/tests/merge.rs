@@ -1,5 +1,7 @@
 //! Item 13 of document 02: two batches into one, worked by hand.
 
+use sparse::Mapping;
+
 use super::{add, control, put, record};
 use crate::batch::{parts, RECORD};
 use crate::merge::merge;
@@ -99,17 +101,15 @@ fn eleven_digits() {
 
 #[test]
 fn as_many_details_as_there_can_be() {
-    let blank = |count: usize| batch(&vec![[SPACE; RECORD]; count], [0; 4]);
-    let (half, most, none) = (blank(32_768), blank(65_535), blank(0));
-    merged(&half, &blank(32_767));
-    merged(&most, &none);
-    merged(&none, &most);
-    let room = 65_537 * RECORD;
-    assert_eq!(refused(&half, &half, room), 32);
-    assert_eq!(refused(&most, &blank(1), room), 32);
-    assert_eq!(refused(&blank(1), &most, room), 32);
-    assert_eq!(refused(&most, &none, 65_536 * RECORD - 1), 33);
-    assert_eq!(refused(&blank(65_536), &none, room), 5);
+    let control = batch(&[], [0; 4]);
+    let blank = |count: usize| Mapping::closed(&[SPACE; RECORD], count, &control);
+    let (half, most, none) = (blank(8_388_608), blank(16_777_215), blank(0));
+    assert_eq!(refused(&half, &blank(8_388_607), 0), 33);
+    assert_eq!(refused(&half, &half, 0), 32);
+    assert_eq!(refused(&most, &none, 0), 33);
+    assert_eq!(refused(&blank(1), &most, 0), 32);
+    assert_eq!(refused(&blank(16_777_216), &none, 0), 5);
+    merged(&blank(30_000), &blank(40_000));
 }
 
 #[test]

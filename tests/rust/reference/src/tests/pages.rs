@@ -45,7 +45,7 @@ fn printed(rows: &[Row], lines: usize) -> (Vec<[u8; WIDTH]>, u64) {
 fn one_row() {
     let (lines, count) = printed(&[live_row()], 3);
     assert_eq!(count, 1);
-    assert_eq!(lines[0], line("CASES 00001"));
+    assert_eq!(lines[0], line("CASES 000001"));
     // The key in 1–12, code 14–16, last name 18–37, first name 39–53, arrearage 55–62, bits 64.
     let expected = concat!(
         "OH123456789N 000 SMITH                JOHN            00000025 0",
@@ -114,7 +114,7 @@ fn full_pages_and_last_ones() {
         assert_eq!(count, per_page.len() as u64);
         let (mut at, mut shown) = (0, 0);
         for (&lines_here, page) in per_page.iter().zip(1..) {
-            assert_eq!(lines[at], line(&format!("CASES {page:05}")));
+            assert_eq!(lines[at], line(&format!("CASES {page:06}")));
             for here in 1..=lines_here {
                 assert_eq!(lines[at + here][..12], rows[shown][..12]);
                 shown += 1;

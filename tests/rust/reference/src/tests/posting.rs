@@ -1,5 +1,7 @@
 //! Item 6 of document 02: cents, the conversion and posting, worked by hand.
 
+use sparse::Mapping;
+
 use super::{add, codes, live_row, put, record, worked, NONE};
 use crate::batch::RECORD;
 use crate::lookup::{find, reconcile};
@@ -52,7 +54,7 @@ fn total(adjustments: u64, collections: u64) -> Line {
 }
 
 /// Posts lines to a master of one row with a mark behind it: the row, and the numbers listed.
-fn posted(row: Row, counts: (u64, u64), lines: &[Line]) -> (Row, Vec<u16>) {
+fn posted(row: Row, counts: (u64, u64), lines: &[Line]) -> (Row, Vec<u32>) {
     let file = [lines.concat(), total(counts.0, counts.1).to_vec()].concat();
     let mut master = [row.to_vec(), vec![7; ROW]].concat();
     let mut list = vec![999; lines.len() + 1];
@@ -344,8 +346,9 @@ fn refusals() {
     assert!(post(&mut row("00000030", "50"), 1, &right, &mut [0; 3]).is_ok());
     assert_eq!(refused(&[], 9), 22);
     assert_eq!(refused(&right[..959], 9), 22);
-    assert_eq!(refused(&vec![SPACE; LINE * 65_537], 9), 22);
-    assert_eq!(refused(&vec![SPACE; LINE * 65_536], 9), 23);
+    let most = Mapping::zeros(LINE * 16_777_217);
+    assert_eq!(refused(&most, 9), 22);
+    assert_eq!(refused(&most[LINE..], 9), 23);
     for last in [total(1, 2), total(2, 1), total(2, 3), total(3, 2)] {
         assert_eq!(refused(&file(last), 9), 23);
     }
