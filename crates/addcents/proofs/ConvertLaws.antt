@@ -2,12 +2,12 @@
 -- Assumes nothing.
 use Prim.Native.Nat.{ℕ, _+_, _*_, _≤_}
 use mathlib.Core.Path.{_≡_, refl, sym, ap, _∙_}
-use mathlib.Core.List.{List, [], _∷_, _++_, map}
+use mathlib.Core.List.{List, [], _∷_, map}
 use mathlib.Core.Bool.{true, _&&_, and-true}
 use native.Mathlib.Omega.{arith}
-use borrow.Author.Tests.{ne-eqb}
 use lib.Dec.{eqb, lit≤}
 use lib.ListN.{length, take, drop}
+use Rattle.answers.proofs.AnswerLaws.{outcome-refused, outcome-done}
 use Rattle.text.specs.Characters.{space, zeroDigit, isDigit}
 use Rattle.text.specs.Fields.{columns, isBlank, isZero, allDigits, number}
 use Rattle.text.specs.Blocks.{blocks, joined, over}
@@ -21,7 +21,7 @@ use Rattle.casemaster.specs.Refusals.{oldMasterRefusal}
 use Rattle.casemaster.specs.Search.{RowPut}
 use Rattle.casemaster.proofs.RefusalsLaws.{old-master-rows}
 use Rattle.casemaster.specs.Row.{withZeroCents}
-use Rattle.addcents.specs.Convert.{addedAs, convertOutcome}
+use Rattle.addcents.specs.Convert.{convertCall, addedAs, convertRun, convertOutcome, AreCentsAdded}
 use Rattle.addcents.specs.Zeroed.{Zeroed}
 use Rattle.addcents.specs.declared.convert.CentsAdded.the-variants.{Done, Refused}
 
@@ -46,20 +46,21 @@ zeroed-next m₀ m after i h z r =
 -- ---- the outcome
 
 module _ (master : List ℕ) (rows : ℕ) where
-  pub convert-refused : (n : ℕ) → n ≡ oldMasterRefusal master rows → (n ≡ 0 → ⊥) → addedAs (Refused n) master ≡ convertOutcome master rows
+  pub convert-refused : (n : ℕ) → n ≡ oldMasterRefusal master rows → (n ≡ 0 → ⊥) → AreCentsAdded (convertCall master rows) (addedAs (Refused n) master)
   unfolding convertOutcome
-  convert-refused n e h = rw (← e, ne-eqb n 0 h)
+  convert-refused n e h = record { is = outcome-refused _ master (convertRun (convertCall master rows)) n e h }
 
   pub rows-inside : oldMasterRefusal master rows ≡ 0 → rows * 200 ≤ length master
   rows-inside e = omega (arith, old-master-rows master rows e)
 
-  pub convert-done : (after : List ℕ) → oldMasterRefusal master rows ≡ 0 → Zeroed master rows after → addedAs Done after ≡ convertOutcome master rows
+  pub convert-done : (after : List ℕ) → oldMasterRefusal master rows ≡ 0 → Zeroed master rows after
+      → AreCentsAdded (convertCall master rows) (addedAs Done after)
   unfolding convertOutcome
   convert-done after e z =
       let m : after ≡ over (joined (map withZeroCents (rowsOf rows master))) master =
       holds-over 200 master after rows (map withZeroCents (rowsOf rows master)) (record { blocks-are = z .rows-are; rest-kept = z .rest-kept })
       (omega (arith, z .same-length, rows-inside e)) in
-      rw (e, m)
+      record { is = rw m (outcome-done _ master (convertRun (convertCall master rows)) e) }
 
 -- ---- a row converted
 

@@ -1,10 +1,11 @@
 -- A conversion that is carried out leaves a sound master, with the same keys, dollars and status. Assumes nothing.
 use Prim.Native.Nat.{ℕ}
-use mathlib.Core.Path.{_≡_, refl, _∙_}
+use mathlib.Core.Path.{_≡_, refl, sym, ap, _∙_}
 use mathlib.Core.List.{List, [], _∷_, map}
 use mathlib.Core.Bool.{true}
-use borrow.Author.Tests.{eq-eqb}
 use lib.ListN.{length, drop, length-map}
+use Rattle.answers.specs.Answer.{isCarriedOut}
+use Rattle.answers.proofs.AnswerLaws.{outcome-done, none-holds}
 use Rattle.text.specs.Blocks.{joined, over}
 use Rattle.text.specs.Fields.{every}
 use Rattle.text.specs.ByteOrder.{rising}
@@ -17,8 +18,8 @@ use Rattle.casemaster.specs.Refusals.{oldMasterRefusal}
 use Rattle.casemaster.proofs.RefusalsLaws.{old-master-sound}
 use Rattle.casemaster.proofs.RowsLaws.{IsWide}
 use Rattle.casemaster.specs.Row.{withZeroCents}
-use Rattle.addcents.specs.Convert.{convertOutcome}
-use Rattle.addcents.specs.Theorem.{dollarCents, Converts, EveryConversion}
+use Rattle.addcents.specs.Convert.{ConvertCall, ConvertOutcome, convertRun, convertOutcome, AreCentsAdded}
+use Rattle.addcents.specs.Theorem.{dollarCents, rowsBefore, rowsAfter, EveryConversion}
 use Rattle.addcents.proofs.ConvertLaws.{rows-inside, wide, key-kept, dollars-kept, status-kept, balance-dollars, converted-sound}
 
 -- ---- each row converted
@@ -54,29 +55,30 @@ rows-sound rows h s =
 
 -- ---- a conversion carried out
 
-module _ (master : List ℕ) (rows : ℕ) (e : oldMasterRefusal master rows ≡ 0) where
-  abbrev before : List (List ℕ)
-  before = rowsOf rows master
+module _ (c : ConvertCall) (o : ConvertOutcome) (i : AreCentsAdded c o) (t : isCarriedOut (o .answer) ≡ true) where
+  passed : oldMasterRefusal (c .master) (c .rows) ≡ 0
+  unfolding convertOutcome
+  passed = none-holds _ (c .master) (convertRun c) (ap (λ (p : ConvertOutcome). isCarriedOut (p .answer)) (sym (i .is)) ∙ t)
 
-  wide-before : All IsWide before
-  wide-before = blocks-wide 200 rows master (rows-inside master rows e)
+  wide-before : All IsWide (rowsBefore c)
+  wide-before = blocks-wide 200 (c .rows) (c .master) (rows-inside (c .master) (c .rows) passed)
 
-  left-are : rowsOf rows (convertOutcome master rows .master) ≡ converted before
+  left-are : rowsAfter c o ≡ converted (rowsBefore c)
   unfolding convertOutcome over
   left-are =
-      let n : length (converted before) ≡ rows = length-map before withZeroCents ∙ length-blocks 200 rows master in
-      rw (eq-eqb (oldMasterRefusal master rows) 0 e)
-      (rw n at (blocks-joined 200 (converted before) (drop (length (joined (converted before))) master) (all-wide before wide-before)))
-
-  leaves : Converts master rows
-  leaves =
-      record {
-        sound = rw left-are (rows-sound before wide-before (old-master-sound master rows e));
-        keys = rw left-are (keys-kept before wide-before);
-        dollars = rw left-are (all-kept rowArrearage rowArrearage dollars-kept before wide-before);
-        status = rw left-are (all-kept rowStatus rowStatus status-kept before wide-before);
-        balances = rw left-are (all-kept balance dollarCents balance-dollars before wide-before);
-      }
+      let n : length (converted (rowsBefore c)) ≡ c .rows = length-map (rowsBefore c) withZeroCents ∙ length-blocks 200 (c .rows) (c .master) in
+      ap (λ (p : ConvertOutcome). rowsOf (c .rows) (p .buffers)) (i .is ∙ sym (outcome-done _ (c .master) (convertRun c) passed))
+      ∙ (rw n at
+      (blocks-joined 200 (converted (rowsBefore c)) (drop (length (joined (converted (rowsBefore c)))) (c .master)) (all-wide (rowsBefore c) wide-before)))
 
 pub converts : EveryConversion
-converts master rows e = leaves master rows e
+converts c o i t =
+    let w = wide-before c o i t in
+    let e = left-are c o i t in
+    record {
+      sound = rw e (rows-sound (rowsBefore c) w (old-master-sound (c .master) (c .rows) (passed c o i t)));
+      keys = rw e (keys-kept (rowsBefore c) w);
+      dollars = rw e (all-kept rowArrearage rowArrearage dollars-kept (rowsBefore c) w);
+      status = rw e (all-kept rowStatus rowStatus status-kept (rowsBefore c) w);
+      balances = rw e (all-kept balance dollarCents balance-dollars (rowsBefore c) w);
+    }

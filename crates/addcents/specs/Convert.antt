@@ -1,8 +1,8 @@
 -- Document 02, item 6: a conversion, refused by 3 and 4 over the old row, writes 00 into a master. Assumes nothing.
 use Prim.Native.Nat.{ℕ}
+use mathlib.Core.Path.{_≡_}
 use mathlib.Core.List.{List, map}
-use mathlib.Core.Bool.{cond}
-use lib.Dec.{eqb}
+use Rattle.answers.specs.Answer.{Answer, refused, done, NoResult, Outcome, Run, outcomeBy}
 use Rattle.text.specs.Blocks.{joined, over}
 use Rattle.casemaster.specs.Row.{withZeroCents}
 use Rattle.casemaster.specs.Master.{rowsOf}
@@ -10,27 +10,33 @@ use Rattle.casemaster.specs.Refusals.{oldMasterRefusal}
 use Rattle.addcents.specs.declared.convert.CentsAdded.{CentsAdded}
 use Rattle.addcents.specs.declared.convert.CentsAdded.the-variants.{Done, Refused}
 
--- the result: done, or a refusal's number
-pub data ConvertResult : Type 0 where
-  done : ConvertResult
-  refused : ℕ → ConvertResult
-
--- what each answer of the call stands for
-abbrev pub addedResult : CentsAdded → ConvertResult
-addedResult Done = done
-addedResult (Refused n) = refused n
-
--- the result and the master
-pub record ConvertOutcome : Type 0 where
-  pub result : ConvertResult
+-- all that is lent to a call
+pub record ConvertCall : Type 0 where
   pub master : List ℕ
+  pub rows : ℕ
+
+abbrev pub convertCall : List ℕ → ℕ → ConvertCall
+convertCall master rows = record { master = master; rows = rows }
+
+-- the answer: done, or a refusal's number
+abbrev pub convertAnswer : CentsAdded → Answer NoResult
+convertAnswer Done = done tt
+convertAnswer (Refused n) = refused n
+
+-- the answer and the master
+abbrev pub ConvertOutcome : Type 0
+ConvertOutcome = Outcome NoResult (List ℕ)
 
 abbrev pub addedAs : CentsAdded → List ℕ → ConvertOutcome
-addedAs r master = record { result = addedResult r; master = master }
+addedAs answer master = record { answer = convertAnswer answer; buffers = master }
 
--- every row, deleted ones too, and nothing behind the rows; a refusal leaves the master alone
-unfoldable pub convertOutcome : List ℕ → ℕ → ConvertOutcome
-convertOutcome master rows =
-    cond (eqb (oldMasterRefusal master rows) 0)
-    (record { result = done; master = over (joined (map withZeroCents (rowsOf rows master))) master })
-    (record { result = refused (oldMasterRefusal master rows); master = master })
+-- every row, deleted ones too, and nothing behind the rows
+abbrev pub convertRun : ConvertCall → Run NoResult (List ℕ)
+convertRun c = record { result = tt; buffers = over (joined (map withZeroCents (rowsOf (c .rows) (c .master)))) (c .master) }
+
+unfoldable pub convertOutcome : ConvertCall → ConvertOutcome
+convertOutcome c = outcomeBy (oldMasterRefusal (c .master) (c .rows)) (c .master) (convertRun c)
+
+-- what a call leaves: the promise of `add_cents`
+pub record AreCentsAdded (c : ConvertCall) (o : ConvertOutcome) : Type 0 where
+  pub is : o ≡ convertOutcome c

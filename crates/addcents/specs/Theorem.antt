@@ -3,24 +3,31 @@ use Prim.Native.Nat.{ℕ, _*_}
 use mathlib.Core.Path.{_≡_}
 use mathlib.Core.List.{List, map}
 use mathlib.Core.Bool.{true}
+use Rattle.answers.specs.Answer.{isCarriedOut}
 use Rattle.text.specs.Fields.{number}
 use Rattle.casemaster.specs.Row.{rowArrearage, rowStatus, balance}
 use Rattle.casemaster.specs.Master.{rowsOf, keysOf, areSoundRows}
-use Rattle.casemaster.specs.Refusals.{oldMasterRefusal}
-use Rattle.addcents.specs.Convert.{convertOutcome}
+use Rattle.addcents.specs.Convert.{ConvertCall, ConvertOutcome, AreCentsAdded}
 
 -- a row's dollars, in cents
 abbrev pub dollarCents : List ℕ → ℕ
 dollarCents row = number (rowArrearage row) * 100
 
--- sound rows with cents, the same keys, dollars and status, and each balance its dollars
-pub record Converts (master : List ℕ) (rows : ℕ) : Type 0 where
-  pub sound : areSoundRows (rowsOf rows (convertOutcome master rows .master)) ≡ true
-  pub keys : keysOf (rowsOf rows (convertOutcome master rows .master)) ≡ keysOf (rowsOf rows master)
-  pub dollars : map rowArrearage (rowsOf rows (convertOutcome master rows .master)) ≡ map rowArrearage (rowsOf rows master)
-  pub status : map rowStatus (rowsOf rows (convertOutcome master rows .master)) ≡ map rowStatus (rowsOf rows master)
-  pub balances : map balance (rowsOf rows (convertOutcome master rows .master)) ≡ map dollarCents (rowsOf rows master)
+-- the rows at entry, and those that a call leaves
+abbrev pub rowsBefore : ConvertCall → List (List ℕ)
+rowsBefore c = rowsOf (c .rows) (c .master)
 
--- for every conversion that no refusal stops
+abbrev pub rowsAfter : ConvertCall → ConvertOutcome → List (List ℕ)
+rowsAfter c o = rowsOf (c .rows) (o .buffers)
+
+-- sound rows with cents, the same keys, dollars and status, and each balance its dollars
+pub record Converts (c : ConvertCall) (o : ConvertOutcome) : Type 0 where
+  pub sound : areSoundRows (rowsAfter c o) ≡ true
+  pub keys : keysOf (rowsAfter c o) ≡ keysOf (rowsBefore c)
+  pub dollars : map rowArrearage (rowsAfter c o) ≡ map rowArrearage (rowsBefore c)
+  pub status : map rowStatus (rowsAfter c o) ≡ map rowStatus (rowsBefore c)
+  pub balances : map balance (rowsAfter c o) ≡ map dollarCents (rowsBefore c)
+
+-- for every conversion that is carried out
 abbrev pub EveryConversion : Type 0
-EveryConversion = (master : List ℕ) (rows : ℕ) → oldMasterRefusal master rows ≡ 0 → Converts master rows
+EveryConversion = (c : ConvertCall) (o : ConvertOutcome) → AreCentsAdded c o → isCarriedOut (o .answer) ≡ true → Converts c o

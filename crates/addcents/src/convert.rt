@@ -8,7 +8,7 @@ ghost use Prim.Native.Nat.{_+_, _*_, _≤_};
 ghost use lib.ListN.{length, take, drop};
 ghost use Rattle.casemaster.specs.Search.{RowPut};
 ghost use Rattle.casemaster.specs.Row.{withZeroCents};
-ghost use Rattle.addcents.specs.Convert.{addedAs, convertOutcome};
+ghost use Rattle.addcents.specs.Convert.{convertCall, addedAs, AreCentsAdded};
 ghost use Rattle.addcents.specs.Zeroed.{Zeroed};
 
 // The answer of the call: done, or the number of the refusal.
@@ -49,7 +49,7 @@ fn zero_all(m: &mut [u8], n: usize)
 
 // Writes 00 into every row of a master that has no cents yet.
 pub fn add_cents(master: &mut [u8], rows: usize) -> CentsAdded
-    ensures { λ r. ⌜ addedAs r (now (master .exit)) ≡ convertOutcome (now (master .entry)) rows ⌝ }
+    ensures { λ r. ⌜ AreCentsAdded (convertCall (now (master .entry)) rows) (addedAs r (now (master .exit))) ⌝ }
 {
     let refusal = refusals::old_master_refusal(master, rows);
     if refusal != 0 {

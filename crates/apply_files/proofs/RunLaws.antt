@@ -8,7 +8,7 @@ use lib.Dec.{eqb}
 use lib.ListN.{take, drop}
 use borrow.Author.Tests.{ltb-false}
 use Rattle.batch.specs.declared.apply.Applied.{Applied}
-use Rattle.batch.specs.Apply.{outcomeOf, applyOutcome}
+use Rattle.batch.specs.Apply.{appliedAs, applyOutcome}
 use Rattle.apply_files.specs.declared.limits.Input.{Input}
 use Rattle.apply_files.specs.declared.limits.Input.the-variants.{Missing, Bytes}
 use Rattle.apply_files.specs.Limits.{masterSpace, sizeOf, refusal0}
@@ -26,8 +26,8 @@ lent-bound n h = go (eqb (n % 200) 0)
 
 -- the call's outcome, with the rest of the buffer behind it
 pub with-rest : (answer : Applied) (master lent : List ℕ) (e n : ℕ) (batch locals : List ℕ) (year : ℕ) (verdicts rejects v′ r′ : List ℕ)
-    → e ≡ lentLength n → outcomeOf answer lent v′ r′ ≡ applyOutcome (callOf (take e master) (n / 200) batch locals year verdicts rejects)
-    → outcomeOf answer (lent ++ drop e master) v′ r′ ≡ yearOutcome master n batch locals year verdicts rejects
+    → e ≡ lentLength n → appliedAs answer lent v′ r′ ≡ applyOutcome (callOf (take e master) (n / 200) batch locals year verdicts rejects)
+    → appliedAs answer (lent ++ drop e master) v′ r′ ≡ yearOutcome master n batch locals year verdicts rejects
 unfolding yearOutcome
 with-rest answer master lent e n batch locals year verdicts rejects v′ r′ l is = rw (← l) (ap (withRest (drop e master)) is)
 

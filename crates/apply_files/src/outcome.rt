@@ -9,7 +9,7 @@ use batch::apply::Applied;
 ghost use mathlib.Core.Path.{_≡_};
 ghost use Prim.Native.Nat.{_≤_};
 ghost use lib.ListN.{length};
-ghost use Rattle.batch.specs.Apply.{outcomeOf};
+ghost use Rattle.batch.specs.Apply.{appliedAs};
 ghost use Rattle.apply_files.specs.Run.{lengthIn, lentLength, yearOutcome, byYear, runOutcome};
 ghost use Rattle.apply_files.specs.Year.{yearIn};
 
@@ -46,7 +46,7 @@ fn with_year(
     rejects: &mut [u8],
 ) -> Applied
     requires { ⌜ (n ≤ 40000) × (40000 ≤ length (now master)) ⌝ }
-    ensures { λ r. ⌜ outcomeOf r (now (master .exit)) (now (verdicts .exit)) (now (rejects .exit))
+    ensures { λ r. ⌜ appliedAs r (now (master .exit)) (now (verdicts .exit)) (now (rejects .exit))
         ≡ yearOutcome (now (master .entry)) n (now (batch .entry)) (now (locals .entry)) year (now (verdicts .entry)) (now (rejects .entry)) ⌝ }
 {
     let end = lent_length(n);
@@ -72,7 +72,7 @@ fn with_year_text(
     rejects: &mut [u8],
 ) -> Applied
     requires { ⌜ (n ≤ 40000) × (40000 ≤ length (now master)) ⌝ }
-    ensures { λ r. ⌜ outcomeOf r (now (master .exit)) (now (verdicts .exit)) (now (rejects .exit))
+    ensures { λ r. ⌜ appliedAs r (now (master .exit)) (now (verdicts .exit)) (now (rejects .exit))
         ≡ byYear (yearIn (now (year .entry))) (now (master .entry)) n (now (batch .entry)) (now (locals .entry)) (now (verdicts .entry)) (now (rejects .entry)) ⌝ }
 {
     match year::year_of(year) {
@@ -95,7 +95,7 @@ pub fn outcome_of(
     verdicts: &mut [u64; 100],
     rejects: &mut [u8; 24745],
 ) -> Applied
-    ensures { λ r. ⌜ outcomeOf r (now (master .exit)) (now (verdicts .exit)) (now (rejects .exit))
+    ensures { λ r. ⌜ appliedAs r (now (master .exit)) (now (verdicts .exit)) (now (rejects .exit))
         ≡ runOutcome m b l y (now (master .entry)) (now (batch .entry)) (now (locals .entry)) (now (year .entry)) (now (verdicts .entry)) (now (rejects .entry)) ⌝ }
 {
     if limits::are_refused(m, b, l, y) {

@@ -4,7 +4,8 @@ use Prim.Native.String.{String}
 use mathlib.Core.Path.{_≡_}
 use mathlib.Core.List.{List, _++_, map}
 use lib.ListN.{length, take, drop}
-use Rattle.batch.specs.Apply.{Result, refused, done}
+use Rattle.answers.specs.Answer.{Answer, refused, done}
+use Rattle.batch.specs.Apply.{ApplyResult}
 use Rattle.apply_output.specs.Ascii.{ascii, asciiLetter}
 use Rattle.apply_output.specs.Decimal.{decimal}
 
@@ -30,9 +31,9 @@ doneLine state accepted rejected warned neither rows =
 unfoldable pub refusedLine : ℕ → List ℕ
 refusedLine n = item "refused " n ++ ascii "\n"
 
--- the line of each result
-abbrev pub lineOf : List ℕ → Result → List ℕ
-lineOf state (done accepted rejected warned neither rows) = doneLine state accepted rejected warned neither rows
+-- the line of each answer
+abbrev pub lineOf : List ℕ → Answer ApplyResult → List ℕ
+lineOf state (done r) = doneLine state (r .accepted) (r .rejected) (r .warned) (r .neither) (r .rows)
 lineOf state (refused n) = refusedLine n
 
 -- a text now stands in a buffer behind its first `at` bytes and ends at `end`; the bytes behind it are kept

@@ -4,7 +4,8 @@ use mathlib.Core.List.{List, [], _∷_}
 use mathlib.Core.Bool.{cond}
 use lib.Dec.{eqb}
 use lib.ListN.{take}
-use Rattle.batch.specs.Apply.{Result, Outcome, refused, done}
+use Rattle.answers.specs.Answer.{Answer, refused, done}
+use Rattle.batch.specs.Apply.{ApplyResult, ApplyBuffers, ApplyOutcome}
 use Rattle.apply_output.specs.declared.new_files.NewFiles.{NewFiles}
 use Rattle.apply_output.specs.declared.new_files.NewFiles.the-variants.{NoFile, Both}
 
@@ -26,15 +27,14 @@ pub data Files : Type 0 where
   noFile : Files
   bothFiles : (master rejects : List ℕ) → Files
 
--- by the result: a refusal writes no file
-abbrev pub filesBy : Result → (details : ℕ) (master verdicts rejects : List ℕ) → Files
-filesBy (refused n) details master verdicts rejects = noFile
-filesBy (done accepted rejected warned neither rows) details master verdicts rejects =
-    bothFiles (masterFile rows master) (rejectFile details verdicts rejects)
+-- by the answer: a refusal writes no file
+abbrev pub filesBy : Answer ApplyResult → (details : ℕ) → ApplyBuffers → Files
+filesBy (refused n) details buffers = noFile
+filesBy (done r) details buffers = bothFiles (masterFile (r .rows) (buffers .master)) (rejectFile details (buffers .verdicts) (buffers .rejects))
 
 -- the files of a call with so many details, from its outcome
-abbrev pub filesOf : ℕ → Outcome → Files
-filesOf details o = filesBy (o .result) details (o .master) (o .verdicts) (o .rejects)
+abbrev pub filesOf : ℕ → ApplyOutcome → Files
+filesOf details o = filesBy (o .answer) details (o .buffers)
 
 -- what each answer stands for: so many bytes at the front of the two buffers
 abbrev pub filesIn : NewFiles → (master rejects : List ℕ) → Files

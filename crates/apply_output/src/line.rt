@@ -9,7 +9,7 @@ ghost use mathlib.Core.List.{_++_};
 ghost use Prim.Native.Nat.{_+_, _≤_};
 ghost use lib.ListN.{length};
 ghost use Rattle.text.specs.Blocks.{over};
-ghost use Rattle.batch.specs.Apply.{resultOf};
+ghost use Rattle.batch.specs.Apply.{applyAnswer};
 ghost use Rattle.apply_output.specs.Ascii.{asciiLetter};
 ghost use Rattle.apply_output.specs.Decimal.{decimal};
 ghost use Rattle.apply_output.specs.Line.{letters, countItems, doneLine, refusedLine, lineOf, Appended};
@@ -115,8 +115,8 @@ fn put_refused(out: &mut [u8], n: u64) -> usize
 // Writes the line of an answer to a batch over the front of out, keeps the bytes behind it, and answers its length.
 pub fn put_line(out: &mut [u8], batch: &[u8], answer: Applied) -> usize
     requires { ⌜ 160 ≤ length (now out) ⌝ }
-    ensures { λ r. ⌜ now (out .exit) ≡ over (lineOf (submittingState (now (batch .entry))) (resultOf answer)) (now (out .entry)) ⌝ }
-    ensures { λ r. ⌜ r ≡ length (lineOf (submittingState (now (batch .entry))) (resultOf answer)) ⌝ }
+    ensures { λ r. ⌜ now (out .exit) ≡ over (lineOf (submittingState (now (batch .entry))) (applyAnswer answer)) (now (out .entry)) ⌝ }
+    ensures { λ r. ⌜ r ≡ length (lineOf (submittingState (now (batch .entry))) (applyAnswer answer)) ⌝ }
 {
     match answer {
         Applied::Done {

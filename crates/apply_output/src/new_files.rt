@@ -8,7 +8,7 @@ ghost use mathlib.Core.Bool.{cond};
 ghost use lib.Dec.{eqb};
 ghost use Prim.Native.Nat.{_≤_};
 ghost use lib.ListN.{length, take};
-ghost use Rattle.batch.specs.Apply.{outcomeOf};
+ghost use Rattle.batch.specs.Apply.{appliedAs};
 ghost use Rattle.apply_output.specs.NewFiles.{recordCount, rejectFile, filesOf, filesIn};
 ghost use Rattle.layout.specs.Batch.{detailCount};
 
@@ -58,7 +58,7 @@ pub fn files_to_write(
     rejects: &[u8; 24745],
 ) -> NewFiles
     ensures { λ r. ⌜ filesIn r (now (master .entry)) (now (rejects .entry))
-        ≡ filesOf (detailCount (now (batch .entry))) (outcomeOf answer (now (master .entry)) (now (verdicts .entry)) (now (rejects .entry))) ⌝ }
+        ≡ filesOf (detailCount (now (batch .entry))) (appliedAs answer (now (master .entry)) (now (verdicts .entry)) (now (rejects .entry))) ⌝ }
 {
     match answer {
         Applied::Done {

@@ -1,5 +1,5 @@
 -- Every posting that is carried out balances, under each key and over the whole master, keeps keys, order and soundness, and does under each
--- key what the one-key machine does; so the order of lines of different keys has no say. Assumes nothing.
+-- key what the one-key machine does; so the order of lines of different keys doesn't matter. Assumes nothing.
 use Prim.Native.Nat.{ℕ, suc, _+_, _<_, suc-le-suc}
 use native.Mathlib.Nat.{zero-lt-suc}
 use mathlib.Core.Path.{_≡_, refl, sym, ap, _∙_}
@@ -7,9 +7,11 @@ use mathlib.Core.List.{List, [], _∷_, _++_}
 use mathlib.Core.Bool.{Bool, true, false, cond}
 use mathlib.Core.Option.{some}
 use native.Mathlib.Omega.{arith}
-use borrow.Author.Tests.{eq-eqb, eqb-true, eqb-false}
+use borrow.Author.Tests.{eqb-true, eqb-false}
 use lib.Dec.{eqb}
 use lib.ListN.{length, drop, getD, length-map}
+use Rattle.answers.specs.Answer.{isCarriedOut}
+use Rattle.answers.proofs.AnswerLaws.{outcome-done, none-holds}
 use Rattle.text.specs.Blocks.{joined, over}
 use Rattle.text.specs.Fields.{sameBytes}
 use Rattle.text.specs.ByteOrder.{orderOf, isLess, isEqual, rising}
@@ -27,8 +29,8 @@ use Rattle.casemaster.proofs.SearchLaws.{rows-head, rows-tail}
 use Rattle.collections.specs.File.{fileRefusal, linesIn, lineCount}
 use Rattle.posting.specs.Posting.{isPostedIn, afterLine, postedLines, listedFrom}
 use Rattle.balancing.specs.Balances.{oneKey, allKeys, sumUnder, balances, keyBalance, balanceIn}
-use Rattle.posting.specs.Post.{Call, rowsBefore, rowsAfter, carriedOut, refusalOf, postOutcome}
-use Rattle.balancing.specs.Theorem.{rowsAfterPosting, Posts, EveryPosting, SameEffect, TwoPostings}
+use Rattle.posting.specs.Post.{PostCall, PostOutcome, rowsBefore, rowsAfter, lentTo, postRun, refusalOf, postOutcome, IsPosting}
+use Rattle.balancing.specs.Theorem.{rowsAfterPosting, EveryPosting, TwoPostings}
 use Rattle.posting.proofs.TurnLaws as Turns
 use Rattle.balancing.proofs.SumLaws as Sums
 use Rattle.balancing.proofs.UnderLaws as Under
@@ -74,9 +76,9 @@ told n rows (line ∷ lines) = go (isPostedIn rows line) (told (suc n) (afterLin
     go true h = omega (arith, h)
     go false h = omega (arith, h)
 
--- ---- a posting carried out
+-- ---- where no refusal holds
 
-module _ (c : Call) (e : refusalOf c ≡ 0) where
+module _ (c : PostCall) (e : refusalOf c ≡ 0) where
   master-right : masterRefusal (c .limit) (c .master) (c .rows) 0 ≡ 0
   master-right = go (eqb (masterRefusal (c .limit) (c .master) (c .rows) 0) 0) refl
     where
@@ -101,43 +103,53 @@ module _ (c : Call) (e : refusalOf c ≡ 0) where
       ∙ length-map (rowsBefore c) rowKey
       ∙ length-blocks 200 (c .rows) (c .master)
 
-  left-are : rowsAfterPosting c ≡ rowsAfter c
-  unfolding postOutcome carriedOut over
+-- ---- a posting carried out
+
+module _ (c : PostCall) (o : PostOutcome) (i : IsPosting c o) (t : isCarriedOut (o .answer) ≡ true) where
+  passed : refusalOf c ≡ 0
+  unfolding postOutcome
+  passed = none-holds (refusalOf c) (lentTo c) (postRun c) (ap (λ (p : PostOutcome). isCarriedOut (p .answer)) (sym (i .is)) ∙ t)
+
+  fit : Fit (rowsBefore c)
+  fit = fit-before c passed
+
+  left-are : rowsAfterPosting c o ≡ rowsAfter c
+  unfolding postOutcome over
   left-are =
-      rw (eq-eqb (refusalOf c) 0 e)
-      (rw as-many at (blocks-joined 200 (rowsAfter c) (drop (length (joined (rowsAfter c))) (c .master)) (fit-after .wide)))
+      ap (λ (p : PostOutcome). rowsAfterPosting c p) (i .is ∙ sym (outcome-done (refusalOf c) (lentTo c) (postRun c) passed))
+      ∙ (rw (as-many c passed) at
+      (blocks-joined 200 (rowsAfter c) (drop (length (joined (rowsAfter c))) (c .master)) (fit-after c passed .wide)))
 
-  rising-left : rising (keysOf (rowsAfterPosting c)) ≡ true
-  rising-left = rw left-are (rows-rise (rowsAfter c) (fit-after .sound))
-
-  holds : Posts c
-  unfolding linesIn
-  holds =
-      record {
-        each-key = λ key. rw left-are (balanced (oneKey key) (rowsBefore c) (linesIn (c .file)) fit-before);
-        whole-master = rw left-are (balanced allKeys (rowsBefore c) (linesIn (c .file)) fit-before);
-        one-before = λ key. under-one key (rowsBefore c) (rows-rise (rowsBefore c) (fit-before .sound));
-        one-after = λ key. under-one key (rowsAfterPosting c) rising-left;
-        keys-stay = rw left-are (Sums.keys-stay (rowsBefore c) (linesIn (c .file)) fit-before);
-        rows-sound = rw left-are (fit-after .sound);
-        all-told = told 1 (rowsBefore c) (linesIn (c .file)) ∙ length-blocks 240 (lineCount (c .file)) (c .file);
-        listed-idle = left-are ∙ Under.listed-idle (rowsBefore c) (linesIn (c .file));
-        row-run = λ key. ap (rowWith key) left-are ∙ Under.row-run key (rowsBefore c) (linesIn (c .file)) fit-before;
-        posted-run = λ key. Under.posted-run key (rowsBefore c) (linesIn (c .file)) fit-before;
-      }
+  rising-left : rising (keysOf (rowsAfterPosting c o)) ≡ true
+  rising-left = rw left-are (rows-rise (rowsAfter c) (fit-after c passed .sound))
 
 pub posts : EveryPosting
-posts c e = holds c e
+unfolding linesIn
+posts c o i t =
+    let e = left-are c o i t in
+    let f = fit c o i t in
+    record {
+      each-key = λ key. rw e (balanced (oneKey key) (rowsBefore c) (linesIn (c .file)) f);
+      whole-master = rw e (balanced allKeys (rowsBefore c) (linesIn (c .file)) f);
+      one-before = λ key. under-one key (rowsBefore c) (rows-rise (rowsBefore c) (f .sound));
+      one-after = λ key. under-one key (rowsAfterPosting c o) (rising-left c o i t);
+      keys-stay = rw e (Sums.keys-stay (rowsBefore c) (linesIn (c .file)) f);
+      rows-sound = rw e (fit-after c (passed c o i t) .sound);
+      all-told = told 1 (rowsBefore c) (linesIn (c .file)) ∙ length-blocks 240 (lineCount (c .file)) (c .file);
+      listed-idle = e ∙ Under.listed-idle (rowsBefore c) (linesIn (c .file));
+      row-run = λ key. ap (rowWith key) e ∙ Under.row-run key (rowsBefore c) (linesIn (c .file)) f;
+      posted-run = λ key. Under.posted-run key (rowsBefore c) (linesIn (c .file)) f;
+    }
 
 -- ---- two postings
 
 pub two-postings : TwoPostings
-two-postings g h eg eh same lines =
+two-postings g h o p i j t u same lines =
+    let a = posts g o i t in
+    let b = posts h p j u in
     record {
       rows =
-          same-rows (rowsAfterPosting g) (rowsAfterPosting h) (rising-left g eg) (rising-left h eh)
-          (λ key.
-          posts g eg .row-run key
-          ∙ rw (same, lines key) (sym (posts h eh .row-run key)));
-      posted-same = λ key. posts g eg .posted-run key ∙ rw (same, lines key) (sym (posts h eh .posted-run key));
+          same-rows (rowsAfterPosting g o) (rowsAfterPosting h p) (rising-left g o i t) (rising-left h p j u)
+          (λ key. a .row-run key ∙ rw (same, lines key) (sym (b .row-run key)));
+      posted-same = λ key. a .posted-run key ∙ rw (same, lines key) (sym (b .posted-run key));
     }

@@ -1,6 +1,7 @@
 -- The worked examples hold together, by computation; and their rows have 200 bytes, their lines 240. Assumes nothing.
 use mathlib.Core.Path.{_≡_, refl}
 use lib.ListN.{length}
+use Rattle.answers.specs.Answer.{outcomeBy}
 use Rattle.text.specs.Characters.{space, isLetter, isDigit}
 use Rattle.text.specs.Fields.{isBlank, isZero, allDigits, areDigits, number, digitField, sameBytes, isOneOf}
 use Rattle.text.specs.Blocks.{blocks, joined, over}
@@ -19,7 +20,7 @@ use Rattle.collections.specs.File.{lineCount, linesIn, lastIn, refusal22, lines
 use Rattle.posting.specs.Posting.{balanceAfter, isPostedOn, withBalance, postedRow, isPostedIn, afterLine, afterLines, postedLines, listedFrom}
 use Rattle.balancing.specs.Under.{linesUnder}
 use Rattle.balancing.specs.Balances.{balanceGiven, keyBalance, excess, excessesFrom}
-use Rattle.posting.specs.Post.{carriedOut, postOutcome}
+use Rattle.posting.specs.Post.{postOutcome}
 use Rattle.balancing.specs.Table.{row, lineWith, line, lastOf, last, field, file, Examples}
 
 pub examples : Examples
@@ -28,7 +29,7 @@ unfolding
     isName hasLetter blocks joined over isCaseType isSoundKey orderOf isLess belowFirst rising isLive isDeleted rowWith withRow keysOf balance
     isBalanceZero areFieldsSound isEndSound isSoundRow areSoundRows lineKey isLastDigit isAmount amount amountCents collected adjusted isRight balanceAfter
     isPostedOn withBalance postedRow isPostedIn afterLine afterLines postedLines listedFrom linesUnder balanceGiven keyBalance excess excessesFrom
-    maxRows masterRefusal lineCount linesIn lastIn refusal3 refusal4 refusal22 linesAbove isTotal refusal23 refusal24 fileRefusal carriedOut postOutcome
+    maxRows masterRefusal lineCount linesIn lastIn refusal3 refusal4 refusal22 linesAbove isTotal refusal23 refusal24 fileRefusal outcomeBy postOutcome
     row lineWith line lastOf last field file
 examples =
     record {

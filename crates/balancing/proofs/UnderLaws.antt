@@ -11,7 +11,7 @@ use Rattle.casemaster.proofs.SearchLaws.{row-with-same, row-with-other}
 use Rattle.casemaster.proofs.RowsLaws.{Fit}
 use Rattle.collections.specs.Line.{lineKey}
 use Rattle.posting.specs.Posting.{isPosted, postedRow, isPostedIn, afterLine, afterLines, postedLines}
-use Rattle.balancing.specs.Under.{linesUnder, postedUnder, nextRow, runRow, runPosted}
+use Rattle.balancing.specs.Under.{linesUnder, postedUnder, nextRow, rowThrough, runPosted}
 use Rattle.posting.proofs.TurnLaws.{Turn, posted, left, turn, posted-key, after-fit}
 
 -- a line that isn't posted leaves its row
@@ -44,16 +44,16 @@ module _ (key : List ℕ) (rows : List (List ℕ)) (line : List ℕ) where
 -- ---- all lines
 
 pub row-run : (key : List ℕ) (rows lines : List (List ℕ)) → Fit rows
-    → rowWith key (afterLines rows lines) ≡ runRow (rowWith key rows) (linesUnder key lines)
-unfolding afterLines linesUnder runRow
+    → rowWith key (afterLines rows lines) ≡ rowThrough (rowWith key rows) (linesUnder key lines)
+unfolding afterLines linesUnder rowThrough
 row-run key rows [] f = refl
 row-run key rows (line ∷ lines) f =
     row-run key (afterLine rows line) lines (after-fit rows line f)
     ∙ go (sameBytes (lineKey line) key) (row-after key rows line f (sameBytes (lineKey line) key) refl)
   where
     go : (b : Bool) → rowWith key (afterLine rows line) ≡ cond b (nextRow line (rowWith key rows)) (rowWith key rows)
-        → runRow (rowWith key (afterLine rows line)) (linesUnder key lines)
-        ≡ runRow (rowWith key rows) (cond b (line ∷ []) [] ++ linesUnder key lines)
+        → rowThrough (rowWith key (afterLine rows line)) (linesUnder key lines)
+        ≡ rowThrough (rowWith key rows) (cond b (line ∷ []) [] ++ linesUnder key lines)
     go true e = rw e
     go false e = rw e
 

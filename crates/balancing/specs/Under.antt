@@ -25,9 +25,9 @@ nextRow line none = none
 nextRow line (some row) = some (cond (isPostedOn line row) (postedRow line row) row)
 
 -- each step gets the row or none that the one before returned; without lines the starting row is also the end
-unfoldable pub runRow : Option (List ℕ) → List (List ℕ) → Option (List ℕ)
-runRow row [] = row
-runRow row (line ∷ lines) = runRow (nextRow line row) lines
+unfoldable pub rowThrough : Option (List ℕ) → List (List ℕ) → Option (List ℕ)
+rowThrough row [] = row
+rowThrough row (line ∷ lines) = rowThrough (nextRow line row) lines
 
 unfoldable pub runPosted : Option (List ℕ) → List (List ℕ) → List Bool
 runPosted row [] = []

@@ -8,6 +8,8 @@ use lib.Dec.{eqb, leb, ltb, lit≤}
 use lib.ListN.{length, take, drop, length-drop, take-append-drop}
 use lib.Seq.{length-take-le}
 use borrow.Author.Tests.{eq-eqb, ne-eqb, lt-ltb, le-ltb, le-leb, leb-true, leb-false}
+use Rattle.answers.specs.Answer.{refuseIf, done, Run}
+use Rattle.answers.proofs.AnswerLaws.{outcome-refused, outcome-done}
 use Rattle.text.specs.Blocks.{joined, over, spliced}
 use Rattle.casemaster.specs.Master.{rowsOf}
 use Rattle.text.proofs.FieldsLaws.{length-columns}
@@ -15,10 +17,11 @@ use Rattle.text.proofs.BlocksLaws.{length-blocks, holds-over}
 use Rattle.reporting.specs.Rejects.{numbers, rejectRecords}
 use Rattle.reporting.specs.Counts.{Counts, countsOf, controlRecord}
 use Rattle.reporting.specs.Tally.{countsIn}
-use Rattle.batch.specs.Apply.{Outcome, IsOutcome, resultOf, resultIn, outcomeOf, callRows, callVerdicts, carriedOut, applyOutcome}
+use Rattle.batch.specs.Apply.{ApplyResult, ApplyBuffers, IsOutcome, resultIn, appliedAs, buffersLent, callRows, callVerdicts, applyRun, applyOutcome}
+use Rattle.batch.specs.Journaling.{resultOf, ranAs}
 use Rattle.batch.specs.Progress.{Worked}
 use Rattle.reporting.specs.declared.counts.Tally.{Tally}
-use Rattle.batch.specs.declared.apply.Applied.{Applied}
+use Rattle.batch.specs.declared.apply.RunResult.{RunResult}
 use Rattle.batch.specs.declared.apply.Applied.the-variants.{Refused}
 use Rattle.control.specs.Refusals.{batchRefusal}
 use Rattle.control.proofs.RefusalsLaws.{batch-behind}
@@ -26,7 +29,7 @@ use Rattle.casemaster.proofs.RefusalsLaws.{master-passed, master-refused}
 use Rattle.reporting.proofs.CountsLaws.{length-control}
 use Rattle.text.proofs.HoldsLaws.{holds-last}
 use Rattle.batch.proofs.KnownLaws.{Known}
-use Rattle.casemaster.specs.Refusals.{orElse, masterRefusal}
+use Rattle.casemaster.specs.Refusals.{masterRefusal}
 use Rattle.turns.specs.Adds.{addsWithoutRow}
 use Rattle.layout.specs.Batch.{detailCount, detailsOf, controlOf, submittingState}
 use Rattle.batch.specs.Call.{Call}
@@ -90,12 +93,12 @@ module _ (c : Call) where
 
 -- ---- in order
 
-opening : (a b : Bool) (behind : ℕ) → orElse a 1 (orElse b 2 behind) ≡ cond (eqb (orElse a 1 (orElse b 2 0)) 0) behind (orElse a 1 (orElse b 2 0))
+opening : (a b : Bool) (behind : ℕ) → refuseIf a 1 (refuseIf b 2 behind) ≡ cond (eqb (refuseIf a 1 (refuseIf b 2 0)) 0) behind (refuseIf a 1 (refuseIf b 2 0))
 opening true b behind = refl
 opening false true behind = refl
 opening false false behind = refl
 
-module _ (c : Call) (o : ℕ) (eo : o ≡ orElse (refusal1 (c .year)) 1 (orElse (refusal2 (c .locals)) 2 0)) where
+module _ (c : Call) (o : ℕ) (eo : o ≡ refuseIf (refusal1 (c .year)) 1 (refuseIf (refusal2 (c .locals)) 2 0)) where
   behind-opening : applyRefusal c ≡ cond (eqb o 0) (masterRefusal (c .limit) (c .master) (c .rows) (batchRefusal (c .limit) (c .batch) (spaceRefusal c))) o
   unfolding applyRefusal
   behind-opening = opening (refusal1 (c .year)) (refusal2 (c .locals)) _ ∙ rw (← eo)
@@ -122,18 +125,18 @@ module _ (c : Call) (o : ℕ) (eo : o ≡ orElse (refusal1 (c .year)) 1 (orElse 
 
 -- ---- the outcome
 
-pub ran : (c : Call) → Known c → (m : List ℕ) (n : ℕ) (v rj : List ℕ) (k : ℕ) (t : Tally) (rj′ : List ℕ) (a : Applied)
+pub ran : (c : Call) → Known c → (m : List ℕ) (n : ℕ) (v rj : List ℕ) (k : ℕ) (t : Tally) (rj′ : List ℕ) (r : RunResult)
     → Worked c m n v rj k t
     → length v ≡ length (c .verdicts)
     → length rj ≡ length (c .rejects)
     → length (submittingState (c .batch)) ≡ 2
     → rj′ ≡ spliced rj (k * 245) (controlRecord (submittingState (c .batch)) (countsIn t))
-    → resultOf a ≡ resultIn (countsIn t) n
-    → outcomeOf a m v rj′ ≡ carriedOut c
-unfolding carriedOut over
-ran c q m n v rj k t rj′ a w lv lr ls er ea =
+    → resultOf r ≡ resultIn (countsIn t) n
+    → ranAs r m v rj′ ≡ applyRun c
+unfolding applyRun over
+ran c q m n v rj k t rj′ r w lv lr ls er ea =
     let d = detailCount (c .batch) in
-    let e1 : resultOf a ≡ resultIn (countsOf (detailsOf (c .batch)) (callVerdicts c)) (length (callRows c)) =
+    let e1 : resultOf r ≡ resultIn (countsOf (detailsOf (c .batch)) (callVerdicts c)) (length (callRows c)) =
     ea ∙ ap (λ (z : Counts). resultIn z n) (w .counts-are) ∙ ap (resultIn (countsOf (detailsOf (c .batch)) (callVerdicts c))) (sym (length-blocks 200 n m) ∙ ap length (w .rows-are)) in
     let e2 : m ≡ over (joined (callRows c)) (c .master) =
     holds-over 200 (c .master) m n (callRows c) (record { blocks-are = w .rows-are; rest-kept = w .rows-kept }) (w .rows-in) in
@@ -143,16 +146,17 @@ ran c q m n v rj k t rj′ a w lv lr ls er ea =
     let e4 : rj′ ≡ over (joined (rejectRecords (detailsOf (c .batch)) (callVerdicts c)) ++ controlRecord (submittingState (c .batch)) (countsOf (detailsOf (c .batch)) (callVerdicts c))) (c .rejects) =
     er ∙ holds-last 245 (controlRecord (submittingState (c .batch)) (countsIn t)) (record { blocks-are = w .rejects-are; rest-kept = w .rejects-kept }) (length-control (submittingState (c .batch)) (countsIn t) ls) (omega (arith, q .space, w .rejects-few))
     ∙ ap (λ (z : Counts). over (joined (rejectRecords (detailsOf (c .batch)) (callVerdicts c)) ++ controlRecord (submittingState (c .batch)) z) (c .rejects)) (w .counts-are) in
-    λ j. record { result = e1 j; master = e2 j; verdicts = e3 j; rejects = e4 j }
+    λ j. record { result = e1 j; buffers = record { master = e2 j; verdicts = e3 j; rejects = e4 j } }
 
 module _ (c : Call) (n : ℕ) (e : n ≡ applyRefusal c) where
-  pub outcome-refused : (n ≡ 0 → ⊥) → IsOutcome c (outcomeOf (Refused n) (c .master) (c .verdicts) (c .rejects))
+  pub apply-refused : (n ≡ 0 → ⊥) → IsOutcome c (appliedAs (Refused n) (c .master) (c .verdicts) (c .rejects))
   unfolding applyOutcome
-  outcome-refused h = record { is = sym (rw (← e, ne-eqb n 0 h)) }
+  apply-refused h = record { is = outcome-refused _ (buffersLent c) (applyRun c) n e h }
 
-  pub outcome-done : n ≡ 0 → (o : Outcome) → o ≡ carriedOut c → IsOutcome c o
+  pub apply-done : n ≡ 0 → (run : Run ApplyResult ApplyBuffers) → run ≡ applyRun c
+      → IsOutcome c (record { answer = done (run .result); buffers = run .buffers })
   unfolding applyOutcome
-  outcome-done z o h = record { is = h ∙ sym (rw (← e, eq-eqb n 0 z)) }
+  apply-done z run h = record { is = rw h (outcome-done _ (buffersLent c) (applyRun c) (sym e ∙ z)) }
 
 -- the submitting state is two bytes
 pub state-two : (c : Call) → Known c → length (submittingState (c .batch)) ≡ 2

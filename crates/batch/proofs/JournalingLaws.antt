@@ -114,8 +114,9 @@ module _ (c : Call) (limit-is : c .limit ≡ maxRows) (k : Known c) (st : List �
               journal-whole journal journal₁ journal₂ at written (rowsOf (c .rows) (c .master)) (rowsOf n m₂)
               (subst (λ (z : List ℕ). length z ≤ length journal) (sym i) (omega arith)) (subst (λ (z : List ℕ). Wrote journal 0 z journal₁ at) (sym i) a) b
 
--- the journal of the rows that the work left is the call's
-pub run-wrote : (c : Call) (wanted : Bool) (journal : List ℕ) (n : ℕ) (master journal′ : List ℕ) (written : ℕ) → rowsOf n master ≡ callRows c
-    → Wrote journal 0 (wholeJournal wanted (rowsOf (c .rows) (c .master)) (rowsOf n master)) journal′ written → Wrote journal 0 (journalWanted c wanted) journal′ written
-run-wrote c wanted journal n master journal′ written e w =
-    subst (λ (z : List (List ℕ)). Wrote journal 0 (wholeJournal wanted (rowsOf (c .rows) (c .master)) z) journal′ written) e w
+-- the journal of the rows that the work left is the call's, and its length is answered
+pub run-wrote : (c : Call) (wanted : Bool) (journal : List ℕ) (n : ℕ) (master journal′ : List ℕ) (written answered : ℕ) → rowsOf n master ≡ callRows c
+    → Wrote journal 0 (wholeJournal wanted (rowsOf (c .rows) (c .master)) (rowsOf n master)) journal′ written → answered ≡ written
+    → Wrote journal 0 (journalWanted c wanted) journal′ answered
+run-wrote c wanted journal n master journal′ written answered e w l =
+    rw l (subst (λ (z : List (List ℕ)). Wrote journal 0 (wholeJournal wanted (rowsOf (c .rows) (c .master)) z) journal′ written) e w)

@@ -1,8 +1,7 @@
--- What is known of a call that no refusal stops, each refusal read once, and that a batch which is carried out is such a call.
--- Assumes nothing.
-use Prim.Native.Nat.{ℕ, _+_, _*_, _/_, _%_, _^_, _≤_}
-use mathlib.Core.Path.{_≡_, refl, sym, ap, _∙_}
-use mathlib.Core.Bool.{Bool, true, false, not, cond, _||_, false≢true}
+-- What is known of a call that no refusal stops, each refusal read once. Assumes nothing.
+use Prim.Native.Nat.{ℕ, _+_, _*_, _/_, _%_, _≤_}
+use mathlib.Core.Path.{_≡_}
+use mathlib.Core.Bool.{true, not, _||_}
 use native.Mathlib.Omega.{arith}
 use lib.Dec.{eqb, ltb}
 use lib.ListN.{length}
@@ -11,13 +10,12 @@ use Rattle.casemaster.specs.Master.{rowsOf, areSoundRows}
 use Rattle.layout.specs.Locals.{isLocalList}
 use Rattle.text.proofs.BoolLaws.{or-left, or-right}
 use Rattle.control.proofs.RefusalsLaws.{KnownBatch}
-use Rattle.batch.proofs.PassedLaws.{Passed, passed}
+use Rattle.batch.proofs.PassedLaws.{Passed}
 use Rattle.casemaster.specs.Refusals.{refusal3, refusal4}
 use Rattle.turns.specs.Adds.{addsWithoutRow}
 use Rattle.layout.specs.Batch.{detailCount, detailsOf}
-use Rattle.batch.specs.Apply.{Outcome, leftAlone, carriedOut, applyOutcome, IsOutcome, isCarriedOut}
 use Rattle.batch.specs.Call.{Call}
-use Rattle.batch.specs.Refusals.{refusal1, refusal2, refusal9, refusal10, refusal11, applyRefusal}
+use Rattle.batch.specs.Refusals.{refusal1, refusal2, refusal9, refusal10, refusal11}
 
 -- all that follows from no refusal
 pub record Known (c : Call) : Type 0 where
@@ -67,21 +65,3 @@ known c p =
       slots = ltb-false (length (c .verdicts)) (detailCount (c .batch)) (p .no10);
       space = omega (arith, eleven);
     }
-
--- ---- a batch that is carried out
-
-module _ (c : Call) (o : Outcome) (i : IsOutcome c o) (t : isCarriedOut (o .result) ≡ true) where
-  none-holds : applyRefusal c ≡ 0
-  unfolding applyOutcome
-  none-holds = go (eqb (applyRefusal c) 0) refl (i .is)
-    where
-      go : (b : Bool) → eqb (applyRefusal c) 0 ≡ b → o ≡ cond b (carriedOut c) (leftAlone (applyRefusal c) c) → applyRefusal c ≡ 0
-      go true e h = eqb-true (applyRefusal c) 0 e
-      go false e h = absurd (false≢true (sym (ap (λ (q : Outcome). isCarriedOut (q .result)) h) ∙ t))
-
-  pub carried-known : Known c
-  carried-known = known c (passed c none-holds)
-
-  pub carried-is : o ≡ carriedOut c
-  unfolding applyOutcome
-  carried-is = i .is ∙ rw none-holds

@@ -1,5 +1,6 @@
 pub mod PassedLaws
 pub mod ApplyLaws
 pub mod KnownLaws
+pub mod CarriedLaws
 pub mod WorkedLaws
 pub mod JournalingLaws

@@ -2,7 +2,8 @@
 use mathlib.Core.Path.{_≡_}
 use mathlib.Core.Bool.{false}
 use Rattle.casemaster.specs.Refusals.{refusal3, refusal4, masterRefusal}
-use Rattle.control.proofs.RefusalsLaws.{not-first, KnownBatch, batch-known}
+use Rattle.answers.proofs.AnswerLaws.{refuse-none}
+use Rattle.control.proofs.RefusalsLaws.{KnownBatch, batch-known}
 use Rattle.batch.specs.Call.{Call}
 use Rattle.batch.specs.Refusals.{refusal1, refusal2, refusal9, refusal10, refusal11, spaceRefusal, applyRefusal}
 
@@ -20,14 +21,14 @@ pub record Passed (c : Call) : Type 0 where
 pub passed : (c : Call) → applyRefusal c ≡ 0 → Passed c
 unfolding applyRefusal masterRefusal spaceRefusal
 passed c e =
-    let p1 = not-first 0 _ _ e in
-    let p2 = not-first 1 _ _ (p1 .1) in
-    let p3 = not-first 2 _ _ (p2 .1) in
-    let p4 = not-first 3 _ _ (p3 .1) in
+    let p1 = refuse-none _ 0 _ e in
+    let p2 = refuse-none _ 1 _ (p1 .1) in
+    let p3 = refuse-none _ 2 _ (p2 .1) in
+    let p4 = refuse-none _ 3 _ (p3 .1) in
     let pb = batch-known (c .limit) (c .batch) _ (p4 .1) in
-    let p9 = not-first 8 _ _ (pb .1) in
-    let p10 = not-first 9 _ _ (p9 .1) in
-    let p11 = not-first 10 _ _ (p10 .1) in
+    let p9 = refuse-none _ 8 _ (pb .1) in
+    let p10 = refuse-none _ 9 _ (p9 .1) in
+    let p11 = refuse-none _ 10 _ (p10 .1) in
     record {
       no1 = p1 .0;
       no2 = p2 .0;

@@ -10,9 +10,10 @@ use Rattle.journal.specs.Journal.{journalOf, journalBytes}
 use Rattle.journal.specs.Writing.{Wrote}
 use Rattle.reporting.specs.declared.verdicts.Progress.{Progress}
 use Rattle.batch.specs.Call.{Call}
-use Rattle.batch.specs.Apply.{callRows, carriedOut, outcomeOf}
+use Rattle.answers.specs.Answer.{Run}
+use Rattle.batch.specs.Apply.{ApplyResult, ApplyBuffers, callRows, applyRun}
 use Rattle.batch.specs.Progress.{Worked}
-use Rattle.batch.specs.declared.apply.Journaled.{Journaled}
+use Rattle.batch.specs.declared.apply.RunResult.{RunResult}
 
 -- the bytes of the counts, where a journal is wanted
 abbrev pub countsPart : Bool → ℕ → ℕ → List ℕ
@@ -31,7 +32,14 @@ pub record WorkJournaled (c : Call) (wanted : Bool) (journal master verdicts rej
   pub worked : Worked c master (p .rows) verdicts rejects (p .rejects) (p .tally)
   pub wrote : Wrote journal 0 (wholeJournal wanted (rowsOf (c .rows) (c .master)) (rowsOf (p .rows) master)) journal′ written
 
+-- what the result of a run stands for, the journal's length aside
+abbrev pub resultOf : RunResult → ApplyResult
+resultOf r = record { accepted = r .accepted; rejected = r .rejected; warned = r .warned; neither = r .neither; rows = r .rows }
+
+abbrev pub ranAs : RunResult → List ℕ → List ℕ → List ℕ → Run ApplyResult ApplyBuffers
+ranAs r master verdicts rejects = record { result = resultOf r; buffers = record { master = master; verdicts = verdicts; rejects = rejects } }
+
 -- a batch carried out, and the journal of it
-pub record RunJournaled (c : Call) (wanted : Bool) (journal master verdicts rejects : List ℕ) (r : Journaled) (journal′ : List ℕ) : Type 0 where
-  pub is : outcomeOf (r .applied) master verdicts rejects ≡ carriedOut c
+pub record RunJournaled (c : Call) (wanted : Bool) (journal master verdicts rejects : List ℕ) (r : RunResult) (journal′ : List ℕ) : Type 0 where
+  pub is : ranAs r master verdicts rejects ≡ applyRun c
   pub wrote : Wrote journal 0 (journalWanted c wanted) journal′ (r .written)

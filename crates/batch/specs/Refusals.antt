@@ -5,10 +5,11 @@ use mathlib.Core.List.{List}
 use mathlib.Core.Bool.{Bool, not, _||_}
 use lib.Dec.{ltb}
 use lib.ListN.{length}
+use Rattle.answers.specs.Answer.{refuseIf}
 use Rattle.layout.specs.Locals.{isLocalList}
 use Rattle.layout.specs.Batch.{detailCount, detailsOf}
 use Rattle.casemaster.specs.Master.{rowsOf}
-use Rattle.casemaster.specs.Refusals.{orElse, masterRefusal}
+use Rattle.casemaster.specs.Refusals.{masterRefusal}
 use Rattle.turns.specs.Adds.{addsWithoutRow}
 use Rattle.control.specs.Refusals.{batchRefusal}
 use Rattle.batch.specs.Call.{Call}
@@ -38,13 +39,13 @@ refusal11 batch rejects = ltb (length rejects) (245 * (detailCount batch + 1))
 -- the first of 9, 10 and 11 that holds, 0 where none does
 unfoldable pub spaceRefusal : Call → ℕ
 spaceRefusal c =
-    orElse (refusal9 (c .limit) (c .master) (c .rows) (c .batch)) 9
-    (orElse (refusal10 (c .batch) (c .verdicts)) 10
-    (orElse (refusal11 (c .batch) (c .rejects)) 11 0))
+    refuseIf (refusal9 (c .limit) (c .master) (c .rows) (c .batch)) 9
+    (refuseIf (refusal10 (c .batch) (c .verdicts)) 10
+    (refuseIf (refusal11 (c .batch) (c .rejects)) 11 0))
 
 -- the first of 1 to 5, 6, 20, 21 and 7 to 11 that holds, 0 where none does
 unfoldable pub applyRefusal : Call → ℕ
 applyRefusal c =
-    orElse (refusal1 (c .year)) 1
-    (orElse (refusal2 (c .locals)) 2
+    refuseIf (refusal1 (c .year)) 1
+    (refuseIf (refusal2 (c .locals)) 2
     (masterRefusal (c .limit) (c .master) (c .rows) (batchRefusal (c .limit) (c .batch) (spaceRefusal c))))

@@ -23,8 +23,8 @@ ghost use Rattle.reporting.specs.Tally.{countsIn, AtMost};
 ghost use Rattle.journal.specs.Numbers.{numberBytes};
 ghost use Rattle.journal.specs.Space.{journalSpace};
 ghost use Rattle.journal.specs.Writing.{Wrote};
-ghost use Rattle.batch.specs.Journaling.{countsPart, WorkJournaled, RunJournaled};
-ghost use Rattle.batch.specs.Apply.{resultOf, resultIn, outcomeOf, IsOutcome};
+ghost use Rattle.batch.specs.Journaling.{countsPart, WorkJournaled, resultOf, RunJournaled};
+ghost use Rattle.batch.specs.Apply.{resultIn, appliedAs, IsOutcome};
 ghost use Rattle.layout.specs.Batch.{detailCount, submittingState};
 ghost use Rattle.batch.specs.Call.{callOf};
 ghost use Rattle.batch.specs.Refusals.{applyRefusal};
@@ -47,9 +47,13 @@ pub struct JournaledWork {
     pub written: usize,
 }
 
-// The answer of a call that may write a journal, and the journal's length.
-pub struct Journaled {
-    pub applied: Applied,
+// The result of a run that is carried out, and the journal's length.
+pub struct RunResult {
+    pub accepted: u64,
+    pub rejected: u64,
+    pub warned: u64,
+    pub neither: u64,
+    pub rows: usize,
     pub written: usize,
 }
 
@@ -109,22 +113,23 @@ fn work(
     JournaledWork { progress, written }
 }
 
-// Writes the control record behind the reject records, and answers the counts.
-fn finish(s: Progress, state: &[u8], rejects: &mut [u8], d: usize) -> Applied
+// Writes the control record behind the reject records, and answers the counts, with the journal's length.
+fn finish(s: Progress, state: &[u8], rejects: &mut [u8], d: usize, written: usize) -> RunResult
     requires { ⌜ (length (now state) ≡ 2) × (s .rejects * 245 + 245 ≤ length (now rejects)) × (AtMost d (s .tally)) × (d < 9223372036854775807) ⌝ }
     ensures { λ r. ⌜ now (rejects .exit) ≡ spliced (now (rejects .entry)) (s .rejects * 245) (controlRecord (now (state .entry)) (countsIn (s .tally))) ⌝ }
-    ensures { λ r. ⌜ resultOf r ≡ resultIn (countsIn (s .tally)) (s .rows) ⌝ }
+    ensures { λ r. ⌜ (resultOf r ≡ resultIn (countsIn (s .tally)) (s .rows)) × (r .written ≡ written) ⌝ }
 {
     let t = s.tally;
     let k = s.rejects;
     let last = counts::control_record(state, t);
     fields::copy_in(rejects, k * 245, &last);
-    Applied::Done {
+    RunResult {
         accepted: t.tanf_accepted + t.non_tanf_accepted,
         rejected: t.tanf_rejected + t.non_tanf_rejected,
         warned: t.tanf_warned + t.non_tanf_warned,
         neither: t.neither,
         rows: s.rows,
+        written,
     }
 }
 
@@ -139,7 +144,7 @@ pub fn run(
     rejects: &mut [u8],
     journal: &mut [u8],
     wanted: bool,
-) -> Journaled
+) -> RunResult
     requires { ⌜ applyRefusal (callOf (now m) n (now batch) (now locals) year (now verdicts) (now rejects)) ≡ 0 ⌝ }
     requires { ⌜ (wanted ≡ true → journalSpace (detailCount (now batch)) ≤ length (now journal)) ⌝ }
     ensures { λ r. ⌜ RunJournaled (callOf (now (m .entry)) n (now (batch .entry)) (now (locals .entry)) year (now (verdicts .entry)) (now (rejects .entry)))
@@ -161,11 +166,7 @@ pub fn run(
         wanted,
     );
     let p = s.progress;
-    let applied = finish(p, state, rejects, d);
-    Journaled {
-        applied,
-        written: s.written,
-    }
+    finish(p, state, rejects, d, s.written)
 }
 
 // Applies a batch to a master of so many rows.
@@ -180,7 +181,7 @@ pub fn apply(
 ) -> Applied
     ensures { λ r. ⌜ IsOutcome
         (callOf (now (master .entry)) rows (now (batch .entry)) (now (locals .entry)) year (now (verdicts .entry)) (now (rejects .entry)))
-        (outcomeOf r (now (master .exit)) (now (verdicts .exit)) (now (rejects .exit))) ⌝ }
+        (appliedAs r (now (master .exit)) (now (verdicts .exit)) (now (rejects .exit))) ⌝ }
 {
     let number = refusals::first_refusal(master, rows, batch, locals, year, verdicts, rejects);
     if number != 0 {
@@ -198,5 +199,11 @@ pub fn apply(
         &mut journal,
         false,
     );
-    r.applied
+    Applied::Done {
+        accepted: r.accepted,
+        rejected: r.rejected,
+        warned: r.warned,
+        neither: r.neither,
+        rows: r.rows,
+    }
 }

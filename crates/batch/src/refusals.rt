@@ -9,16 +9,16 @@ ghost use mathlib.Core.Bool.{true, _&&_};
 ghost use Prim.Native.Nat.{ℕ, _+_, _*_, _/_, _≤_};
 ghost use lib.Dec.{leb};
 ghost use lib.ListN.{length};
+ghost use Rattle.answers.specs.Answer.{refuseIf};
 ghost use Rattle.layout.specs.Limits.{maxRows};
 ghost use Rattle.layout.specs.Batch.{detailCount};
 ghost use Rattle.casemaster.specs.Master.{rowsOf, areSoundRows};
-ghost use Rattle.casemaster.specs.Refusals.{orElse};
 ghost use Rattle.batch.specs.Call.{callOf};
 ghost use Rattle.batch.specs.Refusals.{refusal1, refusal2, refusal9, spaceRefusal, applyRefusal};
 
 // The number of the first of refusals 1 and 2 that holds, or 0.
 fn opening_refusal(year: u64, locals: &[u8]) -> u64
-    ensures { λ r. ⌜ r ≡ orElse (refusal1 year) 1 (orElse (refusal2 (now (locals .entry))) 2 0) ⌝ }
+    ensures { λ r. ⌜ r ≡ refuseIf (refusal1 year) 1 (refuseIf (refusal2 (now (locals .entry))) 2 0) ⌝ }
 {
     if year < 1900 {
         return 1;

@@ -9,16 +9,17 @@ use native.Mathlib.Nat.{suc-ne-zero}
 use borrow.Author.Tests.{not-false, ltb-false}
 use lib.Dec.{eqb, ltb}
 use lib.ListN.{length}
+use Rattle.answers.specs.Answer.{refuseIf}
 use Rattle.layout.specs.Limits.{maxRows}
 use Rattle.casemaster.specs.Master.{rowsOf, areSoundRows, areSoundOldRows}
-use Rattle.casemaster.specs.Refusals.{refusal3, refusal4, orElse, masterRefusal, oldMasterRefusal}
+use Rattle.casemaster.specs.Refusals.{refusal3, refusal4, masterRefusal, oldMasterRefusal}
 
 module _ (limit : ℕ) (master : List ℕ) (rows : ℕ) where
   pub master-passed : masterRefusal limit master rows 0 ≡ 0 → (behind : ℕ) → masterRefusal limit master rows behind ≡ behind
   unfolding masterRefusal
   master-passed e behind = go (refusal3 limit master rows) (refusal4 master rows) e
     where
-      go : (a b : Bool) → orElse a 3 (orElse b 4 0) ≡ 0 → orElse a 3 (orElse b 4 behind) ≡ behind
+      go : (a b : Bool) → refuseIf a 3 (refuseIf b 4 0) ≡ 0 → refuseIf a 3 (refuseIf b 4 behind) ≡ behind
       go true b e = absurd (omega arith)
       go false true e = absurd (omega arith)
       go false false e = refl
@@ -27,18 +28,18 @@ module _ (limit : ℕ) (master : List ℕ) (rows : ℕ) where
   unfolding masterRefusal
   master-refused h behind = go (refusal3 limit master rows) (refusal4 master rows) h
     where
-      go : (a b : Bool) → (orElse a 3 (orElse b 4 0) ≡ 0 → ⊥) → orElse a 3 (orElse b 4 behind) ≡ orElse a 3 (orElse b 4 0)
+      go : (a b : Bool) → (refuseIf a 3 (refuseIf b 4 0) ≡ 0 → ⊥) → refuseIf a 3 (refuseIf b 4 behind) ≡ refuseIf a 3 (refuseIf b 4 0)
       go true b h = refl
       go false true h = refl
       go false false h = absurd (h refl)
 
 -- what is known of a master that neither refuses, whatever 4 is over
-module _ (limit : ℕ) (master : List ℕ) (rows : ℕ) (four : Bool) (e : orElse (refusal3 limit master rows) 3 (orElse four 4 0) ≡ 0) where
+module _ (limit : ℕ) (master : List ℕ) (rows : ℕ) (four : Bool) (e : refuseIf (refusal3 limit master rows) 3 (refuseIf four 4 0) ≡ 0) where
   rows-inside : rows ≤ length master / 200
   unfolding refusal3
   rows-inside = go (not (eqb (length master % 200) 0)) (ltb (length master / 200) rows) refl (ltb limit rows) four e
     where
-      go : (a b : Bool) → ltb (length master / 200) rows ≡ b → (c d : Bool) → orElse (a || b || c) 3 (orElse d 4 0) ≡ 0
+      go : (a b : Bool) → ltb (length master / 200) rows ≡ b → (c d : Bool) → refuseIf (a || b || c) 3 (refuseIf d 4 0) ≡ 0
           → rows ≤ length master / 200
       go a false t c d e = ltb-false (length master / 200) rows t
       go true true t c d e = absurd (omega arith)
@@ -47,7 +48,7 @@ module _ (limit : ℕ) (master : List ℕ) (rows : ℕ) (four : Bool) (e : orEls
   not-four : four ≡ false
   not-four = go (refusal3 limit master rows) four e
     where
-      go : (a b : Bool) → orElse a 3 (orElse b 4 0) ≡ 0 → b ≡ false
+      go : (a b : Bool) → refuseIf a 3 (refuseIf b 4 0) ≡ 0 → b ≡ false
       go true b e = absurd (suc-ne-zero 2 e)
       go false true e = absurd (suc-ne-zero 3 e)
       go false false e = refl
@@ -64,7 +65,7 @@ module _ (limit : ℕ) (master : List ℕ) (rows : ℕ) where
   master-limit e =
       go (not (eqb (length master % 200) 0) || ltb (length master / 200) rows) (ltb limit rows) refl (refusal4 master rows) e
     where
-      go : (a b : Bool) → ltb limit rows ≡ b → (c : Bool) → orElse (a || b) 3 (orElse c 4 0) ≡ 0 → rows ≤ limit
+      go : (a b : Bool) → ltb limit rows ≡ b → (c : Bool) → refuseIf (a || b) 3 (refuseIf c 4 0) ≡ 0 → rows ≤ limit
       go a false t c e = ltb-false limit rows t
       go true true t c e = absurd (omega arith)
       go false true t c e = absurd (omega arith)

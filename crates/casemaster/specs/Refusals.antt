@@ -2,15 +2,12 @@
 -- Assumes nothing.
 use Prim.Native.Nat.{ℕ, _/_, _%_}
 use mathlib.Core.List.{List}
-use mathlib.Core.Bool.{Bool, not, cond, _||_}
+use mathlib.Core.Bool.{Bool, not, _||_}
 use lib.Dec.{eqb, ltb}
 use lib.ListN.{length}
+use Rattle.answers.specs.Answer.{refuseIf}
 use Rattle.layout.specs.Limits.{maxRows}
 use Rattle.casemaster.specs.Master.{rowsOf, areSoundRows, areSoundOldRows}
-
--- the number of a refusal where it holds, else of the first behind it
-abbrev pub orElse : Bool → ℕ → ℕ → ℕ
-orElse holds refusal behind = cond holds refusal behind
 
 -- 3: master length no multiple of 200, or row count above length ÷ 200 or the limit (16,777,215)
 unfoldable pub refusal3 : ℕ → List ℕ → ℕ → Bool
@@ -22,8 +19,8 @@ refusal4 master rows = not (areSoundRows (rowsOf rows master))
 
 -- the first of 3 and 4 that holds, else what comes behind
 unfoldable pub masterRefusal : ℕ → List ℕ → ℕ → ℕ → ℕ
-masterRefusal limit master rows behind = orElse (refusal3 limit master rows) 3 (orElse (refusal4 master rows) 4 behind)
+masterRefusal limit master rows behind = refuseIf (refusal3 limit master rows) 3 (refuseIf (refusal4 master rows) 4 behind)
 
 -- over rows without cents
 unfoldable pub oldMasterRefusal : List ℕ → ℕ → ℕ
-oldMasterRefusal master rows = orElse (refusal3 maxRows master rows) 3 (orElse (not (areSoundOldRows (rowsOf rows master))) 4 0)
+oldMasterRefusal master rows = refuseIf (refusal3 maxRows master rows) 3 (refuseIf (not (areSoundOldRows (rowsOf rows master))) 4 0)

@@ -9,8 +9,12 @@ use native.Mathlib.Numerals.{add-one}
 use lib.ListN.{length, getD, drop, drop-of-length-le}
 use lib.Seq.{drop-cons}
 use borrow.Author.Tests.{lt-ltb, le-ltb}
+use Rattle.answers.specs.Answer.{Answer, refused, done, NoResult, Outcome, Run, outcomeBy}
+use Rattle.answers.proofs.AnswerLaws.{outcome-refused, outcome-done}
+use Rattle.text.specs.Blocks.{over}
 use Rattle.codepage.specs.Tables.{codeIn, entriesOf}
-use Rattle.codepage.specs.Conversion.{placeBehind, placeWithout, counterparts, converted, noCounterpart, tooShort, conversionResult, conversionOutcome}
+use Rattle.codepage.specs.Conversion.{placeBehind, placeWithout, counterparts, conversionRefusal, conversionRun, conversionOutcome, convertedAs}
+use Rattle.codepage.specs.declared.conversion.Converted.the-variants.{Done, NoCounterpart, TooShort}
 use Rattle.codepage.proofs.TablesLaws.{code-entry}
 
 -- ---- where a file stops: the place of the first byte without a counterpart, or its length
@@ -100,24 +104,42 @@ stops code s h = place-of (length s) (placeWithout code s) h
 -- ---- the outcome, in the order of the refusals
 
 module _ (code : ℕ → Option ℕ) (input out : List ℕ) where
-  pub outcome-16 : (p : ℕ) → p ≡ stop code input → p < length input
-      → record { result = noCounterpart p; out = out } ≡ conversionOutcome code input out
-  unfolding conversionResult conversionOutcome
-  outcome-16 p e h = let w : placeWithout code input ≡ some p = stops code input (omega arith) ∙ ap some (sym e) in rw w
+  abbrev run : Run NoResult (List ℕ)
+  run = conversionRun code input out
 
-  pub outcome-17 : placeWithout code input ≡ none → length out < length input
-      → record { result = tooShort; out = out } ≡ conversionOutcome code input out
-  unfolding conversionResult conversionOutcome
-  outcome-17 e l = rw (e, lt-ltb _ _ l)
+  -- where every byte has a counterpart no place is told, and 17 alone is left
+  conversion-by : (answer : Answer NoResult) (left : List ℕ) → placeWithout code input ≡ none
+      → record { answer = answer; buffers = left } ≡ outcomeBy (conversionRefusal code input out) out run
+      → record { outcome = record { answer = answer; buffers = left }; place = none } ≡ conversionOutcome code input out
+  unfolding conversionOutcome
+  conversion-by answer left e o = rw e (ap (λ (q : Outcome NoResult (List ℕ)). record { outcome = q; place = none }) o)
 
-  pub outcome-done : placeWithout code input ≡ none → length input ≤ length out
-      → conversionOutcome code input out ≡ record { result = converted; out = counterparts code input ++ drop (length input) out }
-  unfolding conversionResult conversionOutcome
-  outcome-done e l = rw (e, le-ltb _ _ l, length-counterparts code input e)
+  pub conversion-16 : (p : ℕ) → p ≡ stop code input → p < length input → convertedAs (NoCounterpart p) out ≡ conversionOutcome code input out
+  unfolding conversionOutcome conversionRefusal
+  conversion-16 p e h =
+      let w : placeWithout code input ≡ some p = stops code input (omega arith) ∙ ap some (sym e) in
+      let o : record { answer = refused 16; buffers = out } ≡ outcomeBy (conversionRefusal code input out) out run =
+      outcome-refused (conversionRefusal code input out) out run 16 (sym (rw w)) (λ z. omega arith) in
+      ap (λ (q : Outcome NoResult (List ℕ)). record { outcome = q; place = some p }) o
+      ∙ ap (λ (q : Option ℕ). record { outcome = outcomeBy (conversionRefusal code input out) out run; place = q }) (sym w)
+
+  pub conversion-17 : placeWithout code input ≡ none → length out < length input → convertedAs TooShort out ≡ conversionOutcome code input out
+  unfolding conversionRefusal
+  conversion-17 e l =
+      conversion-by (refused 17) out e (outcome-refused (conversionRefusal code input out) out run 17 (sym (rw (e, lt-ltb _ _ l))) (λ z. omega arith))
+
+  pub conversion-done : placeWithout code input ≡ none → length input ≤ length out
+      → convertedAs Done (over (counterparts code input) out) ≡ conversionOutcome code input out
+  unfolding conversionRefusal
+  conversion-done e l =
+      conversion-by (done tt) (over (counterparts code input) out) e
+      (outcome-done (conversionRefusal code input out) out run (rw (e, le-ltb _ _ l)))
 
 -- by a table
-pub outcome-entries : (table input out left : List ℕ) → placeWithout (codeIn table) input ≡ none → length input ≤ length out
-    → left ≡ entriesOf table input ++ drop (length input) out
-    → record { result = converted; out = left } ≡ conversionOutcome (codeIn table) input out
-outcome-entries table input out left e l w =
-    sym (outcome-done (codeIn table) input out e l ∙ rw (counterparts-entries table input e, w))
+pub conversion-entries : (table input out left : List ℕ) → placeWithout (codeIn table) input ≡ none → length input ≤ length out
+    → left ≡ entriesOf table input ++ drop (length input) out → convertedAs Done left ≡ conversionOutcome (codeIn table) input out
+unfolding over
+conversion-entries table input out left e l w =
+    let s : left ≡ over (counterparts (codeIn table) input) out =
+    w ∙ rw (length-counterparts (codeIn table) input e, counterparts-entries table input e) in
+    ap (convertedAs Done) s ∙ conversion-done (codeIn table) input out e l

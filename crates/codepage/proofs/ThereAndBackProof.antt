@@ -2,17 +2,20 @@
 -- Assumes nothing.
 use Prim.Native.Nat.{ℕ, _≤_}
 use mathlib.Core.Path.{_≡_, refl, sym, ap, _∙_}
-use mathlib.Core.Bool.{Bool, true, false}
+use mathlib.Core.Bool.{Bool, true, false, false≢true}
 use mathlib.Core.List.{List, [], _∷_}
 use mathlib.Core.Option.{Option, none, some}
 use native.Mathlib.Omega.{arith}
-use lib.ListN.{length, take, drop}
+use lib.ListN.{length, take}
 use lib.Seq.{take-at}
 use borrow.Author.Tests.{ltb-false}
+use Rattle.answers.specs.Answer.{isCarriedOut}
+use Rattle.answers.proofs.AnswerLaws.{refuse-none, none-holds}
+use Rattle.text.specs.Blocks.{over}
 use Rattle.codepage.specs.CodePage.{ebcdicOf, asciiOf}
-use Rattle.codepage.specs.Conversion.{placeWithout, counterparts, resultBy, refusal17, converted, ConversionOutcome, conversionResult, conversionOutcome, IsConversion}
+use Rattle.codepage.specs.Conversion.{placeWithout, counterparts, refusal16, refusal17, conversionRefusal, conversionRun, ConversionOutcome, conversionOutcome, IsConversion}
 use Rattle.codepage.specs.ThereAndBack.{Undone, ThereAndBack}
-use Rattle.codepage.proofs.ConversionLaws.{passes-head, passes-tail, length-counterparts, outcome-done}
+use Rattle.codepage.proofs.ConversionLaws.{passes-head, passes-tail, length-counterparts, conversion-done}
 use Rattle.codepage.proofs.CodePageLaws.{ebcdic-bytewise, ascii-bytewise, inverse-tables, undoes-code}
 
 -- ---- the bytes
@@ -38,37 +41,41 @@ pub record Passed (code : ℕ → Option ℕ) (input out : List ℕ) : Type 0 wh
   pub each : placeWithout code input ≡ none
   pub room : length input ≤ length out
 
-passed-by : (o : Option ℕ) (short : Bool) → resultBy o short ≡ converted → (o ≡ none) × (short ≡ false)
-passed-by none true e = let z : _≡_ {A = ℕ} 0 1 = cc in absurd (omega arith)
-passed-by none false e = (refl, refl)
-passed-by (some p) short e = let z : _≡_ {A = ℕ} 0 1 = cc in absurd (omega arith)
+place-none : (o : Option ℕ) → refusal16 o ≡ false → o ≡ none
+place-none none e = refl
+place-none (some p) e = absurd (false≢true (sym e))
 
-carried : (code : ℕ → Option ℕ) (input out : List ℕ) (o : ConversionOutcome) → IsConversion code input out o → o .result ≡ converted → Passed code input out
-unfolding conversionResult conversionOutcome
+carried : (code : ℕ → Option ℕ) (input out : List ℕ) (o : ConversionOutcome) → IsConversion code input out o → isCarriedOut (o .outcome .answer) ≡ true
+    → Passed code input out
+unfolding conversionRefusal conversionOutcome
 carried code input out o is e =
-    let r = passed-by (placeWithout code input) (refusal17 input out) (sym (ap (λ (q : ConversionOutcome). q .result) (is .is)) ∙ e) in
-    record { each = r .0; room = ltb-false (length out) (length input) (r .1) }
+    let z = none-holds (conversionRefusal code input out) out (conversionRun code input out)
+    (ap (λ (q : ConversionOutcome). isCarriedOut (q .outcome .answer)) (sym (is .is)) ∙ e) in
+    let a = refuse-none (refusal16 (placeWithout code input)) 15 _ z in
+    let b = refuse-none (refusal17 input out) 16 0 (a .1) in
+    record { each = place-none (placeWithout code input) (a .0); room = ltb-false (length out) (length input) (b .0) }
 
 -- what it leaves: the counterparts at the front
 front-left : (code : ℕ → Option ℕ) (input out : List ℕ) (o : ConversionOutcome) → IsConversion code input out o → Passed code input out
-    → take (length input) (o .out) ≡ counterparts code input
+    → take (length input) (o .outcome .buffers) ≡ counterparts code input
+unfolding over
 front-left code input out o is w =
-    let e = is .is ∙ outcome-done code input out (w .each) (w .room) in
-    ap (λ (q : ConversionOutcome). take (length input) (q .out)) e
-    ∙ take-at (counterparts code input) (drop (length input) out) (length input) (length-counterparts code input (w .each))
+    let e = is .is ∙ sym (conversion-done code input out (w .each) (w .room)) in
+    ap (λ (q : ConversionOutcome). take (length input) (q .outcome .buffers)) e
+    ∙ take-at (counterparts code input) _ (length input) (length-counterparts code input (w .each))
 
 -- ---- two calls
 
 undone : (there back : ℕ → Option ℕ) → ((b c : ℕ) → there b ≡ some c → back c ≡ some b) → Undone there back
-undone there back u input out other o p first done second room =
-    let w = carried there input out o first done in
+undone there back u input out other o p first carried-out second room =
+    let w = carried there input out o first carried-out in
     let f = front-left there input out o first w in
     let n = length-counterparts there input (w .each) in
     let s = rw f at second in
     let v : Passed back (counterparts there input) other = record { each = back-passes there back u input (w .each); room = omega arith } in
-    let e = s .is ∙ outcome-done back (counterparts there input) other (v .each) (v .room) in (
-      ap (λ (q : ConversionOutcome). q .result) e,
-      sym (ap (λ (k : ℕ). take k (p .out)) n) ∙ front-left back (counterparts there input) other p s v ∙ back-again there back u input (w .each),
+    let e = s .is ∙ sym (conversion-done back (counterparts there input) other (v .each) (v .room)) in (
+      ap (λ (q : ConversionOutcome). isCarriedOut (q .outcome .answer)) e,
+      sym (ap (λ (k : ℕ). take k (p .outcome .buffers)) n) ∙ front-left back (counterparts there input) other p s v ∙ back-again there back u input (w .each),
     )
 
 pub there-and-back : ThereAndBack

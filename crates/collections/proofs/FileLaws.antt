@@ -7,13 +7,13 @@ use native.Mathlib.Omega.{arith}
 use borrow.Author.Tests.{ltb-false, eqb-false, eqb-true}
 use lib.Dec.{eqb, ltb}
 use lib.ListN.{length, take, drop, length-take, length-drop}
+use Rattle.answers.specs.Answer.{refuseIf}
 use Rattle.text.specs.Fields.{columns, sameBytes}
 use Rattle.text.specs.Blocks.{blocks}
 use Rattle.text.proofs.FieldsLaws.{length-columns}
-use Rattle.casemaster.specs.Refusals.{orElse}
 use Rattle.collections.specs.Line.{collected, adjusted}
 use Rattle.collections.specs.File.{lineCount, linesIn, lastIn, refusal22, totalText, linesAbove, isTotal, refusal23, refusal24, fileRefusal}
-use Rattle.collections.specs.Parts.{AreTotals, isLastRight}
+use Rattle.collections.specs.Parts.{AreLineTotals, isLastRight}
 use Rattle.collections.specs.declared.file.Totals.{Totals}
 
 -- ---- the last record
@@ -26,7 +26,7 @@ last-width file at a z l o h e =
     (record { low = l; ordered = o; high = simp (length-take, length-drop) (omega arith) })
 
 pub last-is : (file : List ℕ) (count : ℕ) (last a b d : List ℕ) (t : Totals) (x y z : Bool) → last ≡ take 240 (drop (count * 240) file)
-    → AreTotals (blocks 240 count file) t → a ≡ columns 6 14 last → x ≡ sameBytes a totalText → b ≡ columns 35 49 last
+    → AreLineTotals (blocks 240 count file) t → a ≡ columns 6 14 last → x ≡ sameBytes a totalText → b ≡ columns 35 49 last
     → y ≡ isTotal b (t .adjustments) → d ≡ columns 50 64 last → z ≡ isTotal d (t .collections) → (x && (y && z)) ≡ isLastRight count file
 unfolding isLastRight
 last-is file count last a b d t x y z el et ea ex eb ey ed ez =
@@ -50,7 +50,7 @@ module _ (limit : ℕ) (file : List ℕ) (room : ℕ) (e : fileRefusal limit fil
   unfolding fileRefusal
   passed-22 = go (refusal22 limit file) (refusal23 file) (refusal24 file room) e
     where
-      go : (a b c : Bool) → orElse a 22 (orElse b 23 (orElse c 24 0)) ≡ 0 → a ≡ false
+      go : (a b c : Bool) → refuseIf a 22 (refuseIf b 23 (refuseIf c 24 0)) ≡ 0 → a ≡ false
       go true b c e = absurd (omega arith)
       go false b c e = refl
 
@@ -73,7 +73,7 @@ module _ (limit : ℕ) (file : List ℕ) (room : ℕ) (e : fileRefusal limit fil
   unfolding fileRefusal refusal24 lineCount
   file-room = go (refusal22 limit file) (refusal23 file) (ltb room (length file / 240 - 1)) refl e
     where
-      go : (a b c : Bool) → ltb room (length file / 240 - 1) ≡ c → orElse a 22 (orElse b 23 (orElse c 24 0)) ≡ 0 → length file / 240 - 1 ≤ room
+      go : (a b c : Bool) → ltb room (length file / 240 - 1) ≡ c → refuseIf a 22 (refuseIf b 23 (refuseIf c 24 0)) ≡ 0 → length file / 240 - 1 ≤ room
       go a b false t e = ltb-false room (length file / 240 - 1) t
       go true b true t e = absurd (omega arith)
       go false true true t e = absurd (omega arith)

@@ -4,10 +4,10 @@ use mathlib.Core.List.{List, [], _∷_}
 use mathlib.Core.Bool.{Bool, not, cond, _&&_, _||_}
 use lib.Dec.{eqb, ltb}
 use lib.ListN.{length, take, drop}
+use Rattle.answers.specs.Answer.{refuseIf}
 use Rattle.text.specs.Characters.{space, A, L, O, T}
 use Rattle.text.specs.Fields.{areDigits, number, sameBytes}
 use Rattle.text.specs.Blocks.{blocks}
-use Rattle.casemaster.specs.Refusals.{orElse}
 use Rattle.collections.specs.Chart04.{lineWidth}
 use Rattle.collections.specs.Chart05.{lastControl, lastAdjustments, lastCollections}
 use Rattle.collections.specs.Line.{collected, adjusted}
@@ -56,4 +56,4 @@ refusal24 file room = ltb room (lineCount file)
 
 -- the first of 22, 23 and 24 that holds, 0 where none does
 unfoldable pub fileRefusal : ℕ → List ℕ → ℕ → ℕ
-fileRefusal limit file room = orElse (refusal22 limit file) 22 (orElse (refusal23 file) 23 (orElse (refusal24 file room) 24 0))
+fileRefusal limit file room = refuseIf (refusal22 limit file) 22 (refuseIf (refusal23 file) 23 (refuseIf (refusal24 file room) 24 0))

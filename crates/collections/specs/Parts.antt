@@ -29,7 +29,7 @@ pub record AreAmounts (line : List ℕ) (a : Amounts) : Type 0 where
   pub adjustment-is : a .adjustment .0 ≡ adjusted line
 
 -- how many lines have an adjustment and a collection above zero
-pub record AreTotals (lines : List (List ℕ)) (t : Totals) : Type 0 where
+pub record AreLineTotals (lines : List (List ℕ)) (t : Totals) : Type 0 where
   pub adjustments-are : t .adjustments ≡ linesAbove adjusted lines
   pub collections-are : t .collections ≡ linesAbove collected lines
 

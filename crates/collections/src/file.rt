@@ -12,7 +12,7 @@ ghost use lib.ListN.{length};
 ghost use Rattle.text.specs.Blocks.{blocks};
 ghost use Rattle.layout.specs.Limits.{maxRows};
 ghost use Rattle.collections.specs.File.{isTotal, fileRefusal};
-ghost use Rattle.collections.specs.Parts.{AreTotals, isLastRight};
+ghost use Rattle.collections.specs.Parts.{AreLineTotals, isLastRight};
 
 // How many lines have an adjustment and a collection above zero.
 pub struct Totals {
@@ -30,7 +30,7 @@ fn one_above(cents: u64) -> u64
 // The totals of the first `count` lines.
 fn count_totals(file: &[u8], count: usize) -> Totals
     requires { ⌜ count * 240 ≤ length (now file) ⌝ }
-    ensures { λ r. ⌜ AreTotals (blocks 240 count (now (file .entry))) r ⌝ }
+    ensures { λ r. ⌜ AreLineTotals (blocks 240 count (now (file .entry))) r ⌝ }
 {
     let mut adjustments: u64 = 0;
     let mut collections: u64 = 0;

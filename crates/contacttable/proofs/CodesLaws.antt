@@ -6,14 +6,15 @@ use Prim.Native.Nat.{ℕ, _+_, _*_, _≤_, _<_}
 use native.Mathlib.Omega.{arith}
 use lib.ListN.{length, take, drop, length-append, length-take, length-drop, take-append-drop}
 use lib.Seq.{drop-drop, length-take-le}
-use lib.Dec.{eqb, ltb}
-use borrow.Author.Tests.{ne-eqb, le-ltb, lt-ltb}
+use lib.Dec.{ltb}
+use borrow.Author.Tests.{le-ltb, lt-ltb}
 use Rattle.text.specs.Blocks.{joined, spliced, over}
 use Rattle.layout.specs.States.{isState}
 use Rattle.text.proofs.SplicedLaws.{length-spliced, take-through, drop-spliced}
 use Rattle.contactrecord.specs.ChartA3.{contactCode}
 use Rattle.contacttable.specs.Table.{contactsOf, isWrongTable}
-use Rattle.contacttable.specs.Codes.{isLocalOf, localCodes, codesRefusal, codesAs, codesOutcome}
+use Rattle.contacttable.specs.Codes.{isLocalOf, localCodes, codesRefusal, codesAs, codesRun, codesOutcome}
+use Rattle.answers.proofs.AnswerLaws.{outcome-refused, outcome-done}
 use Rattle.contacttable.specs.declared.codes.Codes.{Codes}
 use Rattle.contacttable.specs.declared.codes.Codes.the-variants.{Done, Refused}
 use Rattle.contacttable.proofs.TableLaws.{contactAt, contacts-next, contacts-end}
@@ -120,7 +121,7 @@ codes-done state n m before after k i g h space =
 module _ (table : List ℕ) (count : ℕ) (state out : List ℕ) where
   codes-refused : (code : ℕ) → codesRefusal table count state out ≡ code → (code ≡ 0 → ⊥) → codesAs (Refused code) out ≡ codesOutcome table count state out
   unfolding codesOutcome
-  codes-refused code e h = rw (e, ne-eqb code 0 h)
+  codes-refused code e h = outcome-refused _ out (codesRun table count state out) code (sym e) h
 
   pub codes-18 : isWrongTable table count ≡ true → codesAs (Refused 18) out ≡ codesOutcome table count state out
   unfolding codesRefusal
@@ -142,7 +143,10 @@ module _ (table : List ℕ) (count : ℕ) (state out : List ℕ) where
           → n ≡ length (localCodes state (contactsOf count table)) → after ≡ over (joined (localCodes state (contactsOf count table))) out
           → codesAs (Done n) after ≡ codesOutcome table count state out
       unfolding codesOutcome codesRefusal
-      codes-carried l n after en ea = rw (t, s, le-ltb (length out) (length (localCodes state (contactsOf count table)) * 3) l, en, ea)
+      codes-carried l n after en ea =
+          rw (en, ea)
+          (outcome-done (codesRefusal table count state out) out (codesRun table count state out)
+          (rw (t, s, le-ltb (length out) (length (localCodes state (contactsOf count table)) * 3) l)))
 
 -- ---- a record whose code is written, and one whose isn't
 

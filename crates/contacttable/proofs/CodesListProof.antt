@@ -23,7 +23,8 @@ use Rattle.contactrecord.specs.ChartA3.{contactState, contactCode, contactKey}
 use Rattle.contactrecord.specs.Contact.{isFaulty}
 use Rattle.contactrecord.proofs.ContactLaws.{good-key, key-code, key-parts}
 use Rattle.contacttable.specs.Table.{contactsOf, isWrongTable}
-use Rattle.contacttable.specs.Codes.{isLocalOf, localCodes, codesRefusal, codes, refused, CodesOutcome, codesOutcome}
+use Rattle.contacttable.specs.Codes.{isLocalOf, localCodes, codesRefusal, codesRun, CodesOutcome, codesOutcome}
+use Rattle.answers.proofs.AnswerLaws.{done-is}
 use Rattle.contacttable.specs.CodesList.{CodesAreAList}
 use Rattle.contacttable.proofs.TableLaws.{table-good, table-rises, right-table}
 
@@ -125,35 +126,13 @@ table-passed table count state out e = go (isWrongTable table count) _ e
 
 pub codes-are-a-list : CodesAreAList
 unfolding codesOutcome over
-codes-are-a-list table count state out o n e h = go (eqb (codesRefusal table count state out) 0) refl e
-  where
-    is-list : isWrongTable table count ≡ false → isLocalList (joined (localCodes state (contactsOf count table))) ≡ true
-    is-list w =
-        let t = right-table table count w .table in
-        codes-list (localCodes state (contactsOf count table)) (codes-digits state (contactsOf count table) (table-good (contactsOf count table) t))
-        (codes-rise state (contactsOf count table) (table-rises (contactsOf count table) t))
-
-    go : (b : Bool) → eqb (codesRefusal table count state out) 0 ≡ b
-        → o ≡ cond b
-        (record {
-          result = codes (length (localCodes state (contactsOf count table)));
-          out = over (joined (localCodes state (contactsOf count table))) out;
-        })
-        (record { result = refused (codesRefusal table count state out); out = out })
-        → isLocalList (take (n * 3) (o .out)) ≡ true
-    go true q z =
-        let w = table-passed table count state out (eqb-true (codesRefusal table count state out) 0 q) in
-        let t = right-table table count w .table in
-        let d = codes-digits state (contactsOf count table) (table-good (contactsOf count table) t) in
-        let l = length-codes (localCodes state (contactsOf count table)) (codes-wide (localCodes state (contactsOf count table)) d) in
-        let r : codes (length (localCodes state (contactsOf count table))) ≡ codes n = sym (ap (λ (y : CodesOutcome). y .result) z) ∙ h in
-        let m : length (localCodes state (contactsOf count table)) ≡ n = cc in
-        let f : length (joined (localCodes state (contactsOf count table))) ≡ n * 3 = omega arith in
-        let g : take (n * 3) (o .out) ≡ joined (localCodes state (contactsOf count table)) =
-        ap (λ (y : CodesOutcome). take (n * 3) (y .out)) z
-        ∙ take-at (joined (localCodes state (contactsOf count table))) _ (n * 3) f in
-        ap isLocalList g ∙ is-list w
-    go false q z =
-        let r : refused (codesRefusal table count state out) ≡ codes n = sym (ap (λ (y : CodesOutcome). y .result) z) ∙ h in
-        let y : _≡_ {A = ℕ} 0 1 = cc in
-        absurd (omega arith)
+codes-are-a-list table count state out o n e h =
+    let codes = localCodes state (contactsOf count table) in
+    let d = done-is (codesRefusal table count state out) out (codesRun table count state out) n (ap (λ (y : CodesOutcome). y .answer) (sym e) ∙ h) in
+    let t = right-table table count (table-passed table count state out (d .0)) .table in
+    let s = codes-digits state (contactsOf count table) (table-good (contactsOf count table) t) in
+    let l = length-codes codes (codes-wide codes s) in
+    let f : length (joined codes) ≡ n * 3 = omega (arith, l, d .1) in
+    let g : take (n * 3) (o .buffers) ≡ joined codes =
+    ap (λ (y : CodesOutcome). take (n * 3) (y .buffers)) e ∙ ap (take (n * 3)) (d .2) ∙ take-at (joined codes) _ (n * 3) f in
+    ap isLocalList g ∙ codes-list codes s (codes-rise state (contactsOf count table) (table-rises (contactsOf count table) t))

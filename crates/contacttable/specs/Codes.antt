@@ -3,12 +3,12 @@ use Prim.Native.Nat.{ℕ, _*_}
 use mathlib.Core.List.{List, [], _∷_, _++_}
 use mathlib.Core.Bool.{Bool, not, cond, _&&_}
 use lib.ListN.{length}
-use lib.Dec.{eqb, ltb}
+use lib.Dec.{ltb}
 use Rattle.text.specs.Characters.{zeroDigit}
 use Rattle.text.specs.Fields.{sameBytes}
 use Rattle.text.specs.Blocks.{joined, over}
 use Rattle.layout.specs.States.{isState}
-use Rattle.casemaster.specs.Refusals.{orElse}
+use Rattle.answers.specs.Answer.{refuseIf, Answer, refused, done, Outcome, Run, outcomeBy}
 use Rattle.contactrecord.specs.ChartA3.{contactState, contactCode}
 use Rattle.contacttable.specs.Table.{contactsOf, isWrongTable}
 use Rattle.contacttable.specs.declared.codes.Codes.{Codes}
@@ -30,34 +30,29 @@ localCodes state (rec ∷ table) = cond (isLocalOf state rec) (contactCode rec �
 -- refused, in order: 18; 12, a state not in the table, one that isn't two bytes included; 19, an output too short
 unfoldable pub codesRefusal : List ℕ → ℕ → List ℕ → List ℕ → ℕ
 codesRefusal table count state out =
-    orElse (isWrongTable table count) 18
-    (orElse (not (isState state)) 12
-    (orElse (ltb (length out) (length (localCodes state (contactsOf count table)) * 3)) 19 0))
+    refuseIf (isWrongTable table count) 18
+    (refuseIf (not (isState state)) 12
+    (refuseIf (ltb (length out) (length (localCodes state (contactsOf count table)) * 3)) 19 0))
 
--- the result counts the codes, or is a refusal's number
-pub data CodesResult : Type 0 where
-  codes : ℕ → CodesResult
-  refused : ℕ → CodesResult
+-- the answer counts the codes, or is a refusal's number
+abbrev pub codesAnswer : Codes → Answer ℕ
+codesAnswer (Done n) = done n
+codesAnswer (Refused n) = refused n
 
--- what each answer of the call stands for
-abbrev pub codesAnswered : Codes → CodesResult
-codesAnswered (Done n) = codes n
-codesAnswered (Refused n) = refused n
-
-pub record CodesOutcome : Type 0 where
-  pub result : CodesResult
-  pub out : List ℕ
+abbrev pub CodesOutcome : Type 0
+CodesOutcome = Outcome ℕ (List ℕ)
 
 -- the answer of the call and the output that it leaves
 abbrev pub codesAs : Codes → List ℕ → CodesOutcome
-codesAs answer out = record { result = codesAnswered answer; out = out }
+codesAs answer out = record { answer = codesAnswer answer; buffers = out }
 
--- bytes behind the codes are kept; a refusal leaves the output alone
+-- bytes behind the codes are kept
+abbrev pub codesRun : List ℕ → ℕ → List ℕ → List ℕ → Run ℕ (List ℕ)
+codesRun table count state out =
+    record {
+      result = length (localCodes state (contactsOf count table));
+      buffers = over (joined (localCodes state (contactsOf count table))) out;
+    }
+
 unfoldable pub codesOutcome : List ℕ → ℕ → List ℕ → List ℕ → CodesOutcome
-codesOutcome table count state out =
-    cond (eqb (codesRefusal table count state out) 0)
-    (record {
-      result = codes (length (localCodes state (contactsOf count table)));
-      out = over (joined (localCodes state (contactsOf count table))) out;
-    })
-    (record { result = refused (codesRefusal table count state out); out = out })
+codesOutcome table count state out = outcomeBy (codesRefusal table count state out) out (codesRun table count state out)

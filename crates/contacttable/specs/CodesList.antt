@@ -5,12 +5,13 @@ use mathlib.Core.List.{List}
 use mathlib.Core.Bool.{true}
 use lib.ListN.{take}
 use Rattle.layout.specs.Locals.{isLocalList}
-use Rattle.contacttable.specs.Codes.{codes, CodesOutcome, codesOutcome}
+use Rattle.answers.specs.Answer.{done}
+use Rattle.contacttable.specs.Codes.{CodesOutcome, codesOutcome}
 
 -- the call is carried out with n codes: the 3 × n bytes at the front of the output aren't refused by 2 as a list
 abbrev pub CodesAreAList : Type 0
 CodesAreAList =
     (table : List ℕ) (count : ℕ) (state out : List ℕ) (o : CodesOutcome) (n : ℕ)
     → o ≡ codesOutcome table count state out
-    → o .result ≡ codes n
-    → isLocalList (take (n * 3) (o .out)) ≡ true
+    → o .answer ≡ done n
+    → isLocalList (take (n * 3) (o .buffers)) ≡ true

@@ -1,18 +1,19 @@
 -- Laws of the outcome of an update: each refusal, and the call carried out. Assumes nothing.
-use mathlib.Core.Path.{_≡_}
+use mathlib.Core.Path.{_≡_, sym}
 use mathlib.Core.Bool.{true, false, not, or-true}
 use mathlib.Core.List.{List}
 use Prim.Native.Nat.{ℕ, _+_, _-_, _/_, _%_, _≤_, _<_}
 use native.Mathlib.Omega.{arith}
 use lib.Dec.{eqb, ltb}
 use lib.ListN.{length, replicate, length-replicate}
-use borrow.Author.Tests.{ne-eqb, le-ltb, lt-ltb, ltb-false}
+use borrow.Author.Tests.{le-ltb, lt-ltb, ltb-false}
 use Rattle.text.specs.Blocks.{joined, over}
 use Rattle.text.proofs.BoolLaws.{or-right}
 use Rattle.layout.specs.Limits.{maxRows}
 use Rattle.contacttable.specs.Table.{contactsOf, isWrongTable}
 use Rattle.contacttable.proofs.TableLaws.{right-table}
-use Rattle.contactupdate.specs.Update.{faultyFrom, isWrongFile, recordsOf, lacking, refusal19, updateRefusal, updatedAs, newTable, updateOutcome}
+use Rattle.contactupdate.specs.Update.{faultyFrom, isWrongFile, recordsOf, lacking, refusal19, updateRefusal, updatedAs, newTable, updateRun, updateOutcome}
+use Rattle.answers.proofs.AnswerLaws.{outcome-refused, outcome-done}
 use Rattle.contactupdate.specs.Marks.{keysMarked, lackingIn, Flagged}
 use Rattle.contactupdate.specs.Merging.{Passed}
 use Rattle.contactupdate.specs.declared.update.Updated.{Updated}
@@ -33,23 +34,23 @@ file-few limit file f =
     ltb-false limit (length file / 220) (or-right (not (eqb (length file % 220) 0)) (ltb limit (length file / 220)) f)
 
 module _ (limit : ℕ) (table : List ℕ) (count : ℕ) (file faulty : List ℕ) where
-  outcome-refused : (code : ℕ) → updateRefusal limit table count file faulty ≡ code → (code ≡ 0 → ⊥)
+  update-refused : (code : ℕ) → updateRefusal limit table count file faulty ≡ code → (code ≡ 0 → ⊥)
       → updatedAs (Refused code) table faulty ≡ updateOutcome limit table count file faulty
   unfolding updateOutcome
-  outcome-refused code e h = rw (e, ne-eqb code 0 h)
+  update-refused code e h = outcome-refused _ (record { table = table; faulty = faulty }) (updateRun table count file faulty) code (sym e) h
 
   pub outcome-file : isWrongFile limit file ≡ true → updatedAs (Refused 18) table faulty ≡ updateOutcome limit table count file faulty
   unfolding updateRefusal
-  outcome-file f = outcome-refused 18 (rw f) (λ z. omega arith)
+  outcome-file f = update-refused 18 (rw f) (λ z. omega arith)
 
   pub outcome-table : isWrongTable table count ≡ true → updatedAs (Refused 18) table faulty ≡ updateOutcome limit table count file faulty
   unfolding updateRefusal
-  outcome-table t = outcome-refused 18 (rw (t, or-true (isWrongFile limit file))) (λ z. omega arith)
+  outcome-table t = update-refused 18 (rw (t, or-true (isWrongFile limit file))) (λ z. omega arith)
 
   module _ (f : isWrongFile limit file ≡ false) (t : isWrongTable table count ≡ false) where
     outcome-19 : refusal19 table count file faulty ≡ true → updatedAs (Refused 19) table faulty ≡ updateOutcome limit table count file faulty
     unfolding updateRefusal
-    outcome-19 s = outcome-refused 19 (rw (f, t, s)) (λ z. omega arith)
+    outcome-19 s = update-refused 19 (rw (f, t, s)) (λ z. omega arith)
 
     pub outcome-list : length faulty < length file / 220 → updatedAs (Refused 19) table faulty ≡ updateOutcome limit table count file faulty
     unfolding refusal19
@@ -81,12 +82,14 @@ module _ (limit : ℕ) (table : List ℕ) (count : ℕ) (file faulty : List ℕ)
               list = l;
             }
 
-        pub outcome-done : (r : Updated) (after numbers : List ℕ)
+        pub update-done : (r : Updated) (after numbers : List ℕ)
             → r ≡ Done (length (newTable table count file)) (length (faultyFrom 1 (recordsOf file)))
             → after ≡ over (joined (newTable table count file)) table → numbers ≡ over (faultyFrom 1 (recordsOf file)) faulty
             → updatedAs r after numbers ≡ updateOutcome limit table count file faulty
         unfolding updateOutcome updateRefusal refusal19
-        outcome-done r after numbers er ea en =
+        update-done r after numbers er ea en =
             let q = right-table table count t .few in
             let p = le-ltb (length table / 220) (count + lacking (contactsOf count table) (recordsOf file)) (omega (arith, lacks)) in
-            rw (er, ea, en, f, t, p, le-ltb (length faulty) (length file / 220) l)
+            rw (er, ea, en)
+            (outcome-done (updateRefusal limit table count file faulty) (record { table = table; faulty = faulty }) (updateRun table count file faulty)
+            (rw (f, t, p, le-ltb (length faulty) (length file / 220) l)))

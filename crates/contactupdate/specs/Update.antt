@@ -7,7 +7,7 @@ use lib.Dec.{eqb, ltb}
 use Rattle.text.specs.Fields.{isOneOf}
 use Rattle.text.specs.Blocks.{joined, over}
 use Rattle.text.specs.ByteOrder.{withBlock}
-use Rattle.casemaster.specs.Refusals.{orElse}
+use Rattle.answers.specs.Answer.{refuseIf, Answer, refused, done, Outcome, Run, outcomeBy}
 use Rattle.contactrecord.specs.ChartA3.{contactKey}
 use Rattle.contactrecord.specs.Contact.{isFaulty}
 use Rattle.contacttable.specs.Table.{contactsOf, isWrongTable}
@@ -49,39 +49,46 @@ refusal19 table count file faulty =
 -- refused: 18, of the file or the table, then 19
 unfoldable pub updateRefusal : ℕ → List ℕ → ℕ → List ℕ → List ℕ → ℕ
 updateRefusal limit table count file faulty =
-    orElse (isWrongFile limit file || isWrongTable table count) 18 (orElse (refusal19 table count file faulty) 19 0)
+    refuseIf (isWrongFile limit file || isWrongTable table count) 18 (refuseIf (refusal19 table count file faulty) 19 0)
 
--- the result is the new table count and the list's, or a refusal's number
-pub data UpdateResult : Type 0 where
-  counts : ℕ → ℕ → UpdateResult
-  refused : ℕ → UpdateResult
+-- the result: the new table count and the list's
+pub record UpdateResult : Type 0 where
+  pub records : ℕ
+  pub listed : ℕ
 
 -- what each answer of the call stands for
-abbrev pub updateOf : Updated → UpdateResult
-updateOf (Done n f) = counts n f
-updateOf (Refused n) = refused n
+abbrev pub updateAnswer : Updated → Answer UpdateResult
+updateAnswer (Done n f) = done (record { records = n; listed = f })
+updateAnswer (Refused n) = refused n
 
-pub record UpdateOutcome : Type 0 where
-  pub result : UpdateResult
+-- the buffers that can be written: the table, and the list of faulty records' numbers
+pub record UpdateBuffers : Type 0 where
   pub table : List ℕ
   pub faulty : List ℕ
 
+abbrev pub UpdateOutcome : Type 0
+UpdateOutcome = Outcome UpdateResult UpdateBuffers
+
 -- the answer of the call and the buffers that it leaves
 abbrev pub updatedAs : Updated → List ℕ → List ℕ → UpdateOutcome
-updatedAs answer table faulty = record { result = updateOf answer; table = table; faulty = faulty }
+updatedAs answer table faulty = record { answer = updateAnswer answer; buffers = record { table = table; faulty = faulty } }
 
 -- the table's records once the file is read
 abbrev pub newTable : List ℕ → ℕ → List ℕ → List (List ℕ)
 newTable table count file = updated (recordsOf file) (contactsOf count table)
 
 -- the new records and the numbers of the faulty ones, a record's number being its place in the file from 1; bytes behind the records and
--- numbers behind the list are kept; a refusal leaves both buffers alone
+-- numbers behind the list are kept
+abbrev pub updateRun : List ℕ → ℕ → List ℕ → List ℕ → Run UpdateResult UpdateBuffers
+updateRun table count file faulty =
+    record {
+      result = record { records = length (newTable table count file); listed = length (faultyFrom 1 (recordsOf file)) };
+      buffers = record {
+        table = over (joined (newTable table count file)) table;
+        faulty = over (faultyFrom 1 (recordsOf file)) faulty;
+      };
+    }
+
 unfoldable pub updateOutcome : ℕ → List ℕ → ℕ → List ℕ → List ℕ → UpdateOutcome
 updateOutcome limit table count file faulty =
-    cond (eqb (updateRefusal limit table count file faulty) 0)
-    (record {
-      result = counts (length (newTable table count file)) (length (faultyFrom 1 (recordsOf file)));
-      table = over (joined (newTable table count file)) table;
-      faulty = over (faultyFrom 1 (recordsOf file)) faulty;
-    })
-    (record { result = refused (updateRefusal limit table count file faulty); table = table; faulty = faulty })
+    outcomeBy (updateRefusal limit table count file faulty) (record { table = table; faulty = faulty }) (updateRun table count file faulty)

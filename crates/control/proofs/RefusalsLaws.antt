@@ -12,7 +12,7 @@ use Rattle.text.proofs.BoolLaws.{or-left, or-right}
 use Rattle.layout.specs.Limits.{maxRows}
 use Rattle.layout.specs.Batch.{detailCount, detailsOf, controlOf}
 use Rattle.layout.proofs.LimitsLaws.{few-records}
-use Rattle.casemaster.specs.Refusals.{orElse}
+use Rattle.answers.specs.Answer.{refuseIf}
 use Rattle.control.specs.Totals.{hasCTL, hasState, hasTotals, areCountsRight, areAmountsRight}
 use Rattle.control.specs.TotalsParts.{AreTotals, countsAgree, amountsAgree}
 use Rattle.control.specs.Refusals.{refusal5, refusal6, refusal20, refusal21, refusal7, refusal8, batchRefusal}
@@ -73,7 +73,7 @@ module _ (limit : ℕ) (batch rec : List ℕ) (five : refusal5 limit batch ≡ f
 
       module _ (twenty-one : hasTotals rec ≡ true) (t : Totals) (a : AreTotals (blocks 245 (detailCount batch) batch) t) where
         -- a control record that has its form leaves the answer to 7 and 8
-        behind-form : batchRefusal limit batch 0 ≡ orElse (refusal7 batch) 7 (orElse (refusal8 batch) 8 0)
+        behind-form : batchRefusal limit batch 0 ≡ refuseIf (refusal7 batch) 7 (refuseIf (refusal8 batch) 8 0)
         unfolding batchRefusal refusal6 refusal20 refusal21
         behind-form = rw (five, of-control hasCTL, six, of-control hasState, twenty, of-control hasTotals, twenty-one)
 
@@ -114,14 +114,14 @@ batch-behind limit batch behind =
   where
     -- one refusal more before others
     go : (k : ℕ) (holds : Bool) (more none : ℕ) → more ≡ cond (eqb none 0) behind none
-        → orElse holds (suc k) more ≡ cond (eqb (orElse holds (suc k) none) 0) behind (orElse holds (suc k) none)
+        → refuseIf holds (suc k) more ≡ cond (eqb (refuseIf holds (suc k) none) 0) behind (refuseIf holds (suc k) none)
     go k true more none e = rw (ne-eqb (suc k) 0 (λ z. omega arith))
     go k false more none e = e
 
 -- ---- a batch that is not refused
 
 -- a condition that doesn't hold, and what is behind it
-pub not-first : (k : ℕ) (holds : Bool) (behind : ℕ) → orElse holds (suc k) behind ≡ 0 → (holds ≡ false) × (behind ≡ 0)
+pub not-first : (k : ℕ) (holds : Bool) (behind : ℕ) → refuseIf holds (suc k) behind ≡ 0 → (holds ≡ false) × (behind ≡ 0)
 not-first k true behind e = absurd (omega arith)
 not-first k false behind e = (refl, e)
 

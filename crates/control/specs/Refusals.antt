@@ -6,7 +6,7 @@ use mathlib.Core.Bool.{Bool, not, _||_}
 use lib.Dec.{eqb, ltb}
 use lib.ListN.{length}
 use Rattle.layout.specs.Batch.{detailsOf, controlOf}
-use Rattle.casemaster.specs.Refusals.{orElse}
+use Rattle.answers.specs.Answer.{refuseIf}
 use Rattle.control.specs.Totals.{hasCTL, hasState, hasTotals, areCountsRight, areAmountsRight}
 
 -- 5: batch empty, no multiple of 245, or over 16,777,216 records: one more than the limit
@@ -36,9 +36,9 @@ refusal8 batch = not (areAmountsRight (controlOf batch) (detailsOf batch))
 -- the first of 5, 6, 20, 21, 7 and 8 that holds, else what comes behind
 unfoldable pub batchRefusal : ℕ → List ℕ → ℕ → ℕ
 batchRefusal limit batch behind =
-    orElse (refusal5 limit batch) 5
-    (orElse (refusal6 batch) 6
-    (orElse (refusal20 batch) 20
-    (orElse (refusal21 batch) 21
-    (orElse (refusal7 batch) 7
-    (orElse (refusal8 batch) 8 behind)))))
+    refuseIf (refusal5 limit batch) 5
+    (refuseIf (refusal6 batch) 6
+    (refuseIf (refusal20 batch) 20
+    (refuseIf (refusal21 batch) 21
+    (refuseIf (refusal7 batch) 7
+    (refuseIf (refusal8 batch) 8 behind)))))

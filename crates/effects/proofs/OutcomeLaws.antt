@@ -1,14 +1,14 @@
--- What is read off an outcome is what was written: each verdict off its number and its reject record, each row off the master.
--- Assumes nothing.
+-- The verdicts read off an outcome are those that were written: each off its number and its reject record. Assumes nothing.
 use Prim.Native.Nat.{ℕ}
-use mathlib.Core.Path.{_≡_, refl, ap, _∙_}
-use mathlib.Core.Bool.{cond}
+use mathlib.Core.Path.{_≡_, refl, ap, ap₂, _∙_}
+use mathlib.Core.Bool.{true, cond}
 use mathlib.Core.List.{List, [], _∷_, _++_, append-assoc, append-nil}
 use mathlib.Core.Option.{Option, none, some}
 use native.Mathlib.Omega.{arith}
 use lib.ListN.{length, take, drop, length-map}
 use lib.Seq.{take-at, drop-at}
 use borrow.Author.Tests.{ne-eqb}
+use Rattle.answers.specs.Answer.{isCarriedOut}
 use Rattle.text.specs.Fields.{columns}
 use Rattle.layout.specs.Codes.{numberOfCodes, RisingCodes}
 use Rattle.text.specs.Blocks.{joined, over}
@@ -16,20 +16,26 @@ use Rattle.casemaster.specs.Master.{rowsOf}
 use Rattle.casemaster.specs.Rows.{rowWith}
 use Rattle.layout.proofs.CodesLaws.{codes-number}
 use Rattle.layout.specs.Record.{recordKey}
+use Rattle.layout.specs.Batch.{detailCount, detailsOf, submittingState}
 use Rattle.onecase.specs.Verdict.{Judgement, judgement, hasCode}
 use Rattle.judging.proofs.CodeSums.{number-none}
 use Rattle.onecase.proofs.JudgementLaws.{name-width}
 use Rattle.onecase.proofs.JudgedLaws.{Judged, isSome, judged}
 use Rattle.turns.specs.Turns.{afterDetail, verdictOn, verdictsOn}
 use Rattle.reporting.specs.Rejects.{numberOf, numbers, fourColumns, rejectRecord, ifAny, rejectRecords}
+use Rattle.reporting.specs.Counts.{countsOf, controlRecord}
 use Rattle.reporting.proofs.RejectColumns.{reject-columns}
-use Rattle.effects.specs.TwoBatches.{readVerdicts}
-use Rattle.text.proofs.WidthLaws.{All, blocks-joined, joined-append}
+use Rattle.effects.specs.TwoBatches.{readVerdicts, verdictsLeft}
+use Rattle.text.proofs.BlocksLaws.{length-blocks}
+use Rattle.text.proofs.WidthLaws.{All, joined-append}
 use Rattle.turns.proofs.TurnsLaws.{found-wide, after-wide}
-use Rattle.turns.proofs.UnderLaws.{IsRecord}
+use Rattle.turns.proofs.UnderLaws.{IsRecord, length-verdicts}
 use Rattle.casemaster.proofs.RowsLaws.{Each, IsWide}
 use Rattle.judging.specs.Setting.{Setting}
 use Rattle.turns.specs.Settings.{Settings, settingUnder}
+use Rattle.batch.specs.Call.{Call, callSettings}
+use Rattle.batch.specs.Apply.{ApplyOutcome, callVerdicts, IsOutcome}
+use Rattle.batch.proofs.CarriedLaws.{start-fit, records, numbers-read, rejects-read}
 
 -- ---- a verdict that can be read again
 
@@ -147,7 +153,13 @@ read-over details verdicts n control old-numbers old-rejects s e =
     rw (take-at (numbers verdicts) (drop (length (numbers verdicts)) old-numbers) n l, append-assoc rejects control rest)
     (read-back details verdicts (control ++ rest) s)
 
--- the rows off a master, whatever it held
-pub rows-over : (rows : List (List ℕ)) (old : List ℕ) → All IsWide rows → rowsOf (length rows) (over (joined rows) old) ≡ rows
-unfolding over
-rows-over rows old w = blocks-joined 200 rows (drop (length (joined rows)) old) w
+-- of a batch that is carried out
+pub verdicts-read : (c : Call) (o : ApplyOutcome) → IsOutcome c o → isCarriedOut (o .answer) ≡ true → verdictsLeft c o ≡ callVerdicts c
+unfolding detailsOf
+verdicts-read c o i t =
+    let rows : List (List ℕ) = rowsOf (c .rows) (c .master) in
+    let details : List (List ℕ) = detailsOf (c .batch) in
+    ap₂ (λ (ns rejects : List ℕ). readVerdicts (take (detailCount (c .batch)) ns) rejects) (numbers-read c o i t) (rejects-read c o i t)
+    ∙ read-over details (callVerdicts c) (detailCount (c .batch)) (controlRecord (submittingState (c .batch)) (countsOf details (callVerdicts c)))
+    (c .verdicts) (c .rejects) (all-shown (callSettings c) rows details (records c o i t) (start-fit c o i t .wide))
+    (length-verdicts (callSettings c) rows details ∙ length-blocks 245 (detailCount (c .batch)) (c .batch))

@@ -17,7 +17,8 @@ use Rattle.turns.proofs.AppendLaws.{final-append, verdicts-append, Agree, final
 use Rattle.batch.specs.Call.{callSettings}
 use Rattle.batch.specs.Apply.{callRows}
 use Rattle.effects.specs.Several.{Sent, IsApplied, WasCarriedOut, SameState, SameYear, SameCodes, EachSent, Master, masterFound, masterLeft, OneBehindTheOther, lastMaster, detailsSent, joinedDetails, verdictsSent, joinedVerdicts, anyB, batchesWith, Several}
-use Rattle.effects.proofs.TwoBatchesProof.{records, count-read, rows-read, verdicts-read}
+use Rattle.batch.proofs.CarriedLaws.{records, count-read, rows-read}
+use Rattle.effects.proofs.OutcomeLaws.{verdicts-read}
 use Rattle.effects.proofs.PartsLaws.{oneIfAny, one-append, part-agrees}
 
 -- some rows, counted

@@ -15,7 +15,7 @@ use Rattle.merging.specs.Theorem.{IsMergeOf, batchWritten}
 use Rattle.merging.proofs.TheoremProof.{every-merge}
 use Rattle.effects.specs.Several.{Sent, IsApplied, WasCarriedOut, SameState, masterFound, detailsSent, joinedDetails, verdictsSent, joinedVerdicts, batchesWith}
 use Rattle.effects.specs.TwoIntoOne.{TwoIntoOne}
-use Rattle.effects.proofs.TwoBatchesProof.{verdicts-read}
+use Rattle.effects.proofs.OutcomeLaws.{verdicts-read}
 use Rattle.effects.proofs.PartsLaws.{oneIfAny}
 use Rattle.effects.proofs.SeveralProof.{several}
 

@@ -5,6 +5,7 @@ use Prim.Native.Nat.{ℕ, _+_, _≤_}
 use mathlib.Core.Path.{_≡_}
 use mathlib.Core.List.{List, [], _∷_, _++_}
 use mathlib.Core.Bool.{Bool, true, false, cond, _||_}
+use Rattle.answers.specs.Answer.{isCarriedOut}
 use Rattle.text.specs.Characters.{B}
 use Rattle.layout.specs.Record.{isType}
 use Rattle.layout.specs.Batch.{detailsOf, submittingState}
@@ -12,22 +13,22 @@ use Rattle.casemaster.specs.Master.{rowsOf}
 use Rattle.onecase.specs.Verdict.{Judgement}
 use Rattle.turns.specs.Under.{detailsUnder, IsKey}
 use Rattle.batch.specs.Call.{Call}
-use Rattle.batch.specs.Apply.{Outcome, IsOutcome, isCarriedOut, rowCount}
-use Rattle.effects.specs.TwoBatches.{verdictsLeft, rowsLeft}
+use Rattle.batch.specs.Apply.{ApplyOutcome, IsOutcome, rowCount, rowsLeft}
+use Rattle.effects.specs.TwoBatches.{verdictsLeft}
 
 -- ---- a batch that was sent
 
 -- all that was lent to its call, and what the call left
 pub record Sent : Type 0 where
   pub call : Call
-  pub outcome : Outcome
+  pub outcome : ApplyOutcome
 
 -- what it left is what `apply` promises
 abbrev pub IsApplied : Sent → Type 0
 IsApplied s = IsOutcome (s .call) (s .outcome)
 
 abbrev pub WasCarriedOut : Sent → Type 0
-WasCarriedOut s = isCarriedOut (s .outcome .result) ≡ true
+WasCarriedOut s = isCarriedOut (s .outcome .answer) ≡ true
 
 -- the same state, year and codes
 abbrev pub SameState : Sent → Sent → Type 0
@@ -55,7 +56,7 @@ abbrev pub masterFound : Sent → Master
 masterFound s = record { count = s .call .rows; rows = rowsOf (s .call .rows) (s .call .master) }
 
 abbrev pub masterLeft : Sent → Master
-masterLeft s = record { count = rowCount (s .outcome .result); rows = rowsLeft (s .outcome) }
+masterLeft s = record { count = rowCount (s .outcome .answer); rows = rowsLeft (s .outcome) }
 
 -- each finds the master that the one before it left, the first of them the one that is given
 abbrev pub OneBehindTheOther : Master → List Sent → Type 0

@@ -8,12 +8,13 @@ use mathlib.Core.Bool.{true, cond}
 use mathlib.Core.Option.{Option, none, some}
 use lib.Dec.{eqb}
 use lib.ListN.{take, drop}
+use Rattle.answers.specs.Answer.{isCarriedOut}
 use Rattle.text.specs.Fields.{columns}
 use Rattle.layout.specs.Codes.{codesOfNumber}
 use Rattle.casemaster.specs.Master.{rowsOf}
 use Rattle.onecase.specs.Verdict.{Judgement, hasCode}
 use Rattle.casemaster.specs.Rows.{rowWith}
-use Rattle.batch.specs.Apply.{Outcome, IsOutcome, isCarriedOut, rowCount}
+use Rattle.batch.specs.Apply.{ApplyOutcome, IsOutcome, rowCount, rowsLeft}
 use Rattle.turns.specs.Under.{detailsUnder, verdictsUnder, runRow, runVerdicts, IsKey}
 use Rattle.judging.specs.Setting.{Setting}
 use Rattle.turns.specs.Settings.{settingUnder}
@@ -36,12 +37,8 @@ readVerdicts [] rejects = []
 readVerdicts (number ∷ numbers) rejects = readVerdict number (take 245 rejects) ∷ readVerdicts numbers (rejectsBehind number rejects)
 
 -- a batch's verdicts on its details, in batch order
-abbrev pub verdictsLeft : Call → Outcome → List Judgement
-verdictsLeft c o = readVerdicts (take (detailCount (c .batch)) (o .verdicts)) (o .rejects)
-
--- the rows that a batch leaves
-abbrev pub rowsLeft : Outcome → List (List ℕ)
-rowsLeft o = rowsOf (rowCount (o .result)) (o .master)
+abbrev pub verdictsLeft : Call → ApplyOutcome → List Judgement
+verdictsLeft c o = readVerdicts (take (detailCount (c .batch)) (o .buffers .verdicts)) (o .buffers .rejects)
 
 -- ---- under a key
 
@@ -73,8 +70,8 @@ pub record SameStart (g h : Call) : Type 0 where
   pub list : g .locals ≡ h .locals
 
 -- equal in effect: the same row count and rows, and under each key the same verdicts in the same order
-pub record EqualEffect (g : Call) (o : Outcome) (h : Call) (p : Outcome) : Type 0 where
-  pub count : rowCount (o .result) ≡ rowCount (p .result)
+pub record EqualEffect (g : Call) (o : ApplyOutcome) (h : Call) (p : ApplyOutcome) : Type 0 where
+  pub count : rowCount (o .answer) ≡ rowCount (p .answer)
   pub rows : rowsLeft o ≡ rowsLeft p
   pub verdicts : (key : List ℕ) → IsKey key
       → verdictsUnder key (detailsOf (g .batch)) (verdictsLeft g o) ≡ verdictsUnder key (detailsOf (h .batch)) (verdictsLeft h p)
@@ -85,17 +82,17 @@ pub record MachineAgrees (g h : Call) : Type 0 where
   pub verdicts : (key : List ℕ) → IsKey key → machineVerdicts key g ≡ machineVerdicts key h
 
 -- the row and the verdicts that a batch leaves under a key are the machine's
-pub record LeftByMachine (c : Call) (o : Outcome) : Type 0 where
+pub record LeftByMachine (c : Call) (o : ApplyOutcome) : Type 0 where
   pub row : (key : List ℕ) → IsKey key → rowWith key (rowsLeft o) ≡ machineRow key c
   pub verdicts : (key : List ℕ) → IsKey key → verdictsUnder key (detailsOf (c .batch)) (verdictsLeft c o) ≡ machineVerdicts key c
 
 -- demand 3, over two whole calls that are carried out from the same start, whatever their details and the length of their buffers
 abbrev pub TwoBatches : Type 0
 TwoBatches =
-    (g h : Call) (o p : Outcome)
+    (g h : Call) (o p : ApplyOutcome)
     → IsOutcome g o
     → IsOutcome h p
-    → isCarriedOut (o .result) ≡ true
-    → isCarriedOut (p .result) ≡ true
+    → isCarriedOut (o .answer) ≡ true
+    → isCarriedOut (p .answer) ≡ true
     → SameStart g h
     → (EqualEffect g o h p ↔ MachineAgrees g h) × LeftByMachine g o × LeftByMachine h p

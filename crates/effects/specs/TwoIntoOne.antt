@@ -6,9 +6,10 @@ use mathlib.Core.Path.{_≡_}
 use mathlib.Core.Logic.{_⊎_}
 use mathlib.Core.List.{List, [], _++_}
 use mathlib.Core.Bool.{true}
+use Rattle.answers.specs.Answer.{isCarriedOut}
 use Rattle.onecase.specs.Verdict.{Judgement}
 use Rattle.turns.specs.Under.{detailsUnder, verdictsUnder, IsKey}
-use Rattle.merging.specs.Merge.{MergeCall, MergeOutcome, IsMerge, isMerged}
+use Rattle.merging.specs.Merge.{MergeCall, MergeOutcome, IsMerge}
 use Rattle.merging.specs.Theorem.{batchWritten}
 use Rattle.effects.specs.Several.{Sent, IsApplied, WasCarriedOut, SameYear, SameCodes, masterFound, masterLeft, detailsSent, verdictsSent, anyB}
 
@@ -37,7 +38,7 @@ TwoIntoOne =
     → IsApplied a
     → IsApplied b
     → IsApplied whole
-    → isMerged (m .result) ≡ true
+    → isCarriedOut (m .answer) ≡ true
     → WasCarriedOut a
     → WasCarriedOut b
     → WasCarriedOut whole

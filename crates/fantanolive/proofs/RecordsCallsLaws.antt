@@ -1,14 +1,16 @@
 -- From the outcome of the call to what its C function leaves, of an answer told apart. Assumes nothing.
 use Prim.Native.Nat.{ℕ}
-use mathlib.Core.Path.{_≡_, ap, _∙_, sym}
+use mathlib.Core.Path.{_≡_}
 use mathlib.Core.List.{List}
-use Rattle.caserecords.specs.RecordsTo.{RecordsOutcome, recordedAs, recordsOutcome}
-use Rattle.caserecords.specs.declared.records_to.Recorded.{Recorded}
-use Rattle.fantanolive.specs.RecordsCalls.{recordsLeftBy, recordsLeft}
+use Rattle.answers.specs.Answer.{returned}
+use Rattle.answers.proofs.AnswerLaws.{returned-by}
+use Rattle.caserecords.specs.RecordsTo.{recordsAs, recordsOutcome}
+use Rattle.caserecords.specs.declared.records_to.RecordsGiven.{RecordsGiven}
+use Rattle.fantanolive.specs.RecordsCalls.{recordsLeft}
 
-pub records-left : (row wanted list out left : List ℕ) (count : ℕ) (answer told : Recorded)
-    → recordedAs answer left ≡ recordsOutcome row wanted list out → answer ≡ told
-    → recordsLeftBy (recordedAs told left) count ≡ recordsLeft row wanted list out count
+pub records-left : (row wanted list out left : List ℕ) (count : ℕ) (answer told : RecordsGiven)
+    → recordsAs answer left ≡ recordsOutcome row wanted list out → answer ≡ told
+    → returned (λ n. n) count (recordsAs told left) ≡ recordsLeft row wanted list out count
 unfolding recordsLeft
 records-left row wanted list out left count answer told o e =
-    ap (λ (a : Recorded). recordsLeftBy (recordedAs a left) count) (sym e) ∙ ap (λ (p : RecordsOutcome). recordsLeftBy p count) o
+    returned-by (λ (a : RecordsGiven). recordsAs a left) (λ n. n) count (recordsOutcome row wanted list out) answer told o e

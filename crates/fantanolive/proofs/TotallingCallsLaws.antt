@@ -2,14 +2,16 @@
 use mathlib.Core.Path.{_≡_, ap, _∙_, sym}
 use mathlib.Core.List.{List}
 use Prim.Native.Nat.{ℕ}
+use Rattle.answers.specs.Answer.{Answer}
 use Rattle.layout.specs.Limits.{maxRows}
-use Rattle.totalling.specs.DetailTotals.{TotalsResult, totalledAs, totalsResult}
+use Rattle.control.specs.Stated.{Stated}
+use Rattle.totalling.specs.DetailTotals.{totalledAs, totalsAnswer}
 use Rattle.totalling.specs.declared.detail_totals.Totalled.{Totalled}
 use Rattle.fantanolive.specs.TotallingCalls.{totalsLeftBy, totalsLeft}
 
 -- of an answer told apart
-pub totals-left : (batch kept : List ℕ) (answer told : Totalled) → totalledAs answer ≡ totalsResult maxRows batch → answer ≡ told
+pub totals-left : (batch kept : List ℕ) (answer told : Totalled) → totalledAs answer ≡ totalsAnswer maxRows batch → answer ≡ told
     → totalsLeftBy (totalledAs told) kept ≡ totalsLeft batch kept
 unfolding totalsLeft
 totals-left batch kept answer told o e =
-    ap (λ (a : Totalled). totalsLeftBy (totalledAs a) kept) (sym e) ∙ ap (λ (r : TotalsResult). totalsLeftBy r kept) o
+    ap (λ (a : Totalled). totalsLeftBy (totalledAs a) kept) (sym e) ∙ ap (λ (r : Answer Stated). totalsLeftBy r kept) o

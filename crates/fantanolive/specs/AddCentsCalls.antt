@@ -2,20 +2,9 @@
 -- beneath it. Assumes nothing.
 use Prim.Native.Nat.{ℕ}
 use mathlib.Core.List.{List}
-use Rattle.addcents.specs.Convert.{ConvertResult, done, refused, ConvertOutcome, convertOutcome}
+use Rattle.answers.specs.Answer.{NoResult, Returned, returned}
+use Rattle.addcents.specs.Convert.{ConvertCall, convertOutcome}
 
--- returned: 0 where the master is converted, else the refusal's number
-abbrev pub convertNumber : ConvertResult → ℕ
-convertNumber done = 0
-convertNumber (refused n) = n
-
--- the number returned, and the master
-pub record ConvertLeft : Type 0 where
-  pub number : ℕ
-  pub master : List ℕ
-
-abbrev pub convertLeftBy : ConvertOutcome → ConvertLeft
-convertLeftBy o = record { number = convertNumber (o .result); master = o .master }
-
-unfoldable pub convertLeft : List ℕ → ℕ → ConvertLeft
-convertLeft master rows = convertLeftBy (convertOutcome master rows)
+-- every byte of the master; there are no result numbers
+unfoldable pub convertLeft : ConvertCall → Returned NoResult (List ℕ)
+convertLeft c = returned (λ u. u) tt (convertOutcome c)

@@ -2,30 +2,14 @@
 -- beneath it. Assumes nothing.
 use Prim.Native.Nat.{ℕ}
 use mathlib.Core.List.{List}
-use mathlib.Core.Option.{Option}
-use Rattle.codepage.specs.Conversion.{ConversionResult, converted, noCounterpart, tooShort, ConversionOutcome, conversionOutcome}
+use mathlib.Core.Option.{Option, Option·getD}
+use Rattle.answers.specs.Answer.{Returned, numberOf}
+use Rattle.codepage.specs.Conversion.{ConversionOutcome, conversionOutcome}
 
--- returned: 0 where the file is converted, else the refusal's number
-abbrev pub conversionNumber : ConversionResult → ℕ
-conversionNumber converted = 0
-conversionNumber (noCounterpart p) = 16
-conversionNumber tooShort = 17
-
--- the place of the first byte without a counterpart, with refusal 16; else left alone
-abbrev pub conversionPlace : ConversionResult → ℕ → ℕ
-conversionPlace converted kept = kept
-conversionPlace (noCounterpart p) kept = p
-conversionPlace tooShort kept = kept
-
--- the number returned, the place, and every byte of the output
-pub record ConversionLeft : Type 0 where
-  pub number : ℕ
-  pub place : ℕ
-  pub out : List ℕ
-
-abbrev pub conversionLeftBy : ConversionOutcome → ℕ → ConversionLeft
+-- the place is written with refusal 16 alone, which alone has one
+abbrev pub conversionLeftBy : ConversionOutcome → ℕ → Returned ℕ (List ℕ)
 conversionLeftBy o place =
-    record { number = conversionNumber (o .result); place = conversionPlace (o .result) place; out = o .out }
+    record { number = numberOf (o .outcome .answer); numbers = Option·getD (o .place) place; buffers = o .outcome .buffers }
 
-unfoldable pub conversionLeft : (ℕ → Option ℕ) → List ℕ → List ℕ → ℕ → ConversionLeft
+unfoldable pub conversionLeft : (ℕ → Option ℕ) → List ℕ → List ℕ → ℕ → Returned ℕ (List ℕ)
 conversionLeft code input out place = conversionLeftBy (conversionOutcome code input out) place

@@ -2,55 +2,18 @@
 -- outcome of the call beneath it. Assumes nothing.
 use Prim.Native.Nat.{ℕ}
 use mathlib.Core.List.{List, [], _∷_}
+use Rattle.answers.specs.Answer.{Returned, returned}
 use Rattle.layout.specs.Limits.{maxRows}
-use Rattle.contactupdate.specs.Update as Update
-use Rattle.contactupdate.specs.Update.{UpdateResult, UpdateOutcome, updateOutcome}
-use Rattle.contacttable.specs.Codes as Codes
-use Rattle.contacttable.specs.Codes.{CodesResult, CodesOutcome, codesOutcome}
+use Rattle.contactupdate.specs.Update.{UpdateResult, UpdateBuffers, updateOutcome}
+use Rattle.contacttable.specs.Codes.{codesOutcome}
 
--- ---- fantanolive_contacts_update
+-- fantanolive_contacts_update: the new table count and the list's
+abbrev pub updateNumbers : UpdateResult → List ℕ
+updateNumbers r = r .records ∷ r .listed ∷ []
 
--- returned: 0 where the file is read, else the refusal's number
-abbrev pub updateNumber : UpdateResult → ℕ
-updateNumber (Update.counts records listed) = 0
-updateNumber (Update.refused n) = n
+unfoldable pub updateLeft : List ℕ → ℕ → List ℕ → List ℕ → List ℕ → Returned (List ℕ) UpdateBuffers
+updateLeft table count file faulty result = returned updateNumbers result (updateOutcome maxRows table count file faulty)
 
--- the new table count and the list's; a refusal leaves them alone
-abbrev pub updateResult : UpdateResult → List ℕ → List ℕ
-updateResult (Update.counts records listed) kept = records ∷ listed ∷ []
-updateResult (Update.refused n) kept = kept
-
-pub record UpdateLeft : Type 0 where
-  pub number : ℕ
-  pub result : List ℕ
-  pub table : List ℕ
-  pub faulty : List ℕ
-
-abbrev pub updateLeftBy : UpdateOutcome → List ℕ → UpdateLeft
-updateLeftBy o result =
-    record { number = updateNumber (o .result); result = updateResult (o .result) result; table = o .table; faulty = o .faulty }
-
-unfoldable pub updateLeft : List ℕ → ℕ → List ℕ → List ℕ → List ℕ → UpdateLeft
-updateLeft table count file faulty result = updateLeftBy (updateOutcome maxRows table count file faulty) result
-
--- ---- fantanolive_contacts_codes
-
-abbrev pub codesNumber : CodesResult → ℕ
-codesNumber (Codes.codes n) = 0
-codesNumber (Codes.refused n) = n
-
--- how many codes are written; a refusal leaves the number alone
-abbrev pub codesWritten : CodesResult → ℕ → ℕ
-codesWritten (Codes.codes n) kept = n
-codesWritten (Codes.refused n) kept = kept
-
-pub record CodesLeft : Type 0 where
-  pub number : ℕ
-  pub codes : ℕ
-  pub out : List ℕ
-
-abbrev pub codesLeftBy : CodesOutcome → ℕ → CodesLeft
-codesLeftBy o codes = record { number = codesNumber (o .result); codes = codesWritten (o .result) codes; out = o .out }
-
-unfoldable pub codesLeft : List ℕ → ℕ → List ℕ → List ℕ → ℕ → CodesLeft
-codesLeft table count state out codes = codesLeftBy (codesOutcome table count state out) codes
+-- fantanolive_contacts_codes: how many codes are written
+unfoldable pub codesLeft : List ℕ → ℕ → List ℕ → List ℕ → ℕ → Returned ℕ (List ℕ)
+codesLeft table count state out codes = returned (λ n. n) codes (codesOutcome table count state out)

@@ -2,26 +2,9 @@
 -- Assumes nothing.
 use Prim.Native.Nat.{ℕ}
 use mathlib.Core.List.{List}
-use Rattle.merging.specs.Merge.{MergeCall, MergeResult, merged, refused, MergeOutcome, mergeOutcome}
+use Rattle.answers.specs.Answer.{Returned, returned}
+use Rattle.merging.specs.Merge.{MergeCall, mergeOutcome}
 
--- returned: 0 where the batches are merged, else the refusal's number
-abbrev pub mergeNumber : MergeResult → ℕ
-mergeNumber (merged n) = 0
-mergeNumber (refused n) = n
-
--- how many records the merged batch has; a refusal leaves it alone
-abbrev pub mergeRecords : MergeResult → ℕ → ℕ
-mergeRecords (merged n) kept = n
-mergeRecords (refused n) kept = kept
-
--- the number returned, how many records there are, and every byte of the output
-pub record MergeLeft : Type 0 where
-  pub number : ℕ
-  pub records : ℕ
-  pub out : List ℕ
-
-abbrev pub mergeLeftBy : MergeOutcome → ℕ → MergeLeft
-mergeLeftBy o records = record { number = mergeNumber (o .result); records = mergeRecords (o .result) records; out = o .out }
-
-unfoldable pub mergeLeft : MergeCall → ℕ → MergeLeft
-mergeLeft c records = mergeLeftBy (mergeOutcome c) records
+-- how many records the merged batch has, and every byte of the output
+unfoldable pub mergeLeft : MergeCall → ℕ → Returned ℕ (List ℕ)
+mergeLeft c records = returned (λ n. n) records (mergeOutcome c)

@@ -4,12 +4,14 @@ use codepage::conversion;
 use codepage::conversion::Converted;
 ghost use mathlib.Core.Path.{_≡_};
 ghost use Rattle.codepage.specs.CodePage.{ebcdicOf, asciiOf};
-ghost use Rattle.codepage.specs.Conversion.{conversionOf};
-ghost use Rattle.fantanolive.specs.CodepageCalls.{conversionNumber, conversionPlace, conversionLeft};
+ghost use mathlib.Core.Option.{Option·getD};
+ghost use Rattle.answers.specs.Answer.{numberOf};
+ghost use Rattle.codepage.specs.Conversion.{conversionAnswer, placeTold};
+ghost use Rattle.fantanolive.specs.CodepageCalls.{conversionLeft};
 
 // The number of an answer; with 16 the place is written.
 fn told(answer: Converted, place: &mut u64) -> u64
-    ensures { λ r. ⌜ (r ≡ conversionNumber (conversionOf answer)) × (now (place .exit) ≡ conversionPlace (conversionOf answer) (now (place .entry))) ⌝ }
+    ensures { λ r. ⌜ (r ≡ numberOf (conversionAnswer answer)) × (now (place .exit) ≡ Option·getD (placeTold answer) (now (place .entry))) ⌝ }
 {
     match answer {
         Converted::Done => 0,
@@ -24,7 +26,8 @@ fn told(answer: Converted, place: &mut u64) -> u64
 // Turns ASCII into EBCDIC.
 #[no_mangle]
 pub extern "C" fn fantanolive_to_ebcdic(input: &[u8], out: &mut [u8], place: &mut u64) -> u64
-    ensures { λ r. ⌜ record { number = r; place = now (place .exit); out = now (out .exit) } ≡ conversionLeft ebcdicOf (now (input .entry)) (now (out .entry)) (now (place .entry)) ⌝ }
+    ensures { λ r. ⌜ record { number = r; numbers = now (place .exit); buffers = now (out .exit) }
+        ≡ conversionLeft ebcdicOf (now (input .entry)) (now (out .entry)) (now (place .entry)) ⌝ }
 {
     let answer = conversion::to_ebcdic(input, out);
     told(answer, place)
@@ -33,7 +36,8 @@ pub extern "C" fn fantanolive_to_ebcdic(input: &[u8], out: &mut [u8], place: &mu
 // Turns EBCDIC into ASCII.
 #[no_mangle]
 pub extern "C" fn fantanolive_to_ascii(input: &[u8], out: &mut [u8], place: &mut u64) -> u64
-    ensures { λ r. ⌜ record { number = r; place = now (place .exit); out = now (out .exit) } ≡ conversionLeft asciiOf (now (input .entry)) (now (out .entry)) (now (place .entry)) ⌝ }
+    ensures { λ r. ⌜ record { number = r; numbers = now (place .exit); buffers = now (out .exit) }
+        ≡ conversionLeft asciiOf (now (input .entry)) (now (out .entry)) (now (place .entry)) ⌝ }
 {
     let answer = conversion::to_ascii(input, out);
     told(answer, place)

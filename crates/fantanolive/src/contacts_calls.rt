@@ -16,7 +16,7 @@ pub extern "C" fn fantanolive_contacts_update(
     faulty: &mut [u32],
     result: &mut [u64; 2],
 ) -> u64
-    ensures { λ r. ⌜ record { number = r; result = now (result .exit); table = now (table .exit); faulty = now (faulty .exit) }
+    ensures { λ r. ⌜ record { number = r; numbers = now (result .exit); buffers = record { table = now (table .exit); faulty = now (faulty .exit) } }
         ≡ updateLeft (now (table .entry)) count (now (file .entry)) (now (faulty .entry)) (now (result .entry)) ⌝ }
 {
     match update::update(table, count, file, faulty) {
@@ -37,7 +37,7 @@ pub extern "C" fn fantanolive_contacts_codes(
     out: &mut [u8],
     written: &mut u64,
 ) -> u64
-    ensures { λ r. ⌜ record { number = r; codes = now (written .exit); out = now (out .exit) }
+    ensures { λ r. ⌜ record { number = r; numbers = now (written .exit); buffers = now (out .exit) }
         ≡ codesLeft (now (table .entry)) count (now (state .entry)) (now (out .entry)) (now (written .entry)) ⌝ }
 {
     match codes::codes_of(table, count, state, out) {

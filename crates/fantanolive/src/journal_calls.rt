@@ -1,7 +1,7 @@
 // The C functions that apply a batch with a journal and take it back: each returns 0 or the refusal's number, and writes the result
 // numbers of a call that is carried out. Every argument may be anything that its type can hold.
-use batch::apply::Applied;
 use journaledapply::apply;
+use journaledapply::apply::Journaled;
 use takeback::take_back;
 use takeback::take_back::TakenBack;
 ghost use mathlib.Core.Path.{_≡_};
@@ -24,18 +24,18 @@ pub extern "C" fn fantanolive_apply_journaled(
 ) -> u64
     ensures { λ r. ⌜ record {
       number = r;
-      result = now (result .exit);
-      master = now (master .exit);
-      verdicts = now (verdicts .exit);
-      rejects = now (rejects .exit);
-      journal = now (journal .exit);
+      numbers = now (result .exit);
+      buffers = record {
+        applied = record { master = now (master .exit); verdicts = now (verdicts .exit); rejects = now (rejects .exit) };
+        journal = now (journal .exit);
+      };
     }
         ≡ journaledLeft
         (withJournal (callOf (now (master .entry)) rows (now (batch .entry)) (now (locals .entry)) year (now (verdicts .entry)) (now (rejects .entry)))
         (now (journal .entry)))
         (now (result .entry)) ⌝ }
 {
-    let r = apply::apply_journaled(
+    match apply::apply_journaled(
         master,
         rows,
         batch,
@@ -44,16 +44,14 @@ pub extern "C" fn fantanolive_apply_journaled(
         verdicts,
         rejects,
         journal,
-    );
-    let applied = r.applied;
-    let written = r.written;
-    match applied {
-        Applied::Done {
+    ) {
+        Journaled::Done {
             accepted,
             rejected,
             warned,
             neither,
             rows: left,
+            written,
         } => {
             *result = [
                 accepted,
@@ -65,7 +63,7 @@ pub extern "C" fn fantanolive_apply_journaled(
             ];
             0
         }
-        Applied::Refused(number) => number,
+        Journaled::Refused(number) => number,
     }
 }
 
@@ -77,7 +75,7 @@ pub extern "C" fn fantanolive_take_back(
     journal: &[u8],
     left: &mut u64,
 ) -> u64
-    ensures { λ r. ⌜ record { number = r; rows = now (left .exit); master = now (master .exit) }
+    ensures { λ r. ⌜ record { number = r; numbers = now (left .exit); buffers = now (master .exit) }
         ≡ takeBackLeft (now (master .entry)) rows (now (journal .entry)) (now (left .entry)) ⌝ }
 {
     match take_back::take_back(master, rows, journal) {

@@ -32,7 +32,11 @@ pub extern "C" fn fantanolive_apply(
     rejects: &mut [u8],
     result: &mut [u64; 5],
 ) -> u64
-    ensures { λ r. ⌜ record { number = r; result = now (result .exit); master = now (master .exit); verdicts = now (verdicts .exit); rejects = now (rejects .exit) }
+    ensures { λ r. ⌜ record {
+      number = r;
+      numbers = now (result .exit);
+      buffers = record { master = now (master .exit); verdicts = now (verdicts .exit); rejects = now (rejects .exit) };
+    }
         ≡ applyLeft
         (callOf (now (master .entry)) rows (now (batch .entry)) (now (locals .entry)) year (now (verdicts .entry)) (now (rejects .entry)))
         (now (result .entry)) ⌝ }
@@ -76,7 +80,7 @@ pub extern "C" fn fantanolive_reconcile(
     out: &mut [u8],
     records: &mut u64,
 ) -> u64
-    ensures { λ r. ⌜ record { number = r; records = now (records .exit); out = now (out .exit) }
+    ensures { λ r. ⌜ record { number = r; numbers = now (records .exit); buffers = now (out .exit) }
         ≡ reconcileLeft (now (master .entry)) rows (now (state .entry)) (now (date .entry)) (now (out .entry)) (now (records .entry)) ⌝ }
 {
     match reconcile::reconcile(master, rows, state, date, out) {

@@ -14,7 +14,7 @@ pub extern "C" fn fantanolive_find_many(
     places: &mut [u32],
     comparisons: &mut u64,
 ) -> u64
-    ensures { λ r. ⌜ record { number = r; comparisons = now (comparisons .exit); places = now (places .exit) }
+    ensures { λ r. ⌜ record { number = r; numbers = now (comparisons .exit); buffers = now (places .exit) }
         ≡ manyLeft (now (master .entry)) rows (now (keys .entry)) (now (places .entry)) (now (comparisons .entry)) ⌝ }
 {
     match many::find_many(master, rows, keys, places) {

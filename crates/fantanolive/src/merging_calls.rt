@@ -14,7 +14,7 @@ pub extern "C" fn fantanolive_merge(
     out: &mut [u8],
     records: &mut u64,
 ) -> u64
-    ensures { λ r. ⌜ record { number = r; records = now (records .exit); out = now (out .exit) }
+    ensures { λ r. ⌜ record { number = r; numbers = now (records .exit); buffers = now (out .exit) }
         ≡ mergeLeft (mergeCall (now (first .entry)) (now (second .entry)) (now (out .entry))) (now (records .entry)) ⌝ }
 {
     match merge::merge(first, second, out) {

@@ -12,7 +12,7 @@ pub extern "C" fn fantanolive_pages(
     out: &mut [u8],
     pages: &mut u64,
 ) -> u64
-    ensures { λ r. ⌜ record { number = r; pages = now (pages .exit); out = now (out .exit) }
+    ensures { λ r. ⌜ record { number = r; numbers = now (pages .exit); buffers = now (out .exit) }
         ≡ pagesLeft (now (master .entry)) rows (now (out .entry)) (now (pages .entry)) ⌝ }
 {
     match printing::pages(master, rows, out) {

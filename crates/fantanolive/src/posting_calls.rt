@@ -5,6 +5,7 @@ use addcents::convert::CentsAdded;
 use posting::post;
 use posting::post::Posted;
 ghost use mathlib.Core.Path.{_≡_};
+ghost use Rattle.addcents.specs.Convert.{convertCall};
 ghost use Rattle.posting.specs.Post.{postCall};
 ghost use Rattle.fantanolive.specs.AddCentsCalls.{convertLeft};
 ghost use Rattle.fantanolive.specs.PostingCalls.{postLeft};
@@ -12,7 +13,7 @@ ghost use Rattle.fantanolive.specs.PostingCalls.{postLeft};
 // Writes 00 into the cents of every row of a master that has none yet.
 #[no_mangle]
 pub extern "C" fn fantanolive_add_cents(master: &mut [u8], rows: usize) -> u64
-    ensures { λ r. ⌜ record { number = r; master = now (master .exit) } ≡ convertLeft (now (master .entry)) rows ⌝ }
+    ensures { λ r. ⌜ record { number = r; numbers = tt; buffers = now (master .exit) } ≡ convertLeft (convertCall (now (master .entry)) rows) ⌝ }
 {
     match convert::add_cents(master, rows) {
         CentsAdded::Done => 0,
@@ -29,7 +30,11 @@ pub extern "C" fn fantanolive_post(
     lines: &mut [u32],
     listed: &mut u64,
 ) -> u64
-    ensures { λ r. ⌜ record { number = r; listed = now (listed .exit); master = now (master .exit); lines = now (lines .exit) }
+    ensures { λ r. ⌜ record {
+      number = r;
+      numbers = now (listed .exit);
+      buffers = record { master = now (master .exit); lines = now (lines .exit) };
+    }
         ≡ postLeft (postCall (now (master .entry)) rows (now (file .entry)) (now (lines .entry))) (now (listed .entry)) ⌝ }
 {
     match post::post(master, rows, file, lines) {

@@ -1,14 +1,25 @@
 // Applying a batch with a journal: the refusals of `apply`, then 25, then the run that writes the journal.
 use batch::apply;
-use batch::apply::Applied;
-use batch::apply::Journaled;
 use batch::refusals;
 ghost use mathlib.Core.Path.{_≡_};
 ghost use Prim.Native.Nat.{_/_, _≤_, _^_};
 ghost use lib.ListN.{length};
 ghost use Rattle.layout.specs.Batch.{detailCount};
 ghost use Rattle.batch.specs.Call.{callOf};
-ghost use Rattle.journaledapply.specs.Journaled.{refusal25, withJournal, journaledOf, IsJournaled};
+ghost use Rattle.journaledapply.specs.Journaled.{refusal25, withJournal, journaledAs, IsJournaled};
+
+// The answer of the call: the counts of a run that is carried out and the journal's length, or the number of the refusal.
+pub enum Journaled {
+    Done {
+        accepted: u64,
+        rejected: u64,
+        warned: u64,
+        neither: u64,
+        rows: usize,
+        written: usize,
+    },
+    Refused(u64),
+}
 
 // Refusal 25.
 fn is_short(batch: &[u8], journal: &[u8]) -> bool
@@ -19,7 +30,7 @@ fn is_short(batch: &[u8], journal: &[u8]) -> bool
     journal.len() < 12 + 205 * d
 }
 
-// Applies a batch to a master of so many rows, and writes its journal; answers what `apply` answers, and the journal's length.
+// Applies a batch to a master of so many rows, and writes its journal.
 pub fn apply_journaled(
     master: &mut [u8],
     rows: usize,
@@ -33,22 +44,16 @@ pub fn apply_journaled(
     ensures { λ r. ⌜ IsJournaled
         (withJournal (callOf (now (master .entry)) rows (now (batch .entry)) (now (locals .entry)) year (now (verdicts .entry)) (now (rejects .entry)))
         (now (journal .entry)))
-        (journaledOf r (now (master .exit)) (now (verdicts .exit)) (now (rejects .exit)) (now (journal .exit))) ⌝ }
+        (journaledAs r (now (master .exit)) (now (verdicts .exit)) (now (rejects .exit)) (now (journal .exit))) ⌝ }
 {
     let number = refusals::first_refusal(master, rows, batch, locals, year, verdicts, rejects);
     if number != 0 {
-        return Journaled {
-            applied: Applied::Refused(number),
-            written: 0,
-        };
+        return Journaled::Refused(number);
     }
     if is_short(batch, journal) {
-        return Journaled {
-            applied: Applied::Refused(25),
-            written: 0,
-        };
+        return Journaled::Refused(25);
     }
-    apply::run(
+    let r = apply::run(
         master,
         rows,
         batch,
@@ -58,5 +63,13 @@ pub fn apply_journaled(
         rejects,
         journal,
         true,
-    )
+    );
+    Journaled::Done {
+        accepted: r.accepted,
+        rejected: r.rejected,
+        warned: r.warned,
+        neither: r.neither,
+        rows: r.rows,
+        written: r.written,
+    }
 }

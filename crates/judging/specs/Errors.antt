@@ -11,7 +11,7 @@ use Rattle.layout.specs.States.{isState}
 use Rattle.layout.specs.Ssn.{wrongSsn}
 use Rattle.layout.specs.Name.{isName, hasLetter}
 use Rattle.layout.specs.Zip.{isZip}
-use Rattle.layout.specs.Calendar.{isDate}
+use Rattle.dates.specs.Calendar.{isDate}
 use Rattle.layout.specs.ProcessYear.{inWindow}
 use Rattle.exclusionsets.specs.Exclusions.{exclusionsOf}
 use Rattle.layout.specs.Locals.{isListed}

@@ -1,8 +1,8 @@
 // A record's errors: a function for each code, and the set of all that hold.
 use casemaster::row;
+use dates::calendar;
 use exclusionsets::exclusions;
 use exclusionsets::exclusions::Exclusions;
-use layout::calendar;
 use layout::chart_a1;
 use layout::key;
 use layout::locals;

@@ -1,11 +1,9 @@
-pub mod CalendarLaws
 pub mod CodesLaws
 pub mod KeyLaws
 pub mod KeyNumberLaws
 pub mod KeyWritten
 pub mod LimitsLaws
 pub mod LocalsLaws
-pub mod MonthLaws
 pub mod NameLaws
 pub mod RecordLaws
 pub mod SsnLaws

@@ -1,5 +1,4 @@
 pub mod Batch
-pub mod Calendar
 pub mod Chart01
 pub mod Chart02
 pub mod Chart06

@@ -1,6 +1,5 @@
 // The layout of records: the columns of the charts, tables, the rule of each field, keys, and sets of codes.
 // Each function answers a definition of specs/, in the file of its own name.
-pub mod calendar;
 pub mod chart_01;
 pub mod chart_02;
 pub mod chart_06;

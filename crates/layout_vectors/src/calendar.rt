@@ -1,9 +1,9 @@
 // Error 15: line (e) of document 01's table and the dates beside it.
 use crate::lists;
 use crate::lists::Subject;
-use layout::calendar::days_in;
-use layout::calendar::is_day;
-use layout::calendar::is_leap;
+use dates::calendar::days_in;
+use dates::calendar::is_day;
+use dates::calendar::is_leap;
 use vector_text::print;
 
 fn dates(texts: &[u8]) {

@@ -6,7 +6,7 @@ use crate::exclusions;
 use crate::fields;
 use crate::locals;
 use crate::name;
-use layout::calendar::is_date;
+use dates::calendar::is_date;
 use layout::locals::is_local_list;
 use layout::process_year::in_window;
 use layout::ssn::wrong_ssn;

@@ -1,15 +1,15 @@
 -- Over whole calls: the records read off the output lead there, and 29 comes exactly if no list does. Each follows from the call's promise
--- by cases on the first refusal. Assumes nothing.
+-- by the laws of an outcome. Assumes nothing.
 use Prim.Native.Nat.{ℕ, _+_, _*_, _<_}
 use mathlib.Core.Path.{_≡_, refl, sym, ap, _∙_}
 use mathlib.Core.List.{List, [], _∷_}
-use mathlib.Core.Bool.{Bool, true, false, not, cond, false≢true}
-use mathlib.Core.Logic.{_⊎_, inl, inr}
+use mathlib.Core.Bool.{Bool, true, false, not, false≢true}
 use native.Mathlib.Omega.{arith}
-use borrow.Author.Tests.{eqb-true}
 use lib.Dec.{eqb}
 use lib.ListN.{length, getD, drop, length-append}
 use lib.Seq.{drop-at}
+use Rattle.answers.specs.Answer.{refuseIf, refused, done}
+use Rattle.answers.proofs.AnswerLaws.{outcome-refused, done-is, refusal-leaves}
 use Rattle.text.specs.Fields.{columns, every}
 use Rattle.text.specs.Blocks.{blocks, joined, over}
 use Rattle.text.specs.ByteNumbers.{AreBytes}
@@ -18,13 +18,12 @@ use Rattle.text.proofs.ByteNumberLaws.{bytes-take, bytes-drop}
 use Rattle.text.proofs.WidthLaws.{All, blocks-joined}
 use Rattle.layout.specs.Locals.{isLocalList}
 use Rattle.casemaster.specs.Row.{rowKey, isSoundRow}
-use Rattle.casemaster.specs.Refusals.{orElse}
 use Rattle.caserecords.specs.Differences.{setOf, refusal29}
 use Rattle.caserecords.specs.Records.{recordsTo}
-use Rattle.caserecords.specs.RecordsTo.{isRow, refusal30, recordsRefusal, RecordsResult, RecordsOutcome, records, refused, recordsOutcome}
+use Rattle.caserecords.specs.RecordsTo.{isRow, refusal30, recordsRefusal, RecordsOutcome, recordsRun, recordsOutcome}
 use Rattle.caserecords.proofs.RecordsToLaws.{row-wide}
 use Rattle.leading.specs.Leads.{isCorrection, Lead, NoneLeads, Pair}
-use Rattle.leading.specs.Theorem.{RecordsCall, IsRecordsCall, recordsIn, EveryCall}
+use Rattle.leading.specs.Theorem.{RecordsCall, IsRecordsCall, EveryCall}
 use Rattle.leading.proofs.NoneLeadsLaws.{correction-wide}
 use Rattle.leading.proofs.LeadsProof.{leads}
 
@@ -71,7 +70,7 @@ module _ (row wanted list out : List ℕ) where
   passed e = go (not (isLocalList list)) (isRow row) (isRow wanted) (refusal29 row wanted list) (refusal30 out) refl refl refl e
     where
       go : (a b c d f : Bool) → isRow row ≡ b → isRow wanted ≡ c → refusal29 row wanted list ≡ d
-          → orElse a 2 (orElse (not b) 4 (orElse (not c) 4 (orElse d 29 (orElse f 30 0)))) ≡ 0 → Passed row wanted list
+          → refuseIf a 2 (refuseIf (not b) 4 (refuseIf (not c) 4 (refuseIf d 29 (refuseIf f 30 0)))) ≡ 0 → Passed row wanted list
       go true b c d f p q r e = absurd (omega arith)
       go false false c d f p q r e = absurd (omega arith)
       go false true false d f p q r e = absurd (omega arith)
@@ -83,7 +82,7 @@ module _ (row wanted list out : List ℕ) where
   barred e = go (not (isLocalList list)) (isRow row) (isRow wanted) (refusal29 row wanted list) (refusal30 out) refl refl refl e
     where
       go : (a b c d f : Bool) → isRow row ≡ b → isRow wanted ≡ c → refusal29 row wanted list ≡ d
-          → orElse a 2 (orElse (not b) 4 (orElse (not c) 4 (orElse d 29 (orElse f 30 0)))) ≡ 29 → Barred row wanted list
+          → refuseIf a 2 (refuseIf (not b) 4 (refuseIf (not c) 4 (refuseIf d 29 (refuseIf f 30 0)))) ≡ 29 → Barred row wanted list
       go true b c d f p q r e = absurd (omega arith)
       go false false c d f p q r e = absurd (omega arith)
       go false true false d f p q r e = absurd (omega arith)
@@ -96,37 +95,35 @@ module _ (row wanted list out : List ℕ) where
   unfolding recordsRefusal
   refusal-29 a b c d = rw (a, b, c, d)
 
--- ---- the outcome, by cases
+-- ---- what is known of a call by its answer
 
 -- carried out
-record Carried (c : RecordsCall) : Type 0 where
+record Carried (c : RecordsCall) (n : ℕ) : Type 0 where
   refusal-is : recordsRefusal (c .row) (c .wanted) (c .list) (c .out) ≡ 0
-  result-is : c .result ≡ records (length (recordsTo (c .row) (c .wanted)))
+  count-is : n ≡ length (recordsTo (c .row) (c .wanted))
   after-is : c .after ≡ over (joined (recordsTo (c .row) (c .wanted))) (c .out)
 
--- refused
-record Refusing (c : RecordsCall) : Type 0 where
-  result-is : c .result ≡ refused (recordsRefusal (c .row) (c .wanted) (c .list) (c .out))
-  after-is : c .after ≡ c .out
+module _ (c : RecordsCall) (h : IsRecordsCall c) where
+  abbrev refusal : ℕ
+  refusal = recordsRefusal (c .row) (c .wanted) (c .list) (c .out)
 
-by-case : (c : RecordsCall) → IsRecordsCall c → Carried c ⊎ Refusing c
-unfolding recordsOutcome
-by-case c h = go (eqb (recordsRefusal (c .row) (c .wanted) (c .list) (c .out)) 0) refl h
-  where
-    go : (b : Bool) → eqb (recordsRefusal (c .row) (c .wanted) (c .list) (c .out)) 0 ≡ b
-        → _≡_ {A = RecordsOutcome} (record { result = c .result; out = c .after })
-        (cond b
-        (record { result = records (length (recordsTo (c .row) (c .wanted))); out = over (joined (recordsTo (c .row) (c .wanted))) (c .out) })
-        (record { result = refused (recordsRefusal (c .row) (c .wanted) (c .list) (c .out)); out = c .out }))
-        → Carried c ⊎ Refusing c
-    go true e h =
-        inl
-        (record {
-          refusal-is = eqb-true (recordsRefusal (c .row) (c .wanted) (c .list) (c .out)) 0 e;
-          result-is = ap (λ (o : RecordsOutcome). o .result) h;
-          after-is = ap (λ (o : RecordsOutcome). o .out) h;
-        })
-    go false e h = inr (record { result-is = ap (λ (o : RecordsOutcome). o .result) h; after-is = ap (λ (o : RecordsOutcome). o .out) h })
+  carried : (n : ℕ) → c .answer ≡ done n → Carried c n
+  unfolding recordsOutcome
+  carried n e =
+      let k = done-is refusal (c .out) (recordsRun (c .row) (c .wanted) (c .out)) n (ap (λ (o : RecordsOutcome). o .answer) (sym h) ∙ e) in
+      record { refusal-is = k .0; count-is = sym (k .1); after-is = ap (λ (o : RecordsOutcome). o .buffers) h ∙ k .2 }
+
+  refused-known : (k : ℕ) → c .answer ≡ refused k → (c .after ≡ c .out) × (refusal ≡ k)
+  unfolding recordsOutcome
+  refused-known k e =
+      let r = refusal-leaves refusal (c .out) (recordsRun (c .row) (c .wanted) (c .out)) k (ap (λ (o : RecordsOutcome). o .answer) (sym h) ∙ e) in
+      (ap (λ (o : RecordsOutcome). o .buffers) h ∙ r .0, r .1)
+
+  comes-29 : refusal ≡ 29 → c .answer ≡ refused 29
+  unfolding recordsOutcome
+  comes-29 e =
+      ap (λ (o : RecordsOutcome). o .answer)
+      (h ∙ sym (outcome-refused refusal (c .out) (recordsRun (c .row) (c .wanted) (c .out)) 29 (sym e) (λ z. omega arith)))
 
 -- ---- the records in the output
 
@@ -143,7 +140,7 @@ joined-wide (rec ∷ recs) h =
     let k : length (rec ∷ recs) ≡ length recs + 1 = omega arith in
     length-append rec (joined recs) ∙ omega (arith, h .0)
 
-module _ (c : RecordsCall) (b : AreBytes (c .wanted)) (h : Carried c) where
+module _ (c : RecordsCall) (b : AreBytes (c .wanted)) (n : ℕ) (h : Carried c n) where
   abbrev recs : List (List ℕ)
   recs = recordsTo (c .row) (c .wanted)
 
@@ -156,71 +153,43 @@ module _ (c : RecordsCall) (b : AreBytes (c .wanted)) (h : Carried c) where
   widths : All (λ (b : List ℕ). length b ≡ 245) recs
   widths = records-wide (rowKey (c .row)) recs (all-lead 0 .corrections)
 
-  read-back : (n : ℕ) → n ≡ length recs → blocks 245 n (c .after) ≡ recs
+  read-back : blocks 245 n (c .after) ≡ recs
   unfolding over
-  read-back n e = rw (e, h .after-is) (blocks-joined 245 recs (drop (length (joined recs)) (c .out)) widths)
+  read-back = rw (h .count-is, h .after-is) (blocks-joined 245 recs (drop (length (joined recs)) (c .out)) widths)
 
-  rest-kept : (n : ℕ) → n ≡ length recs → drop (n * 245) (c .after) ≡ drop (n * 245) (c .out)
+  rest-kept : drop (n * 245) (c .after) ≡ drop (n * 245) (c .out)
   unfolding over
-  rest-kept n e =
-      let w : length (joined recs) ≡ n * 245 = joined-wide recs widths ∙ ap (λ (k : ℕ). k * 245) (sym e) in
+  rest-kept =
+      let w : length (joined recs) ≡ n * 245 = joined-wide recs widths ∙ ap (λ (k : ℕ). k * 245) (sym (h .count-is)) in
       rw (h .after-is, w) (drop-at (joined recs) (drop (n * 245) (c .out)) (n * 245) w)
 
 -- ---- the theorem
 
-same-count : (r : RecordsResult) (m n : ℕ) → r ≡ records m → r ≡ records n → n ≡ m
-same-count r m n e f = cc
+module _ (c : RecordsCall) (b : AreBytes (c .wanted)) (h : IsRecordsCall c) where
+  none-29 : c .answer ≡ refused 29 → (year : ℕ) → NoneLeads (c .row) (c .wanted) year (c .list)
+  none-29 e year =
+      let d = barred (c .row) (c .wanted) (c .list) (c .out) (refused-known c h 29 e .1) in
+      leads (c .row) (c .wanted) (c .list) (pair (c .row) (c .wanted) (d .row-is) (d .wanted-is) b) year .exactly .0 (d .is-29)
 
-done-not-refused : (r : RecordsResult) (m n : ℕ) → r ≡ records m → r ≡ refused n → ⊥
-done-not-refused r m n e f = let z : _≡_ {A = ℕ} 0 1 = cc in omega arith
-
-call-comes-29 : (c : RecordsCall) → AreBytes (c .wanted) → Carried c ⊎ Refusing c → isLocalList (c .list) ≡ true → isRow (c .row) ≡ true → isRow (c .wanted) ≡ true
-    → (year : ℕ) → NoneLeads (c .row) (c .wanted) year (c .list) → c .result ≡ refused 29
-call-comes-29 c b k a r w year l = go (refusal29 (c .row) (c .wanted) (c .list)) refl k
-  where
-    go : (t : Bool) → refusal29 (c .row) (c .wanted) (c .list) ≡ t → Carried c ⊎ Refusing c → c .result ≡ refused 29
-    go true d (inl k) =
-        let e = refusal-29 (c .row) (c .wanted) (c .list) (c .out) a r w d in absurd (omega (arith, k .refusal-is))
-    go true d (inr k) = k .result-is ∙ ap refused (refusal-29 (c .row) (c .wanted) (c .list) (c .out) a r w d)
-    go false d k =
-        absurd (false≢true (sym d ∙ leads (c .row) (c .wanted) (c .list) (pair (c .row) (c .wanted) r w b) year .exactly .1 l))
+  call-comes-29 : isLocalList (c .list) ≡ true → isRow (c .row) ≡ true → isRow (c .wanted) ≡ true → (year : ℕ)
+      → NoneLeads (c .row) (c .wanted) year (c .list) → c .answer ≡ refused 29
+  call-comes-29 a r w year l = go (refusal29 (c .row) (c .wanted) (c .list)) refl
+    where
+      go : (t : Bool) → refusal29 (c .row) (c .wanted) (c .list) ≡ t → c .answer ≡ refused 29
+      go true d = comes-29 c h (refusal-29 (c .row) (c .wanted) (c .list) (c .out) a r w d)
+      go false d =
+          absurd (false≢true (sym d ∙ leads (c .row) (c .wanted) (c .list) (pair (c .row) (c .wanted) r w b) year .exactly .1 l))
 
 pub every-call : EveryCall
 every-call c b h =
     record {
-      lead = λ n e year. of-lead (by-case c h) n e year;
-      kept = λ n e. of-kept (by-case c h) n e;
-      alone = λ k e. of-alone (by-case c h) k e;
-      none = λ e year l. of-none (by-case c h) e year l;
-      comes = λ a r w year l. call-comes-29 c b (by-case c h) a r w year l;
+      lead = λ n e year. let k = carried c h n e in rw (read-back c b n k) (all-lead c b n k year);
+      kept = λ n e. rest-kept c b n (carried c h n e);
+      alone = λ k e. refused-known c h k e .0;
+      none = none-29 c b h;
+      comes = call-comes-29 c b h;
     }
-  where
-    of-lead : Carried c ⊎ Refusing c → (n : ℕ) → c .result ≡ records n → (year : ℕ) → Lead (c .row) (c .wanted) year (c .list) (recordsIn n c)
-    of-lead (inl k) n e year = rw (read-back c b k n (same-count (c .result) _ n (k .result-is) e)) (all-lead c b k year)
-    of-lead (inr k) n e year = absurd (done-not-refused (c .result) n _ e (k .result-is))
-
-    of-kept : Carried c ⊎ Refusing c → (n : ℕ) → c .result ≡ records n → drop (n * 245) (c .after) ≡ drop (n * 245) (c .out)
-    of-kept (inl k) n e = rest-kept c b k n (same-count (c .result) _ n (k .result-is) e)
-    of-kept (inr k) n e = absurd (done-not-refused (c .result) n _ e (k .result-is))
-
-    of-alone : Carried c ⊎ Refusing c → (n : ℕ) → c .result ≡ refused n → c .after ≡ c .out
-    of-alone (inl k) n e = absurd (done-not-refused (c .result) _ n (k .result-is) e)
-    of-alone (inr k) n e = k .after-is
-
-    of-none : Carried c ⊎ Refusing c → c .result ≡ refused 29 → (year : ℕ) → NoneLeads (c .row) (c .wanted) year (c .list)
-    of-none (inl k) e year l = done-not-refused (c .result) _ 29 (k .result-is) e
-    of-none (inr k) e year l =
-        let r : recordsRefusal (c .row) (c .wanted) (c .list) (c .out) ≡ 29 = same-refusal (c .result) _ 29 (k .result-is) e in
-        let d = barred (c .row) (c .wanted) (c .list) (c .out) r in
-        leads (c .row) (c .wanted) (c .list) (pair (c .row) (c .wanted) (d .row-is) (d .wanted-is) b) year .exactly .0 (d .is-29) l
-      where
-        same-refusal : (r : RecordsResult) (m n : ℕ) → r ≡ refused m → r ≡ refused n → m ≡ n
-        same-refusal r m n e f = cc
 
 -- the row of a call that is carried out has 200 bytes
-pub lead-wide : (c : RecordsCall) → AreBytes (c .wanted) → IsRecordsCall c → (n : ℕ) → c .result ≡ records n → length (c .row) ≡ 200
-lead-wide c b h n e = go (by-case c h)
-  where
-    go : Carried c ⊎ Refusing c → length (c .row) ≡ 200
-    go (inl k) = row-wide (c .row) (pass c b k .row-is)
-    go (inr k) = absurd (done-not-refused (c .result) n _ e (k .result-is))
+pub lead-wide : (c : RecordsCall) → AreBytes (c .wanted) → IsRecordsCall c → (n : ℕ) → c .answer ≡ done n → length (c .row) ≡ 200
+lead-wide c b h n e = row-wide (c .row) (pass c b n (carried c h n e) .row-is)

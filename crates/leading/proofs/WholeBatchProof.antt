@@ -1,12 +1,13 @@
 -- A batch of the records written alone leaves the wanted row in the row's place: under the row's key the machine runs over all of them, with no
 -- names given; under every other key there is no detail. Rising rows with the same row under each key are the same. Assumes nothing.
-use Prim.Native.Nat.{ℕ, suc, _+_}
+use Prim.Native.Nat.{ℕ, suc}
 use mathlib.Core.Path.{_≡_, refl, sym, ap, _∙_, subst}
 use mathlib.Core.List.{List, [], _∷_, _++_}
 use mathlib.Core.Bool.{Bool, true, false, cond}
 use mathlib.Core.Option.{Option, none, some}
 use native.Mathlib.Omega.{arith}
 use lib.ListN.{length, length-append}
+use Rattle.answers.specs.Answer.{isCarriedOut}
 use Rattle.text.specs.Characters.{B}
 use Rattle.text.specs.Fields.{every, sameBytes}
 use Rattle.text.specs.ByteOrder.{rising, belowFirst}
@@ -26,9 +27,10 @@ use Rattle.turns.specs.Under.{detailsUnder, verdictsUnder, runRow, runVerdicts}
 use Rattle.turns.specs.Settings.{settingUnder}
 use Rattle.turns.proofs.UnderLaws.{found-final, under-verdicts, length-verdicts}
 use Rattle.batch.specs.Call.{Call, callSettings}
-use Rattle.batch.specs.Apply.{Outcome, callVerdicts, IsOutcome, isCarriedOut, rowCount}
-use Rattle.effects.specs.TwoBatches.{verdictsLeft, rowsLeft}
-use Rattle.effects.proofs.TwoBatchesProof.{start-fit, records, rows-read, verdicts-read, count-left, left-rise}
+use Rattle.batch.specs.Apply.{ApplyOutcome, callVerdicts, IsOutcome, rowCount, rowsLeft}
+use Rattle.batch.proofs.CarriedLaws.{start-fit, records, rows-read, count-left, left-rise}
+use Rattle.effects.specs.TwoBatches.{verdictsLeft}
+use Rattle.effects.proofs.OutcomeLaws.{verdicts-read}
 use Rattle.leading.specs.Leads.{isCorrection, settingFor, Lead}
 use Rattle.leading.specs.Theorem.{recordsIn}
 use Rattle.leading.specs.WholeBatch.{EveryBatch}
@@ -108,10 +110,10 @@ found-at row (r ∷ before) behind t =
 
 -- ---- a batch of records that lead there, alone
 
-module _ (row wanted list : List ℕ) (recs : List (List ℕ)) (c : Call) (o : Outcome) (before behind : List (List ℕ)) (w : length row ≡ 200)
+module _ (row wanted list : List ℕ) (recs : List (List ℕ)) (c : Call) (o : ApplyOutcome) (before behind : List (List ℕ)) (w : length row ≡ 200)
     (h : Lead row wanted (c .year) list recs) (details : detailsOf (c .batch) ≡ recs) (state : submittingState (c .batch) ≡ rowState row)
     (locals : c .locals ≡ list) (stands : rowsOf (c .rows) (c .master) ≡ before ++ (row ∷ behind)) (i : IsOutcome c o)
-    (t : isCarriedOut (o .result) ≡ true) where
+    (t : isCarriedOut (o .answer) ≡ true) where
   abbrev key : List ℕ
   key = rowKey row
 
@@ -178,7 +180,7 @@ module _ (row wanted list : List ℕ) (recs : List (List ℕ)) (c : Call) (o : O
   rows-are : rowsLeft o ≡ end
   rows-are = same-rows (rowsLeft o) end (left-rise c o i t) end-rise (λ k. each-is k (sameBytes key k) refl)
 
-  count-is : rowCount (o .result) ≡ c .rows
+  count-is : rowCount (o .answer) ≡ c .rows
   count-is =
       let e = count-left c o i t ∙ ap length rows-are ∙ length-append before (wanted ∷ behind) in
       let f = sym (length-blocks 200 (c .rows) (c .master)) ∙ ap length stands ∙ length-append before (row ∷ behind) in

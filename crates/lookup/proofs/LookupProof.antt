@@ -2,7 +2,7 @@
 -- refusals so are those of `find`. Assumes nothing.
 use Prim.Native.Nat.{ℕ, _+_, _/_, _%_, _<_, _≤_}
 use mathlib.Core.Path.{_≡_, refl, sym, ap, _∙_}
-use mathlib.Core.Bool.{Bool, true, false, cond}
+use mathlib.Core.Bool.{Bool, true, false}
 use mathlib.Core.List.{List, [], _∷_, map}
 use mathlib.Core.Option.{Option, none, some}
 use native.Mathlib.Omega.{arith}
@@ -10,6 +10,7 @@ use lib.Dec.{eqb, ltb}
 use lib.ListN.{length, length-map}
 use lib.Seq.{take-at}
 use borrow.Author.Tests.{eqb-true, eqb-false, ltb-true, ltb-false, ne-eqb}
+use Rattle.answers.proofs.AnswerLaws.{done-is}
 use Rattle.text.specs.Fields.{every}
 use Rattle.text.specs.Blocks.{over}
 use Rattle.text.specs.ByteOrder.{rising}
@@ -23,8 +24,8 @@ use Rattle.casemaster.specs.Refusals.{masterRefusal}
 use Rattle.casemaster.proofs.RefusalsLaws.{master-sound}
 use Rattle.casemaster.proofs.RowsLaws.{rows-rise}
 use Rattle.casemaster.proofs.SearchLaws.{place-inside}
-use Rattle.lookup.specs.Find.{findResult}
-use Rattle.lookup.specs.Many.{keysIn, areKeys, noPlace, wholeWalk, manyRefusal, made, refused, ManyOutcome, manyOutcome}
+use Rattle.lookup.specs.Find.{findAnswer}
+use Rattle.lookup.specs.Many.{keysIn, areKeys, noPlace, wholeWalk, manyRefusal, ManyOutcome, manyRun, manyOutcome}
 use Rattle.lookup.specs.Theorem.{foundAs, AreFound, EveryLookup}
 use Rattle.lookup.proofs.FindLaws.{find-at, find-missing}
 use Rattle.lookup.proofs.LimitLaws.{rows-few}
@@ -68,10 +69,10 @@ module _ (master : List ℕ) (rows : ℕ) (keys places : List ℕ) where
         and-right (every isSoundKey (keysIn keys)) (rising (keysIn keys)) (and-right (eqb (length keys % 12) 0) _ (k .keys-right))
 
     -- an answer says what a single look-up gives
-    answer-says : (key : List ℕ) → isSoundKey key ≡ true → foundAs (placeFrom 0 (placeWith key rs)) ≡ findResult master rows key
+    answer-says : (key : List ℕ) → isSoundKey key ≡ true → foundAs (placeFrom 0 (placeWith key rs)) ≡ findAnswer master rows key
     answer-says key s = go (placeWith key rs) refl
       where
-        go : (q : Option ℕ) → placeWith key rs ≡ q → foundAs (placeFrom 0 q) ≡ findResult master rows key
+        go : (q : Option ℕ) → placeWith key rs ≡ q → foundAs (placeFrom 0 q) ≡ findAnswer master rows key
         go none e = find-missing master rows key (masterRefusal maxRows master rows 0) refl (k .master-right) s e
         go (some p) e =
             let z : 0 + p ≡ p = omega arith in
@@ -80,7 +81,7 @@ module _ (master : List ℕ) (rows : ℕ) (keys places : List ℕ) where
             (find-at master rows key (masterRefusal maxRows master rows 0) refl (k .master-right) s p e)
 
     answers-say : (ks : List (List ℕ)) → every isSoundKey ks ≡ true
-        → map foundAs (map (λ key. placeFrom 0 (placeWith key rs)) ks) ≡ map (findResult master rows) ks
+        → map foundAs (map (λ key. placeFrom 0 (placeWith key rs)) ks) ≡ map (findAnswer master rows) ks
     answers-say [] s = refl
     answers-say (key ∷ ks) s =
         rw (answer-says key (and-left (isSoundKey key) (every isSoundKey ks) s), answers-say ks (and-right (isSoundKey key) (every isSoundKey ks) s))
@@ -98,18 +99,8 @@ module _ (master : List ℕ) (rows : ℕ) (keys places : List ℕ) where
 
 pub every-lookup : EveryLookup
 unfolding manyOutcome
-every-lookup master rows keys places o comparisons e d = go (eqb (manyRefusal master rows keys places) 0) refl e
-  where
-    go : (b : Bool) → eqb (manyRefusal master rows keys places) 0 ≡ b
-        → o ≡ cond b (record { result = made (wholeWalk master rows keys .comparisons); places = over (wholeWalk master rows keys .answers) places })
-        (record { result = refused (manyRefusal master rows keys places); places = places })
-        → AreFound master rows keys (o .places) comparisons
-    go true t e =
-        let p : o .places ≡ over (wholeWalk master rows keys .answers) places = ap (λ (x : ManyOutcome). x .places) e in
-        let q : o .result ≡ made (wholeWalk master rows keys .comparisons) = ap (λ (x : ManyOutcome). x .result) e in
-        let n : comparisons ≡ wholeWalk master rows keys .comparisons = cc in
-        rw (p, n) (found master rows keys places (known master rows keys places (eqb-true (manyRefusal master rows keys places) 0 t)))
-    go false t e =
-        let q : o .result ≡ refused (manyRefusal master rows keys places) = ap (λ (x : ManyOutcome). x .result) e in
-        let z : _≡_ {A = ℕ} 0 1 = cc in
-        absurd (omega arith)
+every-lookup master rows keys places o comparisons e d =
+    let k = done-is (manyRefusal master rows keys places) places (manyRun master rows keys places) comparisons
+    (ap (λ (x : ManyOutcome). x .answer) (sym e) ∙ d) in
+    let p : o .buffers ≡ over (wholeWalk master rows keys .answers) places = ap (λ (x : ManyOutcome). x .buffers) e ∙ k .2 in
+    rw (p, ← k .1) (found master rows keys places (known master rows keys places (k .0)))

@@ -7,7 +7,8 @@ use mathlib.Core.List.{List, _++_}
 use native.Mathlib.Omega.{arith}
 use lib.ListN.{length, take, drop, take-append-drop}
 use lib.Seq.{length-take-le}
-use borrow.Author.Tests.{eq-eqb, ne-eqb, lt-ltb, le-ltb}
+use borrow.Author.Tests.{eq-eqb, lt-ltb, le-ltb}
+use Rattle.answers.proofs.AnswerLaws.{outcome-refused, outcome-done}
 use Rattle.text.specs.Fields.{every}
 use Rattle.text.specs.Blocks.{over}
 use Rattle.text.specs.ByteOrder.{rising}
@@ -15,7 +16,7 @@ use Rattle.layout.specs.Limits.{maxRows}
 use Rattle.layout.specs.Key.{isSoundKey}
 use Rattle.casemaster.specs.Refusals.{masterRefusal}
 use Rattle.casemaster.proofs.RefusalsLaws.{master-passed, master-refused}
-use Rattle.lookup.specs.Many.{keysIn, areKeys, Walked, wholeWalk, manyRefusal, ManyOutcome, manyAs, manyOutcome}
+use Rattle.lookup.specs.Many.{keysIn, areKeys, Walked, wholeWalk, manyRefusal, ManyOutcome, manyAs, manyRun, manyOutcome}
 use Rattle.lookup.specs.Steps.{HasWalked}
 use Rattle.lookup.specs.declared.many.FoundMany.the-variants.{Done, Refused}
 
@@ -48,29 +49,29 @@ module _ (master : List ℕ) (rows : ℕ) (keys places : List ℕ) where
 
   -- ---- the outcome
 
-  -- a refusal leaves the answers alone
-  outcome-refused : (number : ℕ) → refusal ≡ number → (number ≡ 0 → ⊥) → manyAs (Refused number) places ≡ outcome
+  many-refused : (number : ℕ) → number ≡ refusal → (number ≡ 0 → ⊥) → manyAs (Refused number) places ≡ outcome
   unfolding manyOutcome
-  outcome-refused number e h = rw (e, ne-eqb number 0 h)
+  many-refused = outcome-refused refusal places (manyRun master rows keys places)
 
-  pub outcome-master : (number : ℕ) → number ≡ masterRefusal maxRows master rows 0 → (number ≡ 0 → ⊥) → manyAs (Refused number) places ≡ outcome
-  outcome-master number e h = outcome-refused number (refused-master (λ z. h (e ∙ z)) ∙ sym e) h
+  pub many-master : (number : ℕ) → number ≡ masterRefusal maxRows master rows 0 → (number ≡ 0 → ⊥) → manyAs (Refused number) places ≡ outcome
+  many-master number e h = many-refused number (e ∙ sym (refused-master (λ z. h (e ∙ z)))) h
 
   module _ (e : masterRefusal maxRows master rows 0 ≡ 0) where
-    pub outcome-27 : areKeys keys ≡ false → manyAs (Refused 27) places ≡ outcome
-    outcome-27 t = outcome-refused 27 (refused-27 e t) (λ z. omega arith)
+    pub many-27 : areKeys keys ≡ false → manyAs (Refused 27) places ≡ outcome
+    many-27 t = many-refused 27 (sym (refused-27 e t)) (λ z. omega arith)
 
     module _ (t : areKeys keys ≡ true) where
-      pub outcome-28 : length places < length keys / 12 → manyAs (Refused 28) places ≡ outcome
-      outcome-28 l = outcome-refused 28 (refused-28 e t l) (λ z. omega arith)
+      pub many-28 : length places < length keys / 12 → manyAs (Refused 28) places ≡ outcome
+      many-28 l = many-refused 28 (sym (refused-28 e t l)) (λ z. omega arith)
 
-      pub outcome-walked : (after : List ℕ) (comparisons : ℕ) → length keys / 12 ≤ length places
+      pub many-done : (after : List ℕ) (comparisons : ℕ) → length keys / 12 ≤ length places
           → HasWalked master rows keys (length keys / 12) places after comparisons → manyAs (Done comparisons) after ≡ outcome
       unfolding manyOutcome manyRefusal over
-      outcome-walked after comparisons l w =
+      many-done after comparisons l w =
           let k = length keys / 12 in
           let p : refusal ≡ 0 = master-passed maxRows master rows e _ ∙ rw (t, le-ltb (length places) k l) in
           let a : wholeWalk master rows keys .answers ≡ take k after = ap (λ (z : Walked). z .answers) (sym (w .walked)) in
           let n : wholeWalk master rows keys .comparisons ≡ comparisons = ap (λ (z : Walked). z .comparisons) (sym (w .walked)) in
           let d : take k after ++ drop k places ≡ after = ap (λ (z : List ℕ). take k after ++ z) (sym (w .rest-kept)) ∙ take-append-drop k after in
-          rw (p, n, a, length-take-le k after (omega (arith, w .same-length)), d)
+          let b : over (wholeWalk master rows keys .answers) places ≡ after = rw (a, length-take-le k after (omega (arith, w .same-length)), d) in
+          rw (← n, ← b) (outcome-done refusal places (manyRun master rows keys places) p)

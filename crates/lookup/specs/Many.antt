@@ -1,9 +1,10 @@
 -- Document 02, item 9: many cases looked up together. Assumes nothing.
 use Prim.Native.Nat.{ℕ, suc, _/_, _%_}
 use mathlib.Core.List.{List, [], _∷_}
-use mathlib.Core.Bool.{Bool, not, cond, _&&_}
+use mathlib.Core.Bool.{Bool, not, _&&_}
 use lib.Dec.{eqb, ltb}
 use lib.ListN.{length}
+use Rattle.answers.specs.Answer.{refuseIf, Answer, refused, done, Outcome, Run, outcomeBy}
 use Rattle.text.specs.Fields.{every}
 use Rattle.text.specs.Blocks.{blocks, over}
 use Rattle.text.specs.ByteOrder.{Order, less, equal, greater, orderOf, rising}
@@ -11,7 +12,7 @@ use Rattle.layout.specs.Limits.{maxRows}
 use Rattle.layout.specs.Key.{isSoundKey}
 use Rattle.casemaster.specs.Row as Row
 use Rattle.casemaster.specs.Master.{rowsOf}
-use Rattle.casemaster.specs.Refusals.{orElse, masterRefusal}
+use Rattle.casemaster.specs.Refusals.{masterRefusal}
 use Rattle.lookup.specs.declared.many.FoundMany.{FoundMany}
 use Rattle.lookup.specs.declared.many.FoundMany.the-variants.{Done, Refused}
 
@@ -72,33 +73,25 @@ wholeWalk master rows keys = walk (keysIn keys) 0 (rowsOf rows master)
 unfoldable pub manyRefusal : List ℕ → ℕ → List ℕ → List ℕ → ℕ
 manyRefusal master rows keys places =
     masterRefusal maxRows master rows
-    (orElse (not (areKeys keys)) 27
-    (orElse (ltb (length places) (length keys / 12)) 28 0))
+    (refuseIf (not (areKeys keys)) 27
+    (refuseIf (ltb (length places) (length keys / 12)) 28 0))
 
--- the result: the number of comparisons with a row, or a refusal's number
-pub data ManyResult : Type 0 where
-  made : ℕ → ManyResult
-  refused : ℕ → ManyResult
+-- the answer: the number of comparisons with a row, or a refusal's number
+abbrev pub manyAnswer : FoundMany → Answer ℕ
+manyAnswer (Done n) = done n
+manyAnswer (Refused n) = refused n
 
--- what each answer of the call stands for
-abbrev pub manyOf : FoundMany → ManyResult
-manyOf (Done n) = made n
-manyOf (Refused n) = refused n
-
--- the result and every number lent that can be written
-pub record ManyOutcome : Type 0 where
-  pub result : ManyResult
-  pub places : List ℕ
+-- the answer and every number lent that can be written
+abbrev pub ManyOutcome : Type 0
+ManyOutcome = Outcome ℕ (List ℕ)
 
 abbrev pub manyAs : FoundMany → List ℕ → ManyOutcome
-manyAs answer places = record { result = manyOf answer; places = places }
+manyAs answer places = record { answer = manyAnswer answer; buffers = places }
 
--- answers behind the last key are kept; a refusal leaves all of them alone
+-- the walk's answers at the front of the list; those behind the last key are kept
+abbrev pub manyRun : List ℕ → ℕ → List ℕ → List ℕ → Run ℕ (List ℕ)
+manyRun master rows keys places =
+    record { result = wholeWalk master rows keys .comparisons; buffers = over (wholeWalk master rows keys .answers) places }
+
 unfoldable pub manyOutcome : List ℕ → ℕ → List ℕ → List ℕ → ManyOutcome
-manyOutcome master rows keys places =
-    cond (eqb (manyRefusal master rows keys places) 0)
-    (record {
-      result = made (wholeWalk master rows keys .comparisons);
-      places = over (wholeWalk master rows keys .answers) places;
-    })
-    (record { result = refused (manyRefusal master rows keys places); places = places })
+manyOutcome master rows keys places = outcomeBy (manyRefusal master rows keys places) places (manyRun master rows keys places)

@@ -6,16 +6,17 @@ use mathlib.Core.List.{List, map}
 use mathlib.Core.Bool.{cond}
 use lib.Dec.{eqb}
 use lib.ListN.{length, take}
-use Rattle.lookup.specs.Find.{FindResult, place, refused, findResult}
-use Rattle.lookup.specs.Many.{keysIn, noPlace, ManyOutcome, manyOutcome, made}
+use Rattle.answers.specs.Answer.{Answer, refused, done}
+use Rattle.lookup.specs.Find.{findAnswer}
+use Rattle.lookup.specs.Many.{keysIn, noPlace, ManyOutcome, manyOutcome}
 
 -- what an answer says: that a look-up is refused by 15, or its place
-abbrev pub foundAs : ℕ → FindResult
-foundAs answer = cond (eqb answer noPlace) (refused 15) (place answer)
+abbrev pub foundAs : ℕ → Answer ℕ
+foundAs answer = cond (eqb answer noPlace) (refused 15) (done answer)
 
 -- key by key, the answers are what single look-ups give; the comparisons are at most rows plus keys
 pub record AreFound (master : List ℕ) (rows : ℕ) (keys places : List ℕ) (comparisons : ℕ) : Type 0 where
-  pub each : map foundAs (take (length keys / 12) places) ≡ map (findResult master rows) (keysIn keys)
+  pub each : map foundAs (take (length keys / 12) places) ≡ map (findAnswer master rows) (keysIn keys)
   pub few : comparisons ≤ rows + length keys / 12
 
 -- of every call that is carried out
@@ -23,5 +24,5 @@ abbrev pub EveryLookup : Type 0
 EveryLookup =
     (master : List ℕ) (rows : ℕ) (keys places : List ℕ) (o : ManyOutcome) (comparisons : ℕ)
     → o ≡ manyOutcome master rows keys places
-    → o .result ≡ made comparisons
-    → AreFound master rows keys (o .places) comparisons
+    → o .answer ≡ done comparisons
+    → AreFound master rows keys (o .buffers) comparisons

@@ -1,5 +1,6 @@
 -- The worked examples of merging hold together, by computation. Assumes nothing.
 use mathlib.Core.Path.{refl}
+use Rattle.answers.specs.Answer.{outcomeBy}
 use Rattle.text.specs.Characters.{isDigit}
 use Rattle.text.specs.Fields.{isBlank, allDigits, areDigits, number, digitField, sameBytes, isOneOf}
 use Rattle.text.specs.Blocks.{blocks, joined, over}
@@ -15,7 +16,7 @@ pub merge-examples : MergeExamples
 unfolding
     isDigit isBlank allDigits areDigits number digitField sameBytes isOneOf blocks joined over stateTable isState detailsOf controlOf
     hasCTL hasState hasTotals countOf amountIn amountOf areCountsRight areAmountsRight
-    refusal5 refusal6 refusal20 refusal21 refusal7 refusal8 batchRefusal
+    outcomeBy refusal5 refusal6 refusal20 refusal21 refusal7 refusal8 batchRefusal
     totalsRecord mergedControl mergedBatch refusal32 refusal33 mergeRefusal mergeOutcome
     detail stating batch batchOfOne batchOfTwo emptyBatch bothBatch fullBatch miscounted missummed otherState
 merge-examples =

@@ -2,7 +2,7 @@
 -- the refusals of a batch, its stated totals being those of its details. Assumes nothing.
 use Prim.Native.Nat.{ℕ, _+_, _-_, _*_, _^_, _≤_, _<_}
 use mathlib.Core.Path.{_≡_, refl, sym, ap, ap₂, _∙_}
-use mathlib.Core.Bool.{Bool, true, false, not, cond, _||_, false≢true}
+use mathlib.Core.Bool.{Bool, true, false, not, cond, _||_}
 use mathlib.Core.List.{List, [], _∷_, _++_, append-nil}
 use native.Mathlib.Omega.{arith}
 use borrow.Author.Tests.{ltb-false, lt-ltb, le-ltb, eqb-true, eqb-false, eq-eqb, ne-eqb, not-false}
@@ -23,7 +23,9 @@ use Rattle.control.specs.Refusals.{batchRefusal}
 use Rattle.control.proofs.TotalsLaws.{count-sum}
 use Rattle.control.proofs.RefusalsLaws.{KnownBatch, batch-known, batch-behind, not-first}
 use Rattle.control.specs.Stated.{Stated, statedBy, statedSum, totalsRecord}
-use Rattle.merging.specs.Merge.{mergedTotals, mergedControl, mergedBatch, mergedCount, isAboveEleven, refusal32, refusal33, bothRefusal, mergeRefusal, MergeCall, MergeOutcome, merged, refused, mergedAs, mergeOr, mergeOutcome, IsMerge, isMerged, recordsWritten}
+use Rattle.answers.specs.Answer.{isCarriedOut}
+use Rattle.answers.proofs.AnswerLaws.{outcome-refused, outcome-done, none-holds}
+use Rattle.merging.specs.Merge.{mergedTotals, mergedControl, mergedBatch, mergedCount, isAboveEleven, refusal32, refusal33, bothRefusal, mergeRefusal, MergeCall, MergeOutcome, mergedAs, mergeRun, mergeOutcome, IsMerge, recordsWritten}
 use Rattle.merging.specs.declared.merge.Merged.the-variants.{Done, Refused}
 use Rattle.control.proofs.PassesLaws.{totalsOf, sum-append, totals-append, totals-right, counts-right, amounts-right, batch-length, details-joined, details-length, details-wide, state-two, first-state, counts-few, known-passes}
 use Rattle.control.proofs.StatedLaws.{length-control, control-columns, has-ctl, has-state, has-totals, stated-back}
@@ -305,42 +307,31 @@ module _ (limit : ℕ) (first second out : List ℕ) (passed : mergeRefusal limi
 -- ---- the outcome
 
 module _ (c : MergeCall) (n : ℕ) (e : n ≡ mergeRefusal (c .limit) (c .first) (c .second) (c .out)) where
-  pub outcome-refused : (n ≡ 0 → ⊥) → IsMerge c (mergedAs (Refused n) (c .out))
+  pub merge-refused : (n ≡ 0 → ⊥) → IsMerge c (mergedAs (Refused n) (c .out))
   unfolding mergeOutcome
-  outcome-refused h = record { is = sym (rw (← e, ne-eqb n 0 h)) }
+  merge-refused h = record { is = outcome-refused _ (c .out) (mergeRun c) n e h }
 
-  pub outcome-done : n ≡ 0 → (records : ℕ) → records ≡ mergedCount (c .first) (c .second)
+  pub merge-done : n ≡ 0 → (records : ℕ) → records ≡ mergedCount (c .first) (c .second)
       → (after : List ℕ) → after ≡ over (mergedBatch (c .first) (c .second)) (c .out) → IsMerge c (mergedAs (Done records) after)
   unfolding mergeOutcome
-  outcome-done z records er after ea = record { is = rw (er, ea) (sym (rw (← e, eq-eqb n 0 z))) }
+  merge-done z records er after ea = record { is = rw (er, ea) (outcome-done _ (c .out) (mergeRun c) (sym e ∙ z)) }
 
 -- ---- a merge that was carried out
 
-module _ (c : MergeCall) (o : MergeOutcome) (i : IsMerge c o) (t : isMerged (o .result) ≡ true) where
+module _ (c : MergeCall) (o : MergeOutcome) (i : IsMerge c o) (t : isCarriedOut (o .answer) ≡ true) where
   pub merge-passed : mergeRefusal (c .limit) (c .first) (c .second) (c .out) ≡ 0
   unfolding mergeOutcome
-  merge-passed = go (mergeRefusal (c .limit) (c .first) (c .second) (c .out)) (i .is)
-    where
-      told : (n : ℕ) (b : Bool) → eqb n 0 ≡ b → o ≡ mergeOr n c → n ≡ 0
-      told n true h e = eqb-true n 0 h
-      told n false h e =
-          let q : o ≡ record { result = refused n; out = c .out } = e ∙ rw h in
-          absurd (false≢true (sym (ap (λ (z : MergeOutcome). isMerged (z .result)) q) ∙ t))
-
-      go : (n : ℕ) → o ≡ mergeOr n c → n ≡ 0
-      go n e = told n (eqb n 0) refl e
+  merge-passed = none-holds _ (c .out) (mergeRun c) (ap (λ (p : MergeOutcome). isCarriedOut (p .answer)) (sym (i .is)) ∙ t)
 
   pub merge-facts : Mergeable (c .limit) (c .first) (c .second)
   merge-facts = merge-known (c .limit) (c .first) (c .second) (c .out) merge-passed .0
 
   -- what stands at the front of the output
-  pub merge-left : take (recordsWritten (o .result) * 245) (o .out) ≡ mergedBatch (c .first) (c .second)
+  pub merge-left : take (recordsWritten (o .answer) * 245) (o .buffers) ≡ mergedBatch (c .first) (c .second)
   unfolding mergeOutcome over
   merge-left =
       let f : Mergeable (c .limit) (c .first) (c .second) = merge-facts in
       let m : List ℕ = mergedBatch (c .first) (c .second) in
-      let e : o ≡ record { result = merged (mergedCount (c .first) (c .second)); out = m ++ drop (length m) (c .out) } =
-      i .is ∙ rw merge-passed in
-      ap (λ (q : MergeOutcome). take (recordsWritten (q .result) * 245) (q .out)) e
+      ap (λ (q : MergeOutcome). take (recordsWritten (q .answer) * 245) (q .buffers)) (i .is ∙ sym (outcome-done _ (c .out) (mergeRun c) merge-passed))
       ∙ take-at m (drop (length m) (c .out)) (mergedCount (c .first) (c .second) * 245)
       (merged-length (c .limit) (c .first) (c .second) (f .first-known) (f .second-known))

@@ -3,11 +3,12 @@
 use Prim.Native.Nat.{ℕ}
 use mathlib.Core.Path.{_≡_}
 use mathlib.Core.List.{List, [], _∷_, _++_}
+use Rattle.answers.specs.Answer.{refused, done}
 use Rattle.text.specs.Characters.{A, H, L, N, O}
 use Rattle.text.specs.Fields.{digitField, spaces}
 use Rattle.text.specs.Blocks.{joined}
 use Rattle.control.specs.Stated.{Stated, totalsRecord}
-use Rattle.merging.specs.Merge.{MergeOutcome, merged, refused, mergeOutcome}
+use Rattle.merging.specs.Merge.{MergeOutcome, mergeOutcome}
 
 unfoldable pub detail : ℕ → ℕ → List ℕ
 detail caseType amount = spaces 64 ++ digitField 8 amount ++ A ∷ caseType ∷ [] ++ spaces 171
@@ -55,10 +56,10 @@ abbrev pub leftBy : List ℕ → List ℕ → List ℕ → MergeOutcome
 leftBy first second out = mergeOutcome (record { first = first; second = second; out = out; limit = 4 })
 
 abbrev pub leaves : MergeOutcome → ℕ → List ℕ → Type 0
-leaves o n out = o ≡ record { result = merged n; out = out }
+leaves o n out = o ≡ record { answer = done n; buffers = out }
 
 abbrev pub refuses : MergeOutcome → ℕ → List ℕ → Type 0
-refuses o n out = o ≡ record { result = refused n; out = out }
+refuses o n out = o ≡ record { answer = refused n; buffers = out }
 
 pub record MergeExamples : Type 0 where
   -- four records, and three bytes behind them kept

@@ -2,14 +2,14 @@
 use Prim.Native.Nat.{ℕ, _+_}
 use mathlib.Core.Path.{_≡_}
 use mathlib.Core.List.{List, [], _∷_, _++_}
-use mathlib.Core.Bool.{Bool, true, false, not, cond, _||_}
-use lib.Dec.{eqb, ltb}
+use mathlib.Core.Bool.{Bool, not, _||_}
+use lib.Dec.{ltb}
 use lib.ListN.{length}
+use Rattle.answers.specs.Answer.{refuseIf, Answer, refused, done, Outcome, Run, outcomeBy}
 use Rattle.text.specs.Blocks.{joined, over}
 use Rattle.text.specs.Fields.{sameBytes}
 use Rattle.layout.specs.Limits.{maxRows}
 use Rattle.layout.specs.Batch.{detailCount, detailsOf, controlOf, submittingState}
-use Rattle.casemaster.specs.Refusals.{orElse}
 use Rattle.control.specs.Refusals.{batchRefusal}
 use Rattle.control.specs.Stated.{Stated, statedBy, statedSum, totalsRecord}
 use Rattle.merging.specs.declared.merge.Merged.{Merged}
@@ -52,7 +52,7 @@ refusal33 first second out = ltb (length out) (length (mergedBatch first second)
 
 -- 32, then 33; 0 where none of them holds
 abbrev pub bothRefusal : ℕ → List ℕ → List ℕ → List ℕ → ℕ
-bothRefusal limit first second out = orElse (refusal32 limit first second) 32 (orElse (refusal33 first second out) 33 0)
+bothRefusal limit first second out = refuseIf (refusal32 limit first second) 32 (refuseIf (refusal33 first second out) 33 0)
 
 -- the first input, then the second, passes 5 to 8 with 20 and 21; then 32 and 33
 unfoldable pub mergeRefusal : ℕ → List ℕ → List ℕ → List ℕ → ℕ
@@ -72,45 +72,30 @@ pub record MergeCall : Type 0 where
 abbrev pub mergeCall : List ℕ → List ℕ → List ℕ → MergeCall
 mergeCall first second out = record { first = first; second = second; out = out; limit = maxRows }
 
--- the result: how many records the merged batch has, or a refusal's number
-pub data MergeResult : Type 0 where
-  merged : ℕ → MergeResult
-  refused : ℕ → MergeResult
+-- the answer: how many records the merged batch has, or a refusal's number
+abbrev pub mergeAnswer : Merged → Answer ℕ
+mergeAnswer (Done n) = done n
+mergeAnswer (Refused n) = refused n
 
--- what each answer of the call stands for
-abbrev pub mergeResultOf : Merged → MergeResult
-mergeResultOf (Done n) = merged n
-mergeResultOf (Refused n) = refused n
+-- the answer and the output
+abbrev pub MergeOutcome : Type 0
+MergeOutcome = Outcome ℕ (List ℕ)
 
-pub record MergeOutcome : Type 0 where
-  pub result : MergeResult
-  pub out : List ℕ
-
--- the answer of a call and the output that it leaves
 abbrev pub mergedAs : Merged → List ℕ → MergeOutcome
-mergedAs answer out = record { result = mergeResultOf answer; out = out }
+mergedAs answer out = record { answer = mergeAnswer answer; buffers = out }
 
--- of a refusal's number, 0 where there is none: the merged batch at the front of the output and the bytes behind it kept; a refusal
--- leaves the output alone
-abbrev pub mergeOr : ℕ → MergeCall → MergeOutcome
-mergeOr refusal c =
-    cond (eqb refusal 0)
-    (record { result = merged (mergedCount (c .first) (c .second)); out = over (mergedBatch (c .first) (c .second)) (c .out) })
-    (record { result = refused refusal; out = c .out })
+-- the merged batch at the front of the output and the bytes behind it kept
+abbrev pub mergeRun : MergeCall → Run ℕ (List ℕ)
+mergeRun c = record { result = mergedCount (c .first) (c .second); buffers = over (mergedBatch (c .first) (c .second)) (c .out) }
 
 unfoldable pub mergeOutcome : MergeCall → MergeOutcome
-mergeOutcome c = mergeOr (mergeRefusal (c .limit) (c .first) (c .second) (c .out)) c
+mergeOutcome c = outcomeBy (mergeRefusal (c .limit) (c .first) (c .second) (c .out)) (c .out) (mergeRun c)
 
 -- what a call leaves: the promise of `merge`
 pub record IsMerge (c : MergeCall) (o : MergeOutcome) : Type 0 where
   pub is : o ≡ mergeOutcome c
 
--- two batches that are merged
-abbrev pub isMerged : MergeResult → Bool
-isMerged (merged n) = true
-isMerged (refused n) = false
-
--- the record count of a result; a refusal has none, and is never asked
-abbrev pub recordsWritten : MergeResult → ℕ
-recordsWritten (merged n) = n
+-- the record count of an answer; a refusal has none, and is never asked
+abbrev pub recordsWritten : Answer ℕ → ℕ
+recordsWritten (done n) = n
 recordsWritten (refused n) = 0

@@ -8,7 +8,7 @@ use Rattle.text.specs.Fields.{isBlank, isZero, allDigits, areDigits, number, di
 use Rattle.layout.specs.States.{stateTable, isState}
 use Rattle.layout.specs.Ssn.{wrongSsn}
 use Rattle.layout.specs.Name.{isNameByte, isNameRest, isName, hasLetter}
-use Rattle.layout.specs.Calendar.{isLeap, daysIn, isDay, isDate}
+use Rattle.dates.specs.Calendar.{isLeap, daysIn, isDay, isDate}
 use Rattle.layout.specs.ProcessYear.{inWindow}
 use Rattle.exclusionsets.specs.Exclusions.{exclusionNames, isSeparator, wordsFrom, readOnto, exclusionsOf}
 use Rattle.text.specs.Blocks.{blocks}

@@ -10,7 +10,7 @@ use Rattle.text.specs.Characters.{isLetter, space, hyphen, comma, A, D, E, F, H
 use Rattle.text.specs.Fields.{placed, digitField, spaces, sameBytes}
 use Rattle.layout.specs.Ssn.{wrongSsn}
 use Rattle.layout.specs.Name.{isName}
-use Rattle.layout.specs.Calendar.{isDate}
+use Rattle.dates.specs.Calendar.{isDate}
 use Rattle.layout.specs.ProcessYear.{inWindow}
 use Rattle.exclusionsets.specs.Exclusions.{exclusionsOf}
 use Rattle.casemaster.specs.Row.{rowKey, rowArrearage, rowExclusions, rowStatus, isLive, isSoundRow}

@@ -6,10 +6,10 @@ use mathlib.Core.Bool.{Bool, true, false, cond}
 use mathlib.Core.List.{List, [], _∷_, _++_}
 use native.Mathlib.Nat.{suc-mul, not-suc-le-zero, le-of-suc-le-suc}
 use native.Mathlib.Omega.{arith}
-use lib.Dec.{eqb}
 use lib.ListN.{length, take, drop, getD, length-append, length-take, length-drop, take-append-drop}
 use lib.Seq.{drop-drop, getD-append-add, length-take-le}
-use borrow.Author.Tests.{eqb-true}
+use Rattle.answers.specs.Answer.{refuseIf}
+use Rattle.answers.proofs.AnswerLaws.{done-is}
 use Rattle.text.specs.Fields.{columns, number}
 use Rattle.text.specs.Blocks.{blocks, joined, over}
 use Rattle.text.proofs.BlocksLaws.{blocks-get, length-blocks}
@@ -18,10 +18,10 @@ use Rattle.text.proofs.WidthLaws.{All, all-append, all-take, all-drop, blocks-w
 use Rattle.casemaster.specs.Row.{isLive}
 use Rattle.layout.specs.Limits.{maxRows}
 use Rattle.casemaster.specs.Master.{rowsOf}
-use Rattle.casemaster.specs.Refusals.{orElse, refusal3, refusal4, masterRefusal}
+use Rattle.casemaster.specs.Refusals.{refusal3, refusal4, masterRefusal}
 use Rattle.casemaster.proofs.RefusalsLaws.{master-rows, master-limit}
 use Rattle.pages.specs.Forms.{pageDigits, caseLine, heading, foot}
-use Rattle.pages.specs.Pages.{caseLines, firstPages, pageCount, pagesOf, page, printedFrom, printed, pagesRefusal, pages, refused, PagesOutcome, pagesOutcome}
+use Rattle.pages.specs.Pages.{caseLines, firstPages, pageCount, pagesOf, page, printedFrom, printed, pagesRefusal, PagesOutcome, pagesRun, pagesOutcome}
 use Rattle.pages.specs.Theorem.{allLines, ArePages, EveryPrinting}
 use Rattle.pages.proofs.LineColumns.{line-columns, heading-columns, foot-columns}
 use Rattle.pages.proofs.LimitLaws.{few-pages}
@@ -150,25 +150,14 @@ not-refused : (master : List ℕ) (rows : ℕ) (out : List ℕ) → pagesRefusal
 unfolding pagesRefusal masterRefusal
 not-refused master rows out e = go (refusal3 maxRows master rows) (refusal4 master rows) _ e
   where
-    go : (a b : Bool) (behind : ℕ) → orElse a 3 (orElse b 4 behind) ≡ 0 → orElse a 3 (orElse b 4 0) ≡ 0
+    go : (a b : Bool) (behind : ℕ) → refuseIf a 3 (refuseIf b 4 behind) ≡ 0 → refuseIf a 3 (refuseIf b 4 0) ≡ 0
     go true b behind e = e
     go false true behind e = e
     go false false behind e = refl
 
 pub every-printing : EveryPrinting
 unfolding pagesOutcome
-every-printing master rows out o n e d = go (eqb (pagesRefusal master rows out) 0) refl e
-  where
-    go : (b : Bool) → eqb (pagesRefusal master rows out) 0 ≡ b
-        → o ≡ cond b (record { result = pages (length (pagesOf (caseLines (rowsOf rows master)))); out = over (joined (printed (rowsOf rows master))) out })
-        (record { result = refused (pagesRefusal master rows out); out = out })
-        → ArePages (rowsOf rows master) n (o .out)
-    go true t e =
-        let p : o .out ≡ over (joined (printed (rowsOf rows master))) out = ap (λ (x : PagesOutcome). x .out) e in
-        let q : o .result ≡ pages (length (pagesOf (caseLines (rowsOf rows master)))) = ap (λ (x : PagesOutcome). x .result) e in
-        let m : n ≡ length (pagesOf (caseLines (rowsOf rows master))) = cc in
-        rw (p, m) (are-pages master rows out (not-refused master rows out (eqb-true (pagesRefusal master rows out) 0 t)))
-    go false t e =
-        let q : o .result ≡ refused (pagesRefusal master rows out) = ap (λ (x : PagesOutcome). x .result) e in
-        let z : _≡_ {A = ℕ} 0 1 = cc in
-        absurd (omega arith)
+every-printing master rows out o n e d =
+    let k = done-is (pagesRefusal master rows out) out (pagesRun master rows out) n (ap (λ (x : PagesOutcome). x .answer) (sym e) ∙ d) in
+    let p : o .buffers ≡ over (joined (printed (rowsOf rows master))) out = ap (λ (x : PagesOutcome). x .buffers) e ∙ k .2 in
+    rw (p, ← k .1) (are-pages master rows out (not-refused master rows out (k .0)))

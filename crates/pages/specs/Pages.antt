@@ -1,14 +1,14 @@
 -- Document 02, item 12: the pages of a master, and the outcome of the call, down to every byte lent. Assumes nothing.
 use Prim.Native.Nat.{ℕ, zero, suc, _+_, _*_, _/_}
 use mathlib.Core.List.{List, [], _∷_, _++_, map}
-use mathlib.Core.Bool.{cond}
-use lib.Dec.{eqb, ltb}
+use lib.Dec.{ltb}
 use lib.ListN.{length, take, drop}
+use Rattle.answers.specs.Answer.{refuseIf, Answer, refused, done, Outcome, Run, outcomeBy}
 use Rattle.text.specs.Blocks.{joined, over}
 use Rattle.layout.specs.Limits.{maxRows}
 use Rattle.casemaster.specs.Row.{isLive}
 use Rattle.casemaster.specs.Master.{rowsOf, rowsThat}
-use Rattle.casemaster.specs.Refusals.{orElse, masterRefusal}
+use Rattle.casemaster.specs.Refusals.{masterRefusal}
 use Rattle.pages.specs.Forms.{lineWidth, caseLine, heading, foot}
 use Rattle.pages.specs.declared.printing.Printed.{Printed}
 use Rattle.pages.specs.declared.printing.Printed.the-variants.{Done, Refused}
@@ -50,32 +50,24 @@ printed rows = printedFrom 1 (pagesOf (caseLines rows))
 -- refused, in order: 3; 4; 31, a buffer too short for the pages
 unfoldable pub pagesRefusal : List ℕ → ℕ → List ℕ → ℕ
 pagesRefusal master rows out =
-    masterRefusal maxRows master rows (orElse (ltb (length out) (length (printed (rowsOf rows master)) * lineWidth)) 31 0)
+    masterRefusal maxRows master rows (refuseIf (ltb (length out) (length (printed (rowsOf rows master)) * lineWidth)) 31 0)
 
--- the result counts the pages, or is a refusal's number
-pub data PagesResult : Type 0 where
-  pages : ℕ → PagesResult
-  refused : ℕ → PagesResult
+-- the answer: how many pages there are, or a refusal's number
+abbrev pub pagesAnswer : Printed → Answer ℕ
+pagesAnswer (Done n) = done n
+pagesAnswer (Refused n) = refused n
 
--- what each answer of the call stands for
-abbrev pub pagesAnswered : Printed → PagesResult
-pagesAnswered (Done n) = pages n
-pagesAnswered (Refused n) = refused n
+-- the answer and the buffer
+abbrev pub PagesOutcome : Type 0
+PagesOutcome = Outcome ℕ (List ℕ)
 
-pub record PagesOutcome : Type 0 where
-  pub result : PagesResult
-  pub out : List ℕ
-
--- the answer of the call and the buffer that it leaves
 abbrev pub pagesAs : Printed → List ℕ → PagesOutcome
-pagesAs answer out = record { result = pagesAnswered answer; out = out }
+pagesAs answer out = record { answer = pagesAnswer answer; buffers = out }
 
--- bytes behind the pages are kept; a refusal leaves the buffer alone
+-- the pages at the front of the buffer; bytes behind them are kept
+abbrev pub pagesRun : List ℕ → ℕ → List ℕ → Run ℕ (List ℕ)
+pagesRun master rows out =
+    record { result = length (pagesOf (caseLines (rowsOf rows master))); buffers = over (joined (printed (rowsOf rows master))) out }
+
 unfoldable pub pagesOutcome : List ℕ → ℕ → List ℕ → PagesOutcome
-pagesOutcome master rows out =
-    cond (eqb (pagesRefusal master rows out) 0)
-    (record {
-      result = pages (length (pagesOf (caseLines (rowsOf rows master))));
-      out = over (joined (printed (rowsOf rows master))) out;
-    })
-    (record { result = refused (pagesRefusal master rows out); out = out })
+pagesOutcome master rows out = outcomeBy (pagesRefusal master rows out) out (pagesRun master rows out)

@@ -4,11 +4,12 @@ use Prim.Native.Nat.{ℕ, suc, _+_, _*_, _≤_, _<_}
 use mathlib.Core.Path.{_≡_}
 use mathlib.Core.List.{List, [], _∷_, _++_}
 use lib.ListN.{length, take, drop, getD}
+use Rattle.answers.specs.Answer.{done}
 use Rattle.text.specs.Blocks.{blocks}
 use Rattle.text.specs.Fields.{columns, number}
 use Rattle.casemaster.specs.Master.{rowsOf}
 use Rattle.pages.specs.Forms.{lineWidth, pageDigits}
-use Rattle.pages.specs.Pages.{caseLines, printedFrom, PagesOutcome, pagesOutcome, pages}
+use Rattle.pages.specs.Pages.{caseLines, printedFrom, PagesOutcome, pagesOutcome}
 
 -- the lines of all pages, joined
 unfoldable pub allLines : List (List (List ℕ)) → List (List ℕ)
@@ -38,5 +39,5 @@ abbrev pub EveryPrinting : Type 0
 EveryPrinting =
     (master : List ℕ) (rows : ℕ) (out : List ℕ) (o : PagesOutcome) (n : ℕ)
     → o ≡ pagesOutcome master rows out
-    → o .result ≡ pages n
-    → ArePages (rowsOf rows master) n (o .out)
+    → o .answer ≡ done n
+    → ArePages (rowsOf rows master) n (o .buffers)

@@ -13,7 +13,7 @@ use Rattle.text.proofs.BlocksLaws.{length-blocks, blocks-next}
 use Rattle.text.proofs.BlocksLaws.{kept-further}
 use Rattle.casemaster.proofs.RowsLaws.{Fit}
 use Rattle.posting.specs.Posting.{isPostedIn, afterLine, afterLines, listedFrom, listed}
-use Rattle.posting.specs.Parts.{LineDone, Worked}
+use Rattle.posting.specs.Parts.{LineDone, LinesDone}
 use Rattle.posting.proofs.TurnLaws.{after-fit}
 
 -- i lines done, k of them listed
@@ -95,7 +95,7 @@ module _ (m₀ : List ℕ) (n : ℕ) (file : List ℕ) (count : ℕ) (lines₀ :
         kept-go false e f =
             rw (e, f) (drop-set-lt (k + 1) lines k (i + 1) (omega arith) ∙ kept-further lines lines₀ k (k + 1) (omega arith) (g .list-kept))
 
-  pub going-end : (m lines : List ℕ) (k i : ℕ) → Going m₀ n file count lines₀ m lines k i → count ≤ i → Worked m₀ n file count lines₀ m lines k
+  pub going-end : (m lines : List ℕ) (k i : ℕ) → Going m₀ n file count lines₀ m lines k i → count ≤ i → LinesDone m₀ n file count lines₀ m lines k
   unfolding afterLines listedFrom
   going-end m lines k i g h =
       let z : drop i (blocks 240 count file) ≡ [] = drop-of-length-le (blocks 240 count file) {i = i} (rw (length-blocks 240 count file) h) in

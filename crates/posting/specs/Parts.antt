@@ -30,7 +30,7 @@ pub record LineDone (m : List ℕ) (n : ℕ) (line after : List ℕ) (r : Bool) 
   pub same-length : length after ≡ length m
 
 -- the master and the list after all lines
-pub record Worked (m : List ℕ) (n : ℕ) (file : List ℕ) (count : ℕ) (lines after lines-after : List ℕ) (k : ℕ) : Type 0 where
+pub record LinesDone (m : List ℕ) (n : ℕ) (file : List ℕ) (count : ℕ) (lines after lines-after : List ℕ) (k : ℕ) : Type 0 where
   pub rows-are : rowsOf n after ≡ afterLines (rowsOf n m) (blocks 240 count file)
   pub rest-kept : drop (n * 200) after ≡ drop (n * 200) m
   pub list-is : take k lines-after ≡ listed (rowsOf n m) (blocks 240 count file)

@@ -1,9 +1,9 @@
 -- Document 02, item 6: the refusals in order, and the outcome of the call, down to every byte lent. Assumes nothing.
 use Prim.Native.Nat.{ℕ}
+use mathlib.Core.Path.{_≡_}
 use mathlib.Core.List.{List}
-use mathlib.Core.Bool.{cond}
-use lib.Dec.{eqb}
 use lib.ListN.{length}
+use Rattle.answers.specs.Answer.{Answer, refused, done, Outcome, Run, outcomeBy}
 use Rattle.layout.specs.Limits.{maxRows}
 use Rattle.text.specs.Blocks.{joined, over}
 use Rattle.casemaster.specs.Master.{rowsOf}
@@ -14,7 +14,7 @@ use Rattle.posting.specs.declared.post.Posted.{Posted}
 use Rattle.posting.specs.declared.post.Posted.the-variants.{Done, Refused}
 
 -- all that is lent to a call
-pub record Call : Type 0 where
+pub record PostCall : Type 0 where
   pub master : List ℕ
   pub rows : ℕ
   pub file : List ℕ
@@ -28,56 +28,55 @@ pub record Call : Type 0 where
 abbrev pub postRefusal : ℕ → List ℕ → ℕ → List ℕ → ℕ → ℕ
 postRefusal limit master rows file room = masterRefusal limit master rows (fileRefusal limit file room)
 
+abbrev pub refusalOf : PostCall → ℕ
+refusalOf c = postRefusal (c .limit) (c .master) (c .rows) (c .file) (length (c .lines))
+
 -- ---- the outcome
 
--- the result: a refusal's number, or how many lines are listed
-pub data Result : Type 0 where
-  refused : ℕ → Result
-  done : ℕ → Result
+-- the answer: how many lines are listed, or a refusal's number
+abbrev pub postAnswer : Posted → Answer ℕ
+postAnswer (Done n) = done n
+postAnswer (Refused n) = refused n
 
--- what each answer of the call stands for
-abbrev pub postedOf : Posted → Result
-postedOf (Done n) = done n
-postedOf (Refused n) = refused n
-
--- the result and every byte lent that can be written
-pub record Outcome : Type 0 where
-  pub result : Result
+-- every byte and number lent that can be written
+pub record PostBuffers : Type 0 where
   pub master : List ℕ
   pub lines : List ℕ
 
+abbrev pub PostOutcome : Type 0
+PostOutcome = Outcome ℕ PostBuffers
+
 -- the rows at entry and after all lines, and the numbers listed
-abbrev pub rowsBefore : Call → List (List ℕ)
+abbrev pub rowsBefore : PostCall → List (List ℕ)
 rowsBefore c = rowsOf (c .rows) (c .master)
 
-abbrev pub rowsAfter : Call → List (List ℕ)
+abbrev pub rowsAfter : PostCall → List (List ℕ)
 rowsAfter c = afterLines (rowsBefore c) (linesIn (c .file))
 
-abbrev pub listedNumbers : Call → List ℕ
+abbrev pub listedNumbers : PostCall → List ℕ
 listedNumbers c = listed (rowsBefore c) (linesIn (c .file))
 
 -- the rows and the list written, with what stood behind each kept
-unfoldable pub carriedOut : Call → Outcome
-carriedOut c =
+abbrev pub postRun : PostCall → Run ℕ PostBuffers
+postRun c =
     record {
-      result = done (length (listedNumbers c));
-      master = over (joined (rowsAfter c)) (c .master);
-      lines = over (listedNumbers c) (c .lines);
+      result = length (listedNumbers c);
+      buffers = record { master = over (joined (rowsAfter c)) (c .master); lines = over (listedNumbers c) (c .lines) };
     }
 
--- a refusal leaves every buffer alone
-abbrev pub left : ℕ → Call → Outcome
-left n c = record { result = refused n; master = c .master; lines = c .lines }
+abbrev pub lentTo : PostCall → PostBuffers
+lentTo c = record { master = c .master; lines = c .lines }
 
-abbrev pub refusalOf : Call → ℕ
-refusalOf c = postRefusal (c .limit) (c .master) (c .rows) (c .file) (length (c .lines))
-
-unfoldable pub postOutcome : Call → Outcome
-postOutcome c = cond (eqb (refusalOf c) 0) (carriedOut c) (left (refusalOf c) c)
+unfoldable pub postOutcome : PostCall → PostOutcome
+postOutcome c = outcomeBy (refusalOf c) (lentTo c) (postRun c)
 
 -- the call, from what is lent, with the limit that the code has, and the outcome from what is answered
-abbrev pub postCall : List ℕ → ℕ → List ℕ → List ℕ → Call
+abbrev pub postCall : List ℕ → ℕ → List ℕ → List ℕ → PostCall
 postCall master rows file lines = record { master = master; rows = rows; file = file; lines = lines; limit = maxRows }
 
-abbrev pub postedAs : Posted → List ℕ → List ℕ → Outcome
-postedAs answer master lines = record { result = postedOf answer; master = master; lines = lines }
+abbrev pub postedAs : Posted → List ℕ → List ℕ → PostOutcome
+postedAs answer master lines = record { answer = postAnswer answer; buffers = record { master = master; lines = lines } }
+
+-- what a call leaves: the promise of `post`
+pub record IsPosting (c : PostCall) (o : PostOutcome) : Type 0 where
+  pub is : o ≡ postOutcome c

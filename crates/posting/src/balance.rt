@@ -4,7 +4,6 @@ use crate::money::Dollars;
 use casemaster::row;
 use collections::cents::Cents;
 use text::fields;
-use text::fields::Columns;
 ghost use mathlib.Core.Path.{_≡_};
 ghost use mathlib.Core.Bool.{true, cond};
 ghost use mathlib.Core.List.{[], _∷_};
@@ -42,13 +41,21 @@ pub fn balance_after(balance: Cents, collection: Cents, adjustment: Cents) -> Ce
     Cents(raised - taken)
 }
 
-// The row with a number as digits in some columns.
-fn with_number(row: [u8; 200], to: Columns, n: u64) -> [u8; 200]
-    requires { ⌜ (1 ≤ to .first) × (to .first ≤ to .last + 1) × (to .last ≤ 200) ⌝ }
-    ensures { λ r. ⌜ r ≡ placed (to .first) (to .last) (digitField (to .last + 1 - to .first) n) row ⌝ }
+// The row with other dollars.
+fn with_dollars(row: [u8; 200], dollars: Dollars) -> [u8; 200]
+    ensures { λ r. ⌜ r ≡ placed 66 73 (digitField 8 (dollars .0)) row ⌝ }
 {
     let mut out = row;
-    fields::put_number(&mut out, to, n);
+    fields::put_number(&mut out, row::ARREARAGE, dollars.0);
+    out
+}
+
+// The row with other cents beside its dollars.
+fn with_cents(row: [u8; 200], part: Cents) -> [u8; 200]
+    ensures { λ r. ⌜ r ≡ placed 197 198 (digitField 2 (part .0)) row ⌝ }
+{
+    let mut out = row;
+    fields::put_number(&mut out, row::CENTS, part.0);
     out
 }
 
@@ -78,7 +85,7 @@ pub fn with_balance(row: [u8; 200], cents: Cents) -> [u8; 200]
 {
     let part = money::beside_dollars(cents);
     let dollars = money::whole_dollars(cents);
-    let a = with_number(row, row::CENTS, part.0);
+    let a = with_cents(row, part);
     let b = with_status(a, status_of(cents));
-    with_number(b, row::ARREARAGE, dollars.0)
+    with_dollars(b, dollars)
 }

@@ -20,8 +20,8 @@ ghost use Rattle.casemaster.specs.Master.{rowsOf, areSoundRows};
 ghost use Rattle.casemaster.specs.Row.{isSoundRow};
 ghost use Rattle.casemaster.specs.Rows.{placeWith};
 ghost use Rattle.collections.specs.Line.{lineKey};
-ghost use Rattle.posting.specs.Post.{postCall, postedAs, postOutcome};
-ghost use Rattle.posting.specs.Parts.{IsPut, LineDone, Worked};
+ghost use Rattle.posting.specs.Post.{postCall, postedAs, IsPosting};
+ghost use Rattle.posting.specs.Parts.{IsPut, LineDone, LinesDone};
 
 // The answer of the call: how many lines are listed, or the number of the refusal.
 pub enum Posted {
@@ -96,7 +96,7 @@ fn note(lines: &mut [u32], k: usize, i: usize, posted: bool) -> usize
 // The first n rows through each of the first `count` lines.
 fn work(m: &mut [u8], n: usize, file: &[u8], count: usize, lines: &mut [u32]) -> usize
     requires { ⌜ (n * 200 ≤ length (now m)) × (areSoundRows (rowsOf n (now m)) ≡ true) × (count * 240 ≤ length (now file)) × (count ≤ maxRows) × (count ≤ length (now lines)) ⌝ }
-    ensures { λ r. ⌜ Worked (now (m .entry)) n (now (file .entry)) count (now (lines .entry)) (now (m .exit)) (now (lines .exit)) r ⌝ }
+    ensures { λ r. ⌜ LinesDone (now (m .entry)) n (now (file .entry)) count (now (lines .entry)) (now (m .exit)) (now (lines .exit)) r ⌝ }
 {
     let mut hints = [0usize; 16];
     let mut k: usize = 0;
@@ -115,7 +115,8 @@ fn work(m: &mut [u8], n: usize, file: &[u8], count: usize, lines: &mut [u32]) ->
 
 // Posts each line of a collection file to a master, and lists the numbers of those that are not posted.
 pub fn post(master: &mut [u8], rows: usize, file: &[u8], lines: &mut [u32]) -> Posted
-    ensures { λ r. ⌜ postedAs r (now (master .exit)) (now (lines .exit)) ≡ postOutcome (postCall (now (master .entry)) rows (now (file .entry)) (now (lines .entry))) ⌝ }
+    ensures { λ r. ⌜ IsPosting (postCall (now (master .entry)) rows (now (file .entry)) (now (lines .entry)))
+        (postedAs r (now (master .exit)) (now (lines .exit))) ⌝ }
 {
     let first = refusals::master_refusal(master, rows);
     if first != 0 {

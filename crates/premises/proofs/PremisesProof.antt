@@ -5,6 +5,7 @@ use mathlib.Core.Bool.{Bool, true, false, cond, false≢true}
 use mathlib.Core.List.{List, [], _∷_}
 use native.Mathlib.Omega.{arith}
 use lib.ListN.{length}
+use Rattle.answers.specs.Answer.{outcomeBy}
 use Rattle.text.specs.Characters.{B, isLetter, isDigit}
 use Rattle.text.specs.Fields.{isBlank, isZero, allDigits, areDigits, number, digitField, sameBytes, isOneOf}
 use Rattle.text.specs.Blocks.{blocks, joined, over}
@@ -13,7 +14,7 @@ use Rattle.text.proofs.BoolLaws.{or-left, or-right}
 use Rattle.layout.specs.States.{stateTable, isState}
 use Rattle.layout.specs.Ssn.{wrongSsn}
 use Rattle.layout.specs.Name.{isNameByte, isNameRest, isName, hasLetter}
-use Rattle.layout.specs.Calendar.{isLeap, daysIn, isDay, isDate}
+use Rattle.dates.specs.Calendar.{isLeap, daysIn, isDay, isDate}
 use Rattle.layout.specs.ProcessYear.{inWindow}
 use Rattle.layout.specs.Locals.{codesOfList, isListed, isLocalList}
 use Rattle.layout.specs.Key.{isCaseType, isSoundKey, isOwnKey}
@@ -41,7 +42,7 @@ use Rattle.control.specs.Stated.{totalsRecord}
 use Rattle.reporting.specs.Rejects.{numbers, rejectRecord, rejectRecords}
 use Rattle.reporting.specs.Counts.{howMany, countsOf, controlRecord}
 use Rattle.batch.specs.Refusals.{refusal1, refusal2, refusal9, refusal10, refusal11, spaceRefusal, applyRefusal}
-use Rattle.batch.specs.Apply.{carriedOut, applyOutcome}
+use Rattle.batch.specs.Apply.{applyRun, applyOutcome}
 use Rattle.effects.specs.TwoBatches.{readVerdicts}
 use Rattle.effects.specs.Several.{Sent, WasCarriedOut, SameState, EachSent, Master, masterFound, masterLeft, OneBehindTheOther, detailsSent, joinedDetails, verdictsSent, joinedVerdicts, anyB, anyRecord, batchesWith, NoBInTwo}
 use Rattle.premises.specs.Premises.{batchOf, callWith, sent, sentTo, deletes, renames, together, deletesAlone, renamesAlone, addsTwice, adds, addsAgain, addsNowhere, amends, alabama, pays, relocates, amendsNothing, PremisesNeeded}
@@ -146,7 +147,7 @@ unfolding
     base ofName ofYear liveRow afterDetail verdictOn finalRows verdictsOn detailsUnder addsWithoutRow
     hasCTL hasState hasTotals countOf amountIn amountOf areCountsRight areAmountsRight refusal5 refusal6 refusal20 refusal21 refusal7 refusal8
     batchRefusal totalsRecord numbers rejectRecord rejectRecords howMany countsOf controlRecord
-    refusal1 refusal2 refusal9 refusal10 refusal11 spaceRefusal applyRefusal carriedOut applyOutcome readVerdicts
+    refusal1 refusal2 refusal9 refusal10 refusal11 spaceRefusal applyRefusal applyRun outcomeBy applyOutcome readVerdicts
     joinedDetails joinedVerdicts anyB batchOf callWith sent sentTo deletes renames together deletesAlone renamesAlone
     addsTwice adds addsAgain addsNowhere amends pays relocates amendsNothing
 computed =

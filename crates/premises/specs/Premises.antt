@@ -178,7 +178,7 @@ unfoldable pub deletesAlone : Sent
 deletesAlone = sentTo liveRow 1 (deletes ∷ [])
 
 unfoldable pub renamesAlone : Sent
-renamesAlone = sentTo (deletesAlone .outcome .master) 1 (renames ∷ [])
+renamesAlone = sentTo (deletesAlone .outcome .buffers .master) 1 (renames ∷ [])
 
 -- carried out: A twice for a new key, with one free place. Together they get refusal 9, apart the second finds the row of the first
 unfoldable pub addsTwice : Sent
@@ -188,7 +188,7 @@ unfoldable pub adds : Sent
 adds = sentTo (spaces 200) 0 (base A ∷ [])
 
 unfoldable pub addsAgain : Sent
-addsAgain = sentTo (adds .outcome .master) 1 (base A ∷ [])
+addsAgain = sentTo (adds .outcome .buffers .master) 1 (base A ∷ [])
 
 -- A without a free place gets refusal 9
 unfoldable pub addsNowhere : Sent

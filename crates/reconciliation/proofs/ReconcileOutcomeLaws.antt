@@ -4,14 +4,15 @@ use mathlib.Core.Path.{_≡_, sym, _∙_}
 use mathlib.Core.List.{List, _++_}
 use mathlib.Core.Bool.{true, false}
 use native.Mathlib.Omega.{arith}
-use borrow.Author.Tests.{ne-eqb, lt-ltb, le-ltb}
+use borrow.Author.Tests.{lt-ltb, le-ltb}
 use lib.ListN.{length}
+use Rattle.answers.proofs.AnswerLaws.{outcome-refused, outcome-done}
 use Rattle.layout.specs.Limits.{maxRows}
 use Rattle.layout.specs.States.{isState}
-use Rattle.layout.specs.Calendar.{isDate}
+use Rattle.dates.specs.Calendar.{isDate}
 use Rattle.text.specs.Blocks.{joined, over}
 use Rattle.casemaster.specs.Master.{rowsOf}
-use Rattle.reconciliation.specs.Reconcile.{recRecords, rctRecord, refusal12, refusal13, refusalOfSpace, reconcileRefusal, ReconcileOutcome, reconciledAs, reconcileOutcome}
+use Rattle.reconciliation.specs.Reconcile.{recRecords, rctRecord, refusal12, refusal13, refusalOfSpace, reconcileRefusal, ReconcileOutcome, reconciledAs, reconcileRun, reconcileOutcome}
 use Rattle.reconciliation.specs.declared.reconcile.Reconciled.the-variants.{Done, Refused}
 use Rattle.casemaster.proofs.RefusalsLaws.{master-passed, master-refused}
 use Rattle.casemaster.specs.Refusals.{masterRefusal}
@@ -26,37 +27,36 @@ module _ (master : List ℕ) (rows : ℕ) (state date out : List ℕ) where
   abbrev records : List (List ℕ)
   records = recRecords state (rowsOf rows master)
 
-  -- a refusal leaves the buffer alone
-  outcome-refused : (code : ℕ) → refusal ≡ code → (code ≡ 0 → ⊥) → reconciledAs (Refused code) out ≡ outcome
+  reconcile-refused : (number : ℕ) → number ≡ refusal → (number ≡ 0 → ⊥) → reconciledAs (Refused number) out ≡ outcome
   unfolding reconcileOutcome
-  outcome-refused code e h = rw (e, ne-eqb code 0 h)
+  reconcile-refused = outcome-refused refusal out (reconcileRun master rows state date out)
 
-  pub outcome-master : (code : ℕ) → code ≡ masterRefusal maxRows master rows 0 → (code ≡ 0 → ⊥) → reconciledAs (Refused code) out ≡ outcome
+  pub reconcile-master : (number : ℕ) → number ≡ masterRefusal maxRows master rows 0 → (number ≡ 0 → ⊥) → reconciledAs (Refused number) out ≡ outcome
   unfolding reconcileRefusal
-  outcome-master code e h = outcome-refused code (master-refused maxRows master rows (λ z. h (e ∙ z)) _ ∙ sym e) h
+  reconcile-master number e h = reconcile-refused number (e ∙ sym (master-refused maxRows master rows (λ z. h (e ∙ z)) _)) h
 
   module _ (e : masterRefusal maxRows master rows 0 ≡ 0) where
-    pub outcome-12 : isState state ≡ false → reconciledAs (Refused 12) out ≡ outcome
+    pub reconcile-12 : isState state ≡ false → reconciledAs (Refused 12) out ≡ outcome
     unfolding reconcileRefusal refusal12
-    outcome-12 s = outcome-refused 12 (master-passed maxRows master rows e _ ∙ rw s) (λ z. omega arith)
+    reconcile-12 s = reconcile-refused 12 (sym (master-passed maxRows master rows e _ ∙ rw s)) (λ z. omega arith)
 
     module _ (s : isState state ≡ true) where
-      pub outcome-13 : isDate date ≡ false → reconciledAs (Refused 13) out ≡ outcome
+      pub reconcile-13 : isDate date ≡ false → reconciledAs (Refused 13) out ≡ outcome
       unfolding reconcileRefusal refusal12 refusal13
-      outcome-13 d = outcome-refused 13 (master-passed maxRows master rows e _ ∙ rw (s, d)) (λ z. omega arith)
+      reconcile-13 d = reconcile-refused 13 (sym (master-passed maxRows master rows e _ ∙ rw (s, d))) (λ z. omega arith)
 
       module _ (d : isDate date ≡ true) where
-        pub outcome-11 : length out / 245 ≤ length records → reconciledAs (Refused 11) out ≡ outcome
+        pub reconcile-11 : length out / 245 ≤ length records → reconciledAs (Refused 11) out ≡ outcome
         unfolding reconcileRefusal refusal12 refusal13 refusalOfSpace
-        outcome-11 l =
+        reconcile-11 l =
             let b = lt-ltb (length out) (245 * (length records + 1)) (omega arith) in
-            outcome-refused 11 (master-passed maxRows master rows e _ ∙ rw (s, d, b)) (λ z. omega arith)
+            reconcile-refused 11 (sym (master-passed maxRows master rows e _ ∙ rw (s, d, b))) (λ z. omega arith)
 
-        pub outcome-done : (n : ℕ) (after : List ℕ) → length records < length out / 245 → n ≡ length records
+        pub reconcile-done : (n : ℕ) (after : List ℕ) → length records < length out / 245 → n ≡ length records
             → after ≡ over (joined records ++ rctRecord state date (rowsOf rows master)) out
             → reconciledAs (Done n) after ≡ outcome
         unfolding reconcileOutcome reconcileRefusal refusal12 refusal13 refusalOfSpace
-        outcome-done n after l en ea =
+        reconcile-done n after l en ea =
             let b = le-ltb (length out) (245 * (length records + 1)) (omega arith) in
             let p : refusal ≡ 0 = master-passed maxRows master rows e _ ∙ rw (s, d, b) in
-            rw (p, en, ea)
+            rw (en, ea) (outcome-done refusal out (reconcileRun master rows state date out) p)

@@ -4,18 +4,19 @@ use mathlib.Core.List.{List, [], _∷_, _++_, map}
 use mathlib.Core.Bool.{Bool, not, cond, _&&_}
 use lib.Dec.{eqb, ltb}
 use lib.ListN.{length, getD}
+use Rattle.answers.specs.Answer.{refuseIf, Answer, refused, done, Outcome, Run, outcomeBy}
 use Rattle.layout.specs.Limits.{maxRows}
 use Rattle.text.specs.Characters.{A, C, E, N, R, T}
 use Rattle.text.specs.Fields.{columns, sameBytes, digitField, spaces}
 use Rattle.layout.specs.States.{isState}
-use Rattle.layout.specs.Calendar.{isDate}
+use Rattle.dates.specs.Calendar.{isDate}
 use Rattle.exclusionsets.specs.Exclusions.{exclusionColumns}
 use Rattle.text.specs.Blocks.{joined, over}
 use Rattle.casemaster.specs.Row.{rowState, rowSsn, rowCaseType, rowLocalCode, rowCaseId, rowLastName, rowArrearage, rowDateIssued, rowExclusions, isLive}
 use Rattle.casemaster.specs.Master.{rowsOf, rowsThat}
 use Rattle.reconciliation.specs.declared.reconcile.Reconciled.{Reconciled}
 use Rattle.reconciliation.specs.declared.reconcile.Reconciled.the-variants.{Done, Refused}
-use Rattle.casemaster.specs.Refusals.{orElse, masterRefusal}
+use Rattle.casemaster.specs.Refusals.{masterRefusal}
 
 -- a live row of that state
 abbrev pub isReported : List ℕ → List ℕ → Bool
@@ -65,34 +66,30 @@ refusalOfSpace state rows out = ltb (length out) (245 * (length (recRecords stat
 unfoldable pub reconcileRefusal : List ℕ → ℕ → List ℕ → List ℕ → List ℕ → ℕ
 reconcileRefusal master rows state date out =
     masterRefusal maxRows master rows
-    (orElse (refusal12 state) 12
-    (orElse (refusal13 date) 13
-    (orElse (refusalOfSpace state (rowsOf rows master) out) 11 0)))
+    (refuseIf (refusal12 state) 12
+    (refuseIf (refusal13 date) 13
+    (refuseIf (refusalOfSpace state (rowsOf rows master) out) 11 0)))
 
--- the result is the number of REC records, or a refusal's number
-pub data ReconcileResult : Type 0 where
-  records : ℕ → ReconcileResult
-  refused : ℕ → ReconcileResult
+-- the answer: the number of REC records, or a refusal's number
+abbrev pub reconcileAnswer : Reconciled → Answer ℕ
+reconcileAnswer (Done n) = done n
+reconcileAnswer (Refused n) = refused n
 
--- what each answer of the call stands for
-abbrev pub reconciledOf : Reconciled → ReconcileResult
-reconciledOf (Done n) = records n
-reconciledOf (Refused n) = refused n
+-- the answer and the buffer
+abbrev pub ReconcileOutcome : Type 0
+ReconcileOutcome = Outcome ℕ (List ℕ)
 
-pub record ReconcileOutcome : Type 0 where
-  pub result : ReconcileResult
-  pub out : List ℕ
-
--- the answer of the call and the buffer that it leaves
 abbrev pub reconciledAs : Reconciled → List ℕ → ReconcileOutcome
-reconciledAs r out = record { result = reconciledOf r; out = out }
+reconciledAs answer out = record { answer = reconcileAnswer answer; buffers = out }
 
--- bytes behind RCT are kept; a refusal leaves the buffer alone
+-- the file at the front of the buffer; bytes behind RCT are kept
+abbrev pub reconcileRun : List ℕ → ℕ → List ℕ → List ℕ → List ℕ → Run ℕ (List ℕ)
+reconcileRun master rows state date out =
+    record {
+      result = length (recRecords state (rowsOf rows master));
+      buffers = over (joined (recRecords state (rowsOf rows master)) ++ rctRecord state date (rowsOf rows master)) out;
+    }
+
 unfoldable pub reconcileOutcome : List ℕ → ℕ → List ℕ → List ℕ → List ℕ → ReconcileOutcome
 reconcileOutcome master rows state date out =
-    cond (eqb (reconcileRefusal master rows state date out) 0)
-    (record {
-      result = records (length (recRecords state (rowsOf rows master)));
-      out = over (joined (recRecords state (rowsOf rows master)) ++ rctRecord state date (rowsOf rows master)) out;
-    })
-    (record { result = refused (reconcileRefusal master rows state date out); out = out })
+    outcomeBy (reconcileRefusal master rows state date out) out (reconcileRun master rows state date out)

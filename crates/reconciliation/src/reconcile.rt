@@ -2,8 +2,8 @@
 use casemaster::master::ROW_WIDTH;
 use casemaster::refusals;
 use casemaster::row;
+use dates::calendar;
 use exclusionsets::exclusions;
-use layout::calendar;
 use layout::chart_06;
 use layout::chart_07;
 use layout::records::RECORD_WIDTH;

@@ -7,7 +7,9 @@ use mathlib.Core.Option.{Option, none, some}
 use native.Mathlib.Omega.{arith}
 use lib.Dec.{ltb, eqb}
 use lib.ListN.{length, drop}
-use borrow.Author.Tests.{ltb-true, lt-ltb, eqb-true, ne-eqb}
+use borrow.Author.Tests.{ltb-true, lt-ltb, eqb-true}
+use Rattle.answers.specs.Answer.{refuseIf}
+use Rattle.answers.proofs.AnswerLaws.{outcome-refused, outcome-done}
 use Rattle.text.specs.Blocks.{joined, over}
 use Rattle.text.proofs.FieldsLaws.{and-left, and-right}
 use Rattle.text.proofs.BoolLaws.{and-both}
@@ -15,14 +17,14 @@ use Rattle.text.proofs.BlocksLaws.{holds-over, length-blocks}
 use Rattle.layout.specs.Limits.{maxRows}
 use Rattle.layout.proofs.LimitsLaws.{max-rows}
 use Rattle.casemaster.specs.Master.{rowsOf, areSoundRows}
-use Rattle.casemaster.specs.Refusals.{orElse, refusal3, refusal4, masterRefusal}
+use Rattle.casemaster.specs.Refusals.{refusal3, refusal4, masterRefusal}
 use Rattle.casemaster.proofs.RefusalsLaws.{master-passed, master-refused, master-rows, master-limit}
 use Rattle.journal.specs.Journal.{Entry, Journal, journal, entriesIn, journalIn}
 use Rattle.takeback.specs.Restored.{placesRise, placesBelow, newMarks, restoredFrom, restored, fits, canTakeBack}
 use Rattle.journal.specs.Reading.{reach}
 use Rattle.takeback.specs.Testing.{CountsRead, IsCounts, IsCountsIf}
 use Rattle.takeback.specs.Restoring.{CanRestore, AllRestored}
-use Rattle.takeback.specs.TakeBack.{takenAs, refusal26, takeBackRefusal, takeBackOutcome}
+use Rattle.takeback.specs.TakeBack.{takenAs, refusal26, takeBackRefusal, takeBackRun, takeBackOutcome}
 use Rattle.takeback.specs.declared.testing.Counts.{Counts}
 use Rattle.takeback.specs.declared.take_back.TakenBack.the-variants.{Done, Refused}
 
@@ -43,23 +45,23 @@ module _ (limit : ℕ) (master : List ℕ) (rows : ℕ) where
     pub refused-master : (r : ℕ) → r ≡ masterRefusal limit master rows 0 → (r ≡ 0 → ⊥) → r ≡ takeBackRefusal limit master rows bytes
     unfolding takeBackRefusal
     refused-master r e h =
-        e ∙ sym (master-refused limit master rows (λ f. h (e ∙ f)) (orElse (refusal26 master rows bytes) 26 0))
+        e ∙ sym (master-refused limit master rows (λ f. h (e ∙ f)) (refuseIf (refusal26 master rows bytes) 26 0))
 
     pub refusal-none : masterRefusal limit master rows 0 ≡ 0 → (t : Bool) → t ≡ canTakeBack (journalIn bytes) (rowsOf rows master) → t ≡ true
         → 0 ≡ takeBackRefusal limit master rows bytes
     unfolding takeBackRefusal refusal26
-    refusal-none e t f g = sym (master-passed limit master rows e (orElse (refusal26 master rows bytes) 26 0) ∙ rw (← f, g))
+    refusal-none e t f g = sym (master-passed limit master rows e (refuseIf (refusal26 master rows bytes) 26 0) ∙ rw (← f, g))
 
     pub refusal-26 : masterRefusal limit master rows 0 ≡ 0 → (t : Bool) → t ≡ canTakeBack (journalIn bytes) (rowsOf rows master) → t ≡ false
         → 26 ≡ takeBackRefusal limit master rows bytes
     unfolding takeBackRefusal refusal26
-    refusal-26 e t f g = sym (master-passed limit master rows e (orElse (refusal26 master rows bytes) 26 0) ∙ rw (← f, g))
+    refusal-26 e t f g = sym (master-passed limit master rows e (refuseIf (refusal26 master rows bytes) 26 0) ∙ rw (← f, g))
 
     pub no-refusal : takeBackRefusal limit master rows bytes ≡ 0 → (masterRefusal limit master rows 0 ≡ 0) × (canTakeBack (journalIn bytes) (rowsOf rows master) ≡ true)
     unfolding takeBackRefusal refusal26 masterRefusal
     no-refusal e = go (refusal3 limit master rows) (refusal4 master rows) (canTakeBack (journalIn bytes) (rowsOf rows master)) e
       where
-        go : (a b t : Bool) → orElse a 3 (orElse b 4 (orElse (not t) 26 0)) ≡ 0 → (orElse a 3 (orElse b 4 0) ≡ 0) × (t ≡ true)
+        go : (a b t : Bool) → refuseIf a 3 (refuseIf b 4 (refuseIf (not t) 26 0)) ≡ 0 → (refuseIf a 3 (refuseIf b 4 0) ≡ 0) × (t ≡ true)
         go true b t e = absurd (omega arith)
         go false true t e = absurd (omega arith)
         go false false false e = absurd (omega arith)
@@ -67,7 +69,7 @@ module _ (limit : ℕ) (master : List ℕ) (rows : ℕ) where
 
     pub take-refused : (r : ℕ) → r ≡ takeBackRefusal limit master rows bytes → (r ≡ 0 → ⊥) → takenAs (Refused r) master ≡ takeBackOutcome limit master rows bytes
     unfolding takeBackOutcome
-    take-refused r e h = rw (← e, ne-eqb r 0 h)
+    take-refused = outcome-refused (takeBackRefusal limit master rows bytes) master (takeBackRun (journalIn bytes) master rows)
 
 -- ---- carried out
 
@@ -137,4 +139,5 @@ module _ (limit : ℕ) (l : limit < reach) (master : List ℕ) (rows : ℕ) (byt
       let m : after ≡ over (joined (restoredFrom 0 (k .can .entries) (rowsOf rows master))) master =
       holds-over 200 master after count (restoredFrom 0 (k .can .entries) (rowsOf rows master)) (record { blocks-are = g .rows-are; rest-kept = g .rest-kept })
       (omega (arith, g .same-length, g .few)) in
-      rw (e, k .is, m)
+      rw (m, k .is)
+      (outcome-done (takeBackRefusal limit master rows bytes) master (takeBackRun (some (journal (c .before) (c .after) (k .can .entries))) master rows) e)

@@ -6,12 +6,13 @@ use mathlib.Core.Bool.{true}
 use mathlib.Core.List.{List, [], _∷_}
 use mathlib.Core.Option.{some}
 use lib.ListN.{length}
+use Rattle.answers.proofs.AnswerLaws.{outcome-done}
 use Rattle.text.proofs.WidthLaws.{All}
 use Rattle.casemaster.specs.Master.{rowsOf}
 use Rattle.casemaster.proofs.RowsLaws.{IsWide}
 use Rattle.journal.specs.Journal.{Journal, journalOf, journalBytes, journalIn}
 use Rattle.takeback.specs.Restored.{canTakeBack}
-use Rattle.takeback.specs.TakeBack.{takeBackRefusal, takeBackOutcome}
+use Rattle.takeback.specs.TakeBack.{takeBackRefusal, takeBackRun, takeBackOutcome}
 use Rattle.takeback.specs.Theorem.{AreWide, TakesBack}
 use Rattle.takeback.proofs.TakenLaws.{taken-back, journal-taken}
 use Rattle.journal.proofs.FormLaws.{journal-own-read}
@@ -33,4 +34,5 @@ takes-back limit old master rows k =
     let r : journalIn (journalBytes j) ≡ some j = journal-own-read old new (all-wide old (k .wide)) in
     let t : canTakeBack (journalIn (journalBytes j)) new ≡ true = ap (λ o. canTakeBack o new) r ∙ journal-taken old new (k .follows) (k .sound) in
     let z : takeBackRefusal limit master rows (journalBytes j) ≡ 0 = sym (refusal-none limit master rows (journalBytes j) (k .passed) true (sym t) refl) in
-    rw (z, r, taken-back old new (k .follows), before-is old new)
+    sym (outcome-done (takeBackRefusal limit master rows (journalBytes j)) master (takeBackRun (journalIn (journalBytes j)) master rows) z)
+    ∙ rw (r, taken-back old new (k .follows), before-is old new)

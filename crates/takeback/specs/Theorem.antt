@@ -5,13 +5,14 @@ use mathlib.Core.Bool.{true}
 use mathlib.Core.List.{List, [], _∷_}
 use mathlib.Core.Option.{none}
 use lib.ListN.{length}
+use Rattle.answers.specs.Answer.{done}
 use Rattle.text.specs.Blocks.{joined, over}
 use Rattle.text.specs.ByteOrder.{rising}
 use Rattle.casemaster.specs.Master.{rowsOf, keysOf, areSoundRows}
 use Rattle.casemaster.specs.Refusals.{masterRefusal}
 use Rattle.casemaster.specs.Rows.{rowWith}
 use Rattle.journal.specs.Journal.{journalOf, journalBytes}
-use Rattle.takeback.specs.TakeBack.{done, takeBackOutcome}
+use Rattle.takeback.specs.TakeBack.{takeBackOutcome}
 
 -- each row is 200 bytes
 abbrev pub AreWide : List (List ℕ) → Type 0
@@ -37,4 +38,4 @@ abbrev pub TakesBack : Type 0
 TakesBack =
     (limit : ℕ) (old : List (List ℕ)) (master : List ℕ) (rows : ℕ) → IsLeftBy limit old master rows
     → takeBackOutcome limit master rows (journalBytes (journalOf old (rowsOf rows master)))
-    ≡ record { result = done (length old); master = over (joined old) master }
+    ≡ record { answer = done (length old); buffers = over (joined old) master }

@@ -8,30 +8,32 @@ use mathlib.Core.Option.{Option, none}
 use native.Mathlib.Omega.{arith}
 use lib.ListN.{length, drop, length-append, length-drop}
 use borrow.Author.Tests.{eq-eqb, le-ltb}
+use Rattle.answers.specs.Answer.{isCarriedOut}
 use Rattle.text.specs.Blocks.{joined, over}
 use Rattle.text.proofs.BlocksLaws.{length-blocks}
-use Rattle.text.proofs.WidthLaws.{All, blocks-wide, blocks-joined}
+use Rattle.text.proofs.WidthLaws.{All}
 use Rattle.layout.specs.Record.{recordKey}
 use Rattle.layout.specs.Batch.{detailCount, detailsOf}
 use Rattle.judging.specs.Setting.{Setting}
 use Rattle.casemaster.specs.Master.{rowsOf, areSoundRows}
 use Rattle.casemaster.specs.Refusals.{refusal3, refusal4, masterRefusal}
 use Rattle.casemaster.specs.Rows.{rowWith}
-use Rattle.casemaster.proofs.RowsLaws.{Fit, IsWide, rows-rise}
+use Rattle.casemaster.proofs.RowsLaws.{IsWide, rows-rise}
 use Rattle.onecase.specs.Machine.{next}
 use Rattle.turns.specs.Turns.{afterDetail, finalRows}
 use Rattle.turns.specs.Under.{detailsUnder, runRow}
 use Rattle.turns.specs.Settings.{Settings, settingUnder}
 use Rattle.turns.specs.Adds.{addsWithoutRow}
 use Rattle.turns.proofs.TurnsLaws.{none-stays}
-use Rattle.turns.proofs.UnderLaws.{IsRecord, final-fit, found-final}
+use Rattle.turns.proofs.UnderLaws.{found-final}
 use Rattle.keywalk.proofs.WorkLaws.{final-few}
 use Rattle.journal.proofs.LengthLaws.{entryCount, count-stored, count-start}
 use Rattle.takeback.specs.Theorem.{AreWide, Follows, IsLeftBy}
 use Rattle.batch.specs.Call.{Call, callSettings}
-use Rattle.batch.specs.Apply.{Outcome, IsOutcome, isCarriedOut, rowCount, callRows, carriedOut}
-use Rattle.batch.proofs.KnownLaws.{Known, carried-known, carried-is}
-use Rattle.takingback.specs.TakenBack.{rowsBefore, rowsAfter, HasRowsLeft}
+use Rattle.batch.specs.Apply.{ApplyOutcome, IsOutcome, rowCount, callRows}
+use Rattle.batch.proofs.KnownLaws.{Known}
+use Rattle.batch.proofs.CarriedLaws.{carried-known, start-fit, records, end-fit, count-read, master-read, rows-read}
+use Rattle.takingback.specs.TakenBack.{rowsBefore, HasRowsLeft}
 
 -- a run that ends without a row began without one
 run-none : (setting : Setting) (o : Option (List ℕ)) (details : List (List ℕ)) → runRow setting o details ≡ none → o ≡ none
@@ -51,10 +53,6 @@ length-joined (row ∷ rows) w = length-append row (joined rows) ∙ omega (arit
 pub length-over : (new old : List ℕ) → length new ≤ length old → length (over new old) ≡ length old
 unfolding over
 length-over new old l = length-append new (drop (length new) old) ∙ omega (arith, length-drop (length new) old)
-
-rows-over : (rows : List (List ℕ)) (old : List ℕ) → All IsWide rows → rowsOf (length rows) (over (joined rows) old) ≡ rows
-unfolding over
-rows-over rows old w = blocks-joined 200 rows (drop (length (joined rows)) old) w
 
 -- a master that 3 lets pass
 passes-3 : (limit : ℕ) (master : List ℕ) (rows : ℕ) → length master % 200 ≡ 0 → rows ≤ length master / 200 → rows ≤ limit
@@ -80,38 +78,16 @@ count-final settings old rows [] = omega arith
 count-final settings old rows (d ∷ details) =
     omega (arith, count-final settings old (afterDetail settings rows d) details, count-after settings old rows d)
 
-module _ (c : Call) (o : Outcome) (i : IsOutcome c o) (t : isCarriedOut (o .result) ≡ true) where
+module _ (c : Call) (o : ApplyOutcome) (i : IsOutcome c o) (t : isCarriedOut (o .answer) ≡ true) where
   facts : Known c
   facts = carried-known c o i t
-
-  pub start-fit : Fit (rowsBefore c)
-  start-fit = record { wide = blocks-wide 200 (c .rows) (c .master) (facts .rows-in); sound = facts .sound }
-
-  records : All IsRecord (detailsOf (c .batch))
-  unfolding detailsOf
-  records = blocks-wide 245 (detailCount (c .batch)) (c .batch) (omega (arith, facts .batch-whole))
-
-  end-fit : Fit (callRows c)
-  end-fit = final-fit (callSettings c) (facts .list) (rowsBefore c) (detailsOf (c .batch)) records start-fit
-
-  count-is : rowCount (o .result) ≡ length (callRows c)
-  unfolding carriedOut
-  count-is = ap (λ (q : Outcome). rowCount (q .result)) (carried-is c o i t)
-
-  master-is : o .master ≡ over (joined (callRows c)) (c .master)
-  unfolding carriedOut
-  master-is = ap (λ (q : Outcome). q .master) (carried-is c o i t)
-
-  pub rows-are : rowsAfter o ≡ callRows c
-  rows-are =
-      ap (λ (n : ℕ). rowsOf n (o .master)) count-is ∙ ap (rowsOf (length (callRows c))) master-is ∙ rows-over (callRows c) (c .master) (end-fit .wide)
 
   -- as many rows as there is room for
   few : length (callRows c) ≤ c .rows + addsWithoutRow (rowsBefore c) (detailsOf (c .batch))
   few =
       omega (
         arith,
-        final-few (callSettings c) (facts .list) (rowsBefore c) (detailsOf (c .batch)) records (start-fit .wide) (start-fit .sound),
+        final-few (callSettings c) (facts .list) (rowsBefore c) (detailsOf (c .batch)) (records c o i t) (start-fit c o i t .wide) (start-fit c o i t .sound),
         length-blocks 200 (c .rows) (c .master),
       )
 
@@ -129,39 +105,39 @@ module _ (c : Call) (o : Outcome) (i : IsOutcome c o) (t : isCarriedOut (o .resu
       omega (
         arith,
         count-final (callSettings c) (rowsBefore c) (rowsBefore c) (detailsOf (c .batch)),
-        count-start (rowsBefore c) (rows-rise (rowsBefore c) (start-fit .sound)),
+        count-start (rowsBefore c) (rows-rise (rowsBefore c) (start-fit c o i t .sound)),
         length-blocks 245 (detailCount (c .batch)) (c .batch),
       )
 
-  same-length : length (o .master) ≡ length (c .master)
+  same-length : length (o .buffers .master) ≡ length (c .master)
   same-length =
-      ap length master-is
-      ∙ length-over (joined (callRows c)) (c .master) (omega (arith, length-joined (callRows c) (end-fit .wide), few, facts .room))
+      ap length (master-read c o i t)
+      ∙ length-over (joined (callRows c)) (c .master) (omega (arith, length-joined (callRows c) (end-fit c o i t .wide), few, facts .room))
 
   follows : Follows (rowsBefore c) (callRows c)
   follows =
       record {
-        old-rise = rows-rise (rowsBefore c) (start-fit .sound);
-        new-rise = rows-rise (callRows c) (end-fit .sound);
+        old-rise = rows-rise (rowsBefore c) (start-fit c o i t .sound);
+        new-rise = rows-rise (callRows c) (end-fit c o i t .sound);
         stays = λ key e.
             run-none (settingUnder (callSettings c) key) (rowWith key (rowsBefore c)) (detailsUnder key (detailsOf (c .batch)))
-            (sym (found-final (callSettings c) key (rowsBefore c) (detailsOf (c .batch)) records (start-fit .wide)) ∙ e);
+            (sym (found-final (callSettings c) key (rowsBefore c) (detailsOf (c .batch)) (records c o i t) (start-fit c o i t .wide)) ∙ e);
       }
 
-  pub own-passes : refusal3 (c .limit) (o .master) (rowCount (o .result)) ≡ false
+  pub own-passes : refusal3 (c .limit) (o .buffers .master) (rowCount (o .answer)) ≡ false
   own-passes =
-      passes-3 (c .limit) (o .master) (rowCount (o .result)) (ap (λ (n : ℕ). n % 200) same-length ∙ facts .master-whole)
-      (omega (arith, count-is, few, facts .room, same-length)) (omega (arith, count-is, after-limit))
+      passes-3 (c .limit) (o .buffers .master) (rowCount (o .answer)) (ap (λ (n : ℕ). n % 200) same-length ∙ facts .master-whole)
+      (omega (arith, count-read c o i t, few, facts .room, same-length)) (omega (arith, count-read c o i t, after-limit))
 
-  pub left-by : (master : List ℕ) → HasRowsLeft c o master → IsLeftBy (c .limit) (rowsBefore c) master (rowCount (o .result))
+  pub left-by : (master : List ℕ) → HasRowsLeft c o master → IsLeftBy (c .limit) (rowsBefore c) master (rowCount (o .answer))
   left-by master h =
-      let e : rowsOf (rowCount (o .result)) master ≡ callRows c = h .rows ∙ rows-are in
+      let e : rowsOf (rowCount (o .answer)) master ≡ callRows c = h .rows ∙ rows-read c o i t in
       record {
-        wide = are-wide (rowsBefore c) (start-fit .wide);
-        sound = start-fit .sound;
+        wide = are-wide (rowsBefore c) (start-fit c o i t .wide);
+        sound = start-fit c o i t .sound;
         passed =
-            passes (c .limit) master (rowCount (o .result)) (h .passes-3)
-            (subst (λ (rows : List (List ℕ)). areSoundRows rows ≡ true) (sym e) (end-fit .sound));
+            passes (c .limit) master (rowCount (o .answer)) (h .passes-3)
+            (subst (λ (rows : List (List ℕ)). areSoundRows rows ≡ true) (sym e) (end-fit c o i t .sound));
         follows = subst (λ (rows : List (List ℕ)). Follows (rowsBefore c) rows) (sym e) follows;
       }
 

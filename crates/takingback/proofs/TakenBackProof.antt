@@ -1,12 +1,11 @@
 -- A batch carried out leaves sound rows, in which each key that had a row still has one: so its journal takes it back from every master that
 -- has them. Assumes nothing.
 use Prim.Native.Nat.{ℕ}
-use mathlib.Core.Path.{_≡_, refl, sym, ap, subst, _∙_}
+use mathlib.Core.Path.{refl, sym, ap, _∙_}
 use mathlib.Core.List.{List}
+use Rattle.answers.specs.Answer.{done}
 use Rattle.text.specs.Blocks.{joined, over}
-use Rattle.casemaster.specs.Master.{rowsOf}
 use Rattle.journal.specs.Journal.{journalOf, journalBytes}
-use Rattle.takeback.specs.TakeBack.{done}
 use Rattle.takeback.proofs.TakesBackProof.{takes-back}
 use Rattle.batch.specs.Apply.{rowCount}
 use Rattle.takingback.specs.TakenBack.{rowsBefore, takenBack, EveryBatch, LeavesRows}
@@ -15,8 +14,8 @@ use Rattle.takingback.proofs.LeftLaws.{left-by, own-passes, count-befor
 pub every-batch : EveryBatch
 every-batch c o i t master h =
     ap (λ (rows : List (List ℕ)). takenBack c o master (journalBytes (journalOf (rowsBefore c) rows))) (sym (h .rows))
-    ∙ takes-back (c .limit) (rowsBefore c) master (rowCount (o .result)) (left-by c o i t master h)
-    ∙ ap (λ (n : ℕ). record { result = done n; master = over (joined (rowsBefore c)) master }) (count-before c o i t)
+    ∙ takes-back (c .limit) (rowsBefore c) master (rowCount (o .answer)) (left-by c o i t master h)
+    ∙ ap (λ (n : ℕ). record { answer = done n; buffers = over (joined (rowsBefore c)) master }) (count-before c o i t)
 
 pub leaves-rows : LeavesRows
 leaves-rows c o i t = record { rows = refl; passes-3 = own-passes c o i t }

@@ -5,27 +5,28 @@ use mathlib.Core.Path.{_≡_}
 use mathlib.Core.Bool.{true, false}
 use mathlib.Core.List.{List}
 use lib.ListN.{length, take, drop}
+use Rattle.answers.specs.Answer.{isCarriedOut}
 use Rattle.layout.specs.Limits.{maxRows}
 use Rattle.layout.specs.Batch.{detailCount}
-use Rattle.batch.specs.Apply.{Outcome, IsOutcome, isCarriedOut}
-use Rattle.journaledapply.specs.Journaled.{JournaledCall, JournaledOutcome, IsJournaled, refusal25, callJournal}
+use Rattle.batch.specs.Apply.{ApplyOutcome, IsOutcome}
+use Rattle.journaledapply.specs.Journaled.{JournaledCall, JournaledOutcome, IsJournaled, refusal25, callJournal, lengthWritten, besideJournal}
 use Rattle.takingback.specs.TakenBack.{HasRowsLeft, takenBack, asBefore}
 
 -- the journal that a call left at the front of its buffer
 abbrev pub journalWritten : JournaledOutcome → List ℕ
-journalWritten o = take (o .written) (o .journal)
+journalWritten o = take (lengthWritten (o .answer)) (o .buffers .journal)
 
 -- a call with a journal that is carried out
 pub record IsDone (j : JournaledCall) (o : JournaledOutcome) : Type 0 where
   pub is : IsJournaled j o
-  pub done : isCarriedOut (o .outcome .result) ≡ true
+  pub done : isCarriedOut (o .answer) ≡ true
 
 -- the bytes that it wrote take it back, from every master with the rows and the row count that it left. Where the buffer has no room for the
 -- journal, which no call of the code meets, the statement says nothing that could be seen: see `HasRoom` below
 abbrev pub EveryJournaledBatch : Type 0
 EveryJournaledBatch =
-    (j : JournaledCall) (o : JournaledOutcome) → IsDone j o → (master : List ℕ) → HasRowsLeft (j .call) (o .outcome) master
-    → takenBack (j .call) (o .outcome) master (journalWritten o) ≡ asBefore (j .call) master
+    (j : JournaledCall) (o : JournaledOutcome) → IsDone j o → (master : List ℕ) → HasRowsLeft (j .call) (besideJournal o) master
+    → takenBack (j .call) (besideJournal o) master (journalWritten o) ≡ asBefore (j .call) master
 
 -- ---- the journal's buffer
 
@@ -35,9 +36,9 @@ HasRoom j = length (callJournal (j .call)) ≤ length (j .journal)
 
 -- with room it stays as long as it was, the journal is its first bytes, and the bytes behind the journal are kept
 pub record InBuffer (j : JournaledCall) (o : JournaledOutcome) : Type 0 where
-  pub same-length : length (o .journal) ≡ length (j .journal)
+  pub same-length : length (o .buffers .journal) ≡ length (j .journal)
   pub is : journalWritten o ≡ callJournal (j .call)
-  pub kept : drop (o .written) (o .journal) ≡ drop (o .written) (j .journal)
+  pub kept : drop (lengthWritten (o .answer)) (o .buffers .journal) ≡ drop (lengthWritten (o .answer)) (j .journal)
 
 abbrev pub EveryBuffer : Type 0
 EveryBuffer = (j : JournaledCall) (o : JournaledOutcome) → IsDone j o → HasRoom j → InBuffer j o
@@ -57,9 +58,9 @@ EnoughRoom = (j : JournaledCall) (o : JournaledOutcome) → IsDone j o → j .ca
 -- the same master, verdicts, rejects and counts, and the same refusals, where 25 doesn't hold
 abbrev pub SameAsPlain : Type 0
 SameAsPlain =
-    (j : JournaledCall) (o : JournaledOutcome) (p : Outcome) → IsJournaled j o → IsOutcome (j .call) p
-    → refusal25 (j .call .batch) (j .journal) ≡ false → o .outcome ≡ p
+    (j : JournaledCall) (o : JournaledOutcome) (p : ApplyOutcome) → IsJournaled j o → IsOutcome (j .call) p
+    → refusal25 (j .call .batch) (j .journal) ≡ false → besideJournal o ≡ p
 
 -- so where it is carried out
 abbrev pub DoneAsPlain : Type 0
-DoneAsPlain = (j : JournaledCall) (o : JournaledOutcome) (p : Outcome) → IsDone j o → IsOutcome (j .call) p → o .outcome ≡ p
+DoneAsPlain = (j : JournaledCall) (o : JournaledOutcome) (p : ApplyOutcome) → IsDone j o → IsOutcome (j .call) p → besideJournal o ≡ p

@@ -2,7 +2,7 @@
 -- whatever its last record says. Assumes nothing.
 use Prim.Native.Nat.{ℕ}
 use mathlib.Core.List.{List}
-use mathlib.Core.Bool.{cond}
+use Rattle.answers.specs.Answer.{refuseIf, Answer, refused, done, answerBy}
 use Rattle.text.specs.Characters.{A, N}
 use Rattle.layout.specs.Batch.{detailsOf}
 use Rattle.control.specs.Totals.{countOf, amountOf}
@@ -21,17 +21,12 @@ detailTotals details =
       nonTanfAmount = amountOf N details;
     }
 
--- the result: the four totals, or a refusal's number
-pub data TotalsResult : Type 0 where
-  totals : Stated → TotalsResult
-  refused : ℕ → TotalsResult
-
--- what each answer of the call stands for
-abbrev pub totalledAs : Totalled → TotalsResult
+-- what each answer of the call stands for: the four totals, or a refusal's number
+abbrev pub totalledAs : Totalled → Answer Stated
 totalledAs (Done tanf nonTanf tanfAmount nonTanfAmount) =
-    totals (record { tanfCount = tanf; nonTanfCount = nonTanf; tanfAmount = tanfAmount; nonTanfAmount = nonTanfAmount })
+    done (record { tanfCount = tanf; nonTanfCount = nonTanf; tanfAmount = tanfAmount; nonTanfAmount = nonTanfAmount })
 totalledAs (Refused n) = refused n
 
--- refused by 5 alone, else the totals of the details
-unfoldable pub totalsResult : ℕ → List ℕ → TotalsResult
-totalsResult limit batch = cond (refusal5 limit batch) (refused 5) (totals (detailTotals (detailsOf batch)))
+-- refused by 5 alone, else the totals of the details; no buffer can be written
+unfoldable pub totalsAnswer : ℕ → List ℕ → Answer Stated
+totalsAnswer limit batch = answerBy (refuseIf (refusal5 limit batch) 5 0) (detailTotals (detailsOf batch))

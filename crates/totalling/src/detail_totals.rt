@@ -5,7 +5,7 @@ use layout::records::RECORD_WIDTH;
 ghost use mathlib.Core.Path.{_≡_};
 ghost use Rattle.layout.specs.Limits.{maxRows};
 ghost use Rattle.control.specs.Refusals.{refusal5};
-ghost use Rattle.totalling.specs.DetailTotals.{totalledAs, totalsResult};
+ghost use Rattle.totalling.specs.DetailTotals.{totalledAs, totalsAnswer};
 
 // The answer of the call: the two counts and the two amounts, or the number of the refusal.
 pub enum Totalled {
@@ -28,7 +28,7 @@ fn is_wrong_length(batch: &[u8]) -> bool
 
 // The counts and amounts of a batch's details, under each case type.
 pub fn total(batch: &[u8]) -> Totalled
-    ensures { λ r. ⌜ totalledAs r ≡ totalsResult maxRows (now (batch .entry)) ⌝ }
+    ensures { λ r. ⌜ totalledAs r ≡ totalsAnswer maxRows (now (batch .entry)) ⌝ }
 {
     if is_wrong_length(batch) {
         return Totalled::Refused(5);

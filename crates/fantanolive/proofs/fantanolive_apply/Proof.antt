@@ -25,9 +25,11 @@ same-length-3 c = search needs
 
 returns : tie.Need-returns
 returns c =
-    let a = c .before .before .before .before .before .before .before .before .before .before .before .before .before .before .before .before .before .before .before .args in
+    let t = c .before .before in
+    let r = t .before .before .before .before .before .before .before .before in
+    let a = r .before .before .before .before .before .before .before .before .before .args in
     let g = callOf (a .master .now) (a .rows) (a .batch .now) (a .locals .now) (a .year) (a .verdicts .now) (a .rejects .now) in
-    apply-left g _ _ _ _ _ _ (c .before .before .before .before .before .before .before .before .before .before .apply .ensures) (c .before .before .accepted .given .1)
+    apply-left g _ _ _ _ _ _ (r .apply .ensures) (t .accepted .given .1)
 
 same-length-4 : tie.Need-same-length-4
 same-length-4 c = search needs
@@ -40,9 +42,11 @@ same-length-6 c = search needs
 
 returns-2 : tie.Need-returns-2
 returns-2 c =
-    let a = c .before .before .before .before .before .before .before .before .before .before .before .before .before .before .before .before .before .before .args in
+    let t = c .before in
+    let r = t .before .before .before .before .before .before .before .before in
+    let a = r .before .before .before .before .before .before .before .before .before .args in
     let g = callOf (a .master .now) (a .rows) (a .batch .now) (a .locals .now) (a .year) (a .verdicts .now) (a .rejects .now) in
-    apply-left g _ _ _ _ _ _ (c .before .before .before .before .before .before .before .before .before .apply .ensures) (c .before .number .given .1)
+    apply-left g _ _ _ _ _ _ (r .apply .ensures) (t .number .given .1)
 
 pub fantanolive-apply-spec : {M : Type 1} → statement M
 fantanolive-apply-spec =

@@ -3,7 +3,7 @@
 use mathlib.Core.Path.{sym, _∙_}
 use mathlib.Core.Bool.{false≢true}
 use borrow.Author.Needs.{needs}
-use Rattle.batch.proofs.ApplyLaws.{outcome-refused, outcome-done}
+use Rattle.batch.proofs.ApplyLaws.{apply-refused, apply-done}
 use Rattle.batch.proofs.apply.apply.Statement.{statement}
 use Rattle.batch.proofs.apply.apply.Tie as tie
 use Rattle.batch.specs.Call.{callOf}
@@ -22,15 +22,18 @@ same-length-3 c = search needs
 
 returns : tie.Need-returns
 returns c =
-    let a = c .before .before .before .before .before .before .before .before .before .before .args in
+    let f = c .before in
+    let a = f .before .before .before .before .before .before .before .before .before .args in
     let g = callOf (a .master .now) (a .rows) (a .batch .now) (a .locals .now) (a .year) (a .verdicts .now) (a .rejects .now) in
-    outcome-refused g _ (c .before .first-refusal .ensures) (c .if1 .taken)
+    apply-refused g _ (f .first-refusal .ensures) (c .if1 .taken)
 
 slice-aggregate-run : tie.Need-slice-aggregate-run
 slice-aggregate-run c = search needs
 
 run-requires : tie.Need-run-requires
-run-requires c κs = (sym (c .before .before .before .before .before .first-refusal .ensures) ∙ c .before .before .before .before .if1 .left, λ w. absurd (false≢true w))
+run-requires c κs =
+    let i = c .before .before .before .before in
+    (sym (i .before .first-refusal .ensures) ∙ i .if1 .left, λ w. absurd (false≢true w))
 
 same-length-4 : tie.Need-same-length-4
 same-length-4 c = search needs
@@ -43,9 +46,12 @@ same-length-6 c = search needs
 
 returns-2 : tie.Need-returns-2
 returns-2 c =
-    let a = c .before .before .before .before .before .before .before .before .before .before .before .before .before .before .before .before .before .before .before .before .before .before .args in
+    let r = c .before .before .before .before .before .before .before in
+    let i = r .before .before .before .before .before in
+    let f = i .before in
+    let a = f .before .before .before .before .before .before .before .before .before .args in
     let g = callOf (a .master .now) (a .rows) (a .batch .now) (a .locals .now) (a .year) (a .verdicts .now) (a .rejects .now) in
-    outcome-done g _ (c .before .before .before .before .before .before .before .before .before .before .before .before .before .first-refusal .ensures) (c .before .before .before .before .before .before .before .before .before .before .before .before .if1 .left) _ (c .before .before .before .before .before .before .before .run .ensures .is)
+    apply-done g _ (f .first-refusal .ensures) (i .if1 .left) _ (r .run .ensures .is)
 
 pub apply-spec : {M : Type 1} → statement M
 apply-spec =

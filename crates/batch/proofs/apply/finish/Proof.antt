@@ -18,20 +18,24 @@ slice-aggregate-copy-in c = search needs
 copy-in-requires : tie.Need-copy-in-requires
 copy-in-requires c κs = search needs
 
-add-t15 : tie.Need-add-t15
-add-t15 c = search needs
-
 add-t16 : tie.Need-add-t16
 add-t16 c = search needs
 
 add-t17 : tie.Need-add-t17
 add-t17 c = search needs
 
+add-t18 : tie.Need-add-t18
+add-t18 c = search needs
+
 same-length : tie.Need-same-length
 same-length c = search needs
 
 returns : tie.Need-returns
-returns c = (c .before .before .before .before .before .copy-in .ensures ∙ ap (spliced (c .before .before .before .before .before .before .before .before .before .before .before .before .args .rejects .now) (c .before .before .before .before .before .before .before .before .before .before .before .before .args .s .rejects * 245)) (c .before .before .before .before .before .before .before .before .control-record .ensures), refl)
+returns c =
+    let w = c .before .before .before .before .before in
+    let r = w .before .before .before in
+    let s = r .before .before .before .before in
+    (w .copy-in .ensures ∙ ap (spliced (s .args .rejects .now) (s .args .s .rejects * 245)) (r .control-record .ensures), (refl, refl))
 
 pub finish-spec : {M : Type 1} → statement M
 finish-spec =
@@ -41,8 +45,8 @@ finish-spec =
     mul-copy-in
     slice-aggregate-copy-in
     copy-in-requires
-    add-t15
     add-t16
     add-t17
+    add-t18
     same-length
     returns)

@@ -22,16 +22,18 @@ use Rattle.batch.proofs.apply.run.Tie as tie
 
 sub-d : tie.Need-sub-d
 sub-d c =
-    let a = c .before .before .before .before .before .before .args in
+    let s = c .before .before .before .before .before .before in
+    let a = s .args in
     let g = callOf (a .m .now) (a .n) (a .batch .now) (a .locals .now) (a .year) (a .verdicts .now) (a .rejects .now) in
-    let k = known g (passed g (c .before .before .before .before .before .before .pre .0)) in
+    let k = known g (passed g (s .pre .0)) in
     omega (arith, k .batch-in)
 
 record-at-requires : tie.Need-record-at-requires
 record-at-requires c κs =
-    let a = c .before .before .before .before .before .before .args in
+    let s = c .before .before .before .before .before .before in
+    let a = s .args in
     let g = callOf (a .m .now) (a .n) (a .batch .now) (a .locals .now) (a .year) (a .verdicts .now) (a .rejects .now) in
-    let k = known g (passed g (c .before .before .before .before .before .before .pre .0)) in
+    let k = known g (passed g (s .pre .0)) in
     omega (arith, k .batch-in)
 
 slice-aggregate-field : tie.Need-slice-aggregate-field
@@ -42,16 +44,29 @@ field-requires c κs = search needs
 
 work-requires : tie.Need-work-requires
 unfolding controlOf
-work-requires c κs = ((c .before .before .before .before .before .before .before .before .before .before .before .before .before .pre .0, c .before .before .before .before .field .ensures ∙ ap (columns 1 2) (c .before .before .before .before .before .before .record-at .ensures)), c .before .before .before .before .before .before .before .before .before .before .before .before .before .pre .1)
+work-requires c κs =
+    let f = c .before .before .before .before in
+    let r = f .before .before in
+    let s = r .before .before .before .before .before .before .before in
+    ((s .pre .0, f .field .ensures ∙ ap (columns 1 2) (r .record-at .ensures)), s .pre .1)
 
 finish-requires : tie.Need-finish-requires
 unfolding controlOf
 finish-requires c κs =
-    let a = c .before .before .before .before .before .before .before .before .before .before .before .before .before .before .before .before .before .before .before .before .before .before .before .before .args in
+    let w = c .before .before .before .before .before .before .before .before .before .before in
+    let f = w .before .before .before .before .before in
+    let r = f .before .before in
+    let s = r .before .before .before .before .before .before .before in
+    let a = s .args in
     let g = callOf (a .m .now) (a .n) (a .batch .now) (a .locals .now) (a .year) (a .verdicts .now) (a .rejects .now) in
-    let k = known g (passed g (c .before .before .before .before .before .before .before .before .before .before .before .before .before .before .before .before .before .before .before .before .before .before .before .before .pre .0)) in
-    let e : now (c .before .before .before .before .before .before .before .before .before .before .before .before .before .before .before .field .result) ≡ submittingState (a .batch .now) = c .before .before .before .before .before .before .before .before .before .before .before .before .before .before .before .field .ensures ∙ ap (columns 1 2) (c .before .before .before .before .before .before .before .before .before .before .before .before .before .before .before .before .before .record-at .ensures) in
-    (ap length e ∙ state-two g k, omega (arith, k .space, c .before .before .before .before .before .before .before .before .before .before .work .ensures .worked .rejects-few, c .before .before .before .before .before .before .before .before .before .before .work .kept .1 .1 .1 .1 .1 .1 .1 .0), c .before .before .before .before .before .before .before .before .before .before .work .ensures .worked .counted, omega (arith, k .batch-in, c .before .before .before .before .before .before .before .before .before .before .before .before .before .before .before .before .before .before .before .before .before .before .before .before .good .1 .1 .0))
+    let k = known g (passed g (s .pre .0)) in
+    let e : now (f .field .result) ≡ submittingState (a .batch .now) = f .field .ensures ∙ ap (columns 1 2) (r .record-at .ensures) in
+    let left = w .work .ensures .worked in (
+      ap length e ∙ state-two g k,
+      omega (arith, k .space, left .rejects-few, w .work .kept .1 .1 .1 .1 .1 .1 .1 .0),
+      left .counted,
+      omega (arith, k .batch-in, s .good .1 .1 .0),
+    )
 
 same-length : tie.Need-same-length
 same-length c = search needs
@@ -68,17 +83,28 @@ same-length-4 c = search needs
 returns : tie.Need-returns
 unfolding controlOf
 returns c =
-    let a = c .before .before .before .before .before .before .before .before .before .before .before .before .before .before .before .before .before .before .before .before .before .before .before .before .before .before .before .args in
+    let d = c .before .before in
+    let w = d .before .before .before .before .before .before .before .before .before .before .before in
+    let f = w .before .before .before .before .before in
+    let r = f .before .before in
+    let s = r .before .before .before .before .before .before .before in
+    let a = s .args in
     let g = callOf (a .m .now) (a .n) (a .batch .now) (a .locals .now) (a .year) (a .verdicts .now) (a .rejects .now) in
-    let k = known g (passed g (c .before .before .before .before .before .before .before .before .before .before .before .before .before .before .before .before .before .before .before .before .before .before .before .before .before .before .before .pre .0)) in
-    let e : now (c .before .before .before .before .before .before .before .before .before .before .before .before .before .before .before .before .before .before .field .result) ≡ submittingState (a .batch .now) = c .before .before .before .before .before .before .before .before .before .before .before .before .before .before .before .before .before .before .field .ensures ∙ ap (columns 1 2) (c .before .before .before .before .before .before .before .before .before .before .before .before .before .before .before .before .before .before .before .before .record-at .ensures) in
+    let k = known g (passed g (s .pre .0)) in
+    let e : now (f .field .result) ≡ submittingState (a .batch .now) = f .field .ensures ∙ ap (columns 1 2) (r .record-at .ensures) in
+    let p = w .work .result .progress in
+    let m = w .work .last .0 in
+    let v = w .work .last .1 .1 .1 .1 .1 .1 .0 in
+    let rj = w .work .last .1 .1 .1 .1 .1 .1 .1 .0 in
     record {
       is =
-          ran g k (c .before .before .before .before .before .before .before .before .before .before .before .before .before .work .last .0) (c .before .before .before .before .before .before .before .before .before .before .before .before .before .work .result .progress .rows) (c .before .before .before .before .before .before .before .before .before .before .before .before .before .work .last .1 .1 .1 .1 .1 .1 .0) (c .before .before .before .before .before .before .before .before .before .before .before .before .before .work .last .1 .1 .1 .1 .1 .1 .1 .0) (c .before .before .before .before .before .before .before .before .before .before .before .before .before .work .result .progress .rejects) (c .before .before .before .before .before .before .before .before .before .before .before .before .before .work .result .progress .tally) (c .before .before .finish .last .1 .1 .0) (c .before .before .finish .result) (c .before .before .before .before .before .before .before .before .before .before .before .before .before .work .ensures .worked)
-          (c .before .before .before .before .before .before .before .before .before .before .before .before .before .work .kept .1 .1 .1 .1 .1 .1 .0) (c .before .before .before .before .before .before .before .before .before .before .before .before .before .work .kept .1 .1 .1 .1 .1 .1 .1 .0) (state-two g k)
-          (c .before .before .finish .ensures .0 ∙ ap (λ (z : List ℕ). spliced (c .before .before .before .before .before .before .before .before .before .before .before .before .before .work .last .1 .1 .1 .1 .1 .1 .1 .0) (c .before .before .before .before .before .before .before .before .before .before .before .before .before .work .result .progress .rejects * 245) (controlRecord z (countsIn (c .before .before .before .before .before .before .before .before .before .before .before .before .before .work .result .progress .tally)))) e)
-          (c .before .before .finish .ensures .1);
-      wrote = run-wrote g (a .wanted) (a .journal .now) (c .before .before .before .before .before .before .before .before .before .before .before .before .before .work .result .progress .rows) (c .before .before .before .before .before .before .before .before .before .before .before .before .before .work .last .0) _ _ (c .before .before .before .before .before .before .before .before .before .before .before .before .before .work .ensures .worked .rows-are) (c .before .before .before .before .before .before .before .before .before .before .before .before .before .work .ensures .wrote);
+          ran g k m (p .rows) v rj (p .rejects) (p .tally) (d .finish .last .1 .1 .0) (d .finish .result) (w .work .ensures .worked)
+          (w .work .kept .1 .1 .1 .1 .1 .1 .0) (w .work .kept .1 .1 .1 .1 .1 .1 .1 .0) (state-two g k)
+          (d .finish .ensures .0 ∙ ap (λ (z : List ℕ). spliced rj (p .rejects * 245) (controlRecord z (countsIn (p .tally)))) e)
+          (d .finish .ensures .1 .0);
+      wrote =
+          run-wrote g (a .wanted) (a .journal .now) (p .rows) m _ _ (d .finish .result .written) (w .work .ensures .worked .rows-are)
+          (w .work .ensures .wrote) (d .finish .ensures .1 .1);
     }
 
 pub run-spec : {M : Type 1} → statement M

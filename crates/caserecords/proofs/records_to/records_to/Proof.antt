@@ -4,7 +4,7 @@ use native.Mathlib.Omega.{arith}
 use borrow.Author.Tests.{not-true, not-false}
 use borrow.Author.Needs.{needs}
 use Rattle.text.proofs.HoldsLaws.{holds-count}
-use Rattle.caserecords.proofs.RecordsToLaws.{row-wide, outcome-2, outcome-row, outcome-wanted, outcome-29, outcome-30, outcome-done, four-records}
+use Rattle.caserecords.proofs.RecordsToLaws.{row-wide, records-2, records-row, records-wanted, records-29, records-30, records-done, four-records}
 use Rattle.caserecords.proofs.records_to.records_to.Statement.{statement}
 use Rattle.caserecords.proofs.records_to.records_to.Tie as tie
 
@@ -14,7 +14,7 @@ is-local-list-requires c κs = search needs
 returns : tie.Need-returns
 returns c =
     let a = c .before .before .before .before .before .before .args in
-    outcome-2 (a .row .now) (a .wanted .now) (a .list .now) (a .out .now) (sym (c .before .is-local-list .ensures) ∙ not-true _ (c .if1 .taken))
+    records-2 (a .row .now) (a .wanted .now) (a .list .now) (a .out .now) (sym (c .before .is-local-list .ensures) ∙ not-true _ (c .if1 .taken))
 
 is-row-requires : tie.Need-is-row-requires
 is-row-requires c κs = search needs
@@ -26,7 +26,7 @@ returns-2 c =
     let c3 = c2 .before in
     let c8 = c3 .before .before .before .before .before in
     let a = c8 .args in
-    outcome-row (a .row .now) (a .wanted .now) (a .list .now) (a .out .now) (sym (c3 .is-local-list .ensures) ∙ not-false _ (c2 .if1 .left)) (sym (c1 .is-row .ensures) ∙ not-true _ (c .if2 .taken))
+    records-row (a .row .now) (a .wanted .now) (a .list .now) (a .out .now) (sym (c3 .is-local-list .ensures) ∙ not-false _ (c2 .if1 .left)) (sym (c1 .is-row .ensures) ∙ not-true _ (c .if2 .taken))
 
 is-row-requires-2 : tie.Need-is-row-requires-2
 is-row-requires-2 c κs = search needs
@@ -40,7 +40,7 @@ returns-3 c =
     let c5 = c4 .before in
     let c10 = c5 .before .before .before .before .before in
     let a = c10 .args in
-    outcome-wanted (a .row .now) (a .wanted .now) (a .list .now) (a .out .now) (sym (c5 .is-local-list .ensures) ∙ not-false _ (c4 .if1 .left)) (sym (c3 .is-row .ensures) ∙ not-false _ (c2 .if2 .left)) (sym (c1 .is-row2 .ensures) ∙ not-true _ (c .if3 .taken))
+    records-wanted (a .row .now) (a .wanted .now) (a .list .now) (a .out .now) (sym (c5 .is-local-list .ensures) ∙ not-false _ (c4 .if1 .left)) (sym (c3 .is-row .ensures) ∙ not-false _ (c2 .if2 .left)) (sym (c1 .is-row2 .ensures) ∙ not-true _ (c .if3 .taken))
 
 is-refused-requires : tie.Need-is-refused-requires
 is-refused-requires c κs =
@@ -60,7 +60,7 @@ returns-4 c =
     let c7 = c6 .before in
     let c12 = c7 .before .before .before .before .before in
     let a = c12 .args in
-    outcome-29 (a .row .now) (a .wanted .now) (a .list .now) (a .out .now) (sym (c7 .is-local-list .ensures) ∙ not-false _ (c6 .if1 .left)) (sym (c5 .is-row .ensures) ∙ not-false _ (c4 .if2 .left)) (sym (c3 .is-row2 .ensures) ∙ not-false _ (c2 .if3 .left)) (sym (c1 .is-refused .ensures) ∙ c .if4 .taken)
+    records-29 (a .row .now) (a .wanted .now) (a .list .now) (a .out .now) (sym (c7 .is-local-list .ensures) ∙ not-false _ (c6 .if1 .left)) (sym (c5 .is-row .ensures) ∙ not-false _ (c4 .if2 .left)) (sym (c3 .is-row2 .ensures) ∙ not-false _ (c2 .if3 .left)) (sym (c1 .is-refused .ensures) ∙ c .if4 .taken)
 
 returns-5 : tie.Need-returns-5
 returns-5 c =
@@ -74,7 +74,7 @@ returns-5 c =
     let c8 = c7 .before in
     let c13 = c8 .before .before .before .before .before in
     let a = c13 .args in
-    outcome-30 (a .row .now) (a .wanted .now) (a .list .now) (a .out .now) (sym (c8 .is-local-list .ensures) ∙ not-false _ (c7 .if1 .left)) (sym (c6 .is-row .ensures) ∙ not-false _ (c5 .if2 .left)) (sym (c4 .is-row2 .ensures) ∙ not-false _ (c3 .if3 .left)) (sym (c2 .is-refused .ensures) ∙ c1 .if4 .left) (c .if5 .taken)
+    records-30 (a .row .now) (a .wanted .now) (a .list .now) (a .out .now) (sym (c8 .is-local-list .ensures) ∙ not-false _ (c7 .if1 .left)) (sym (c6 .is-row .ensures) ∙ not-false _ (c5 .if2 .left)) (sym (c4 .is-row2 .ensures) ∙ not-false _ (c3 .if3 .left)) (sym (c2 .is-refused .ensures) ∙ c1 .if4 .left) (c .if5 .taken)
 
 put-records-requires : tie.Need-put-records-requires
 put-records-requires c κs =
@@ -108,7 +108,7 @@ returns-6 c =
     let c17 = c12 .before .before .before .before .before in
     let a = c17 .args in
     let p = c2 .put-records in
-    outcome-done (a .row .now) (a .wanted .now) (a .list .now) (a .out .now) (sym (c12 .is-local-list .ensures) ∙ not-false _ (c11 .if1 .left)) (sym (c10 .is-row .ensures) ∙ not-false _ (c9 .if2 .left)) (sym (c8 .is-row2 .ensures) ∙ not-false _ (c7 .if3 .left)) (sym (c6 .is-refused .ensures) ∙ c5 .if4 .left) (p .result) (p .last .0) (c4 .if5 .left) (p .kept .0) (p .ensures) (omega (arith, holds-count 245 (p .ensures), four-records (a .row .now) (a .wanted .now)))
+    records-done (a .row .now) (a .wanted .now) (a .list .now) (a .out .now) (sym (c12 .is-local-list .ensures) ∙ not-false _ (c11 .if1 .left)) (sym (c10 .is-row .ensures) ∙ not-false _ (c9 .if2 .left)) (sym (c8 .is-row2 .ensures) ∙ not-false _ (c7 .if3 .left)) (sym (c6 .is-refused .ensures) ∙ c5 .if4 .left) (p .result) (p .last .0) (c4 .if5 .left) (p .kept .0) (p .ensures) (omega (arith, holds-count 245 (p .ensures), four-records (a .row .now) (a .wanted .now)))
 
 pub records-to-spec : {M : Type 1} → statement M
 records-to-spec =

@@ -1,6 +1,6 @@
 -- `update` leaves its outcome: the refusals in order, else what `work` leaves. Assumes nothing.
 use Rattle.contactupdate.proofs.MarksLaws.{flag-small}
-use Rattle.contactupdate.proofs.UpdateLaws.{table-flagged, outcome-file, outcome-table, outcome-space, outcome-list, passed, outcome-done}
+use Rattle.contactupdate.proofs.UpdateLaws.{table-flagged, outcome-file, outcome-table, outcome-space, outcome-list, passed, update-done}
 use Rattle.contacttable.specs.Table.{contactsOf, isWrongTable}
 use Rattle.contacttable.proofs.TableLaws.{right-table}
 use Rattle.contactupdate.specs.Update.{isWrongFile}
@@ -103,7 +103,7 @@ returns-5 c =
     let t : isWrongTable (now (a .table)) (a .count) ≡ false = sym (c .before .before .before .before .before .before .before .before .before .before .before .before .before .before .before .before .before .is-wrong-table .ensures) ∙ c .before .before .before .before .before .before .before .before .before .before .before .before .before .before .before .before .if2 .left in
     let g = table-flagged (now (a .table)) (a .count) (c .before .before .before .before .before .before .before .before .before .before .before .before .before .mark-table .last .1 .1 .0) t (c .before .before .before .before .before .before .before .before .before .before .before .before .before .mark-table .ensures) in
     let w = c .before .before .before .before .work in
-    outcome-done maxRows (now (a .table)) (a .count) (now (a .file)) (now (a .faulty)) f t (c .before .before .before .before .before .before .before .before .before .before .before .before .before .mark-table .last .1 .1 .0) g (omega (arith, c .before .before .before .before .before .before .before .before .before .before .count-lacking .ensures .0, c .before .before .before .before .before .before .before .before .before .if3 .left)) (c .before .before .before .before .before .before .before .before .if4 .left)
+    update-done maxRows (now (a .table)) (a .count) (now (a .file)) (now (a .faulty)) f t (c .before .before .before .before .before .before .before .before .before .before .before .before .before .mark-table .last .1 .1 .0) g (omega (arith, c .before .before .before .before .before .before .before .before .before .before .count-lacking .ensures .0, c .before .before .before .before .before .before .before .before .before .if3 .left)) (c .before .before .before .before .before .before .before .before .if4 .left)
     (w .result) (w .last .0) (w .last .1 .1 .1 .0) (w .ensures .0) (w .ensures .1) (w .ensures .2)
 
 pub update-spec : {M : Type 1} → statement M

@@ -10,11 +10,11 @@ use Rattle.fantanolive.proofs.journal_calls.fantanolive_apply_journaled
 apply-journaled-requires : tie.Need-apply-journaled-requires
 apply-journaled-requires c κs = search needs
 
-enum-known-applied : tie.Need-enum-known-applied
-enum-known-applied c = search needs
+enum-known-accepted : tie.Need-enum-known-accepted
+enum-known-accepted c = search needs
 
-enum-known-applied-2 : tie.Need-enum-known-applied-2
-enum-known-applied-2 c = search needs
+enum-known-number : tie.Need-enum-known-number
+enum-known-number c = search needs
 
 same-length : tie.Need-same-length
 same-length c = search needs
@@ -30,9 +30,11 @@ same-length-4 c = search needs
 
 returns : tie.Need-returns
 returns c =
-    let a = c .before .before .before .before .before .before .before .before .before .before .before .before .before .before .before .before .before .before .before .before .before .before .before .args in
+    let t = c .before .before in
+    let r = t .before .before .before .before .before .before .before .before .before .before in
+    let a = r .before .before .before .before .before .before .before .before .before .before .before .args in
     let g = callOf (a .master .now) (a .rows) (a .batch .now) (a .locals .now) (a .year) (a .verdicts .now) (a .rejects .now) in
-    journaled-left (withJournal g (a .journal .now)) _ _ _ _ _ _ _ (c .before .before .before .before .before .before .before .before .before .before .before .before .apply-journaled .ensures) (c .before .before .applied .given .1)
+    journaled-left (withJournal g (a .journal .now)) _ _ _ _ _ _ _ (r .apply-journaled .ensures) (t .accepted .given .1)
 
 same-length-5 : tie.Need-same-length-5
 same-length-5 c = search needs
@@ -48,17 +50,19 @@ same-length-8 c = search needs
 
 returns-2 : tie.Need-returns-2
 returns-2 c =
-    let a = c .before .before .before .before .before .before .before .before .before .before .before .before .before .before .before .before .before .before .before .before .before .before .args in
+    let t = c .before in
+    let r = t .before .before .before .before .before .before .before .before .before .before in
+    let a = r .before .before .before .before .before .before .before .before .before .before .before .args in
     let g = callOf (a .master .now) (a .rows) (a .batch .now) (a .locals .now) (a .year) (a .verdicts .now) (a .rejects .now) in
-    journaled-left (withJournal g (a .journal .now)) _ _ _ _ _ _ _ (c .before .before .before .before .before .before .before .before .before .before .before .apply-journaled .ensures) (c .before .applied2 .given .1)
+    journaled-left (withJournal g (a .journal .now)) _ _ _ _ _ _ _ (r .apply-journaled .ensures) (t .number .given .1)
 
 pub fantanolive-apply-journaled-spec : {M : Type 1} → statement M
 fantanolive-apply-journaled-spec =
     tie.close
     (tie.spec
     apply-journaled-requires
-    enum-known-applied
-    enum-known-applied-2
+    enum-known-accepted
+    enum-known-number
     same-length
     same-length-2
     same-length-3

@@ -1,5 +1,6 @@
 -- `fantanolive_add_cents`: each answer of `add_cents` is written as its number. Assumes nothing.
 use borrow.Author.Needs.{needs}
+use Rattle.addcents.specs.Convert.{convertCall}
 use Rattle.fantanolive.proofs.PostingCallsLaws.{convert-left}
 use Rattle.fantanolive.proofs.posting_calls.fantanolive_add_cents.Statement.{statement}
 use Rattle.fantanolive.proofs.posting_calls.fantanolive_add_cents.Tie as tie
@@ -17,13 +18,13 @@ same-length : tie.Need-same-length
 same-length c = search needs
 
 returns : tie.Need-returns
-returns c = convert-left _ _ _ _ _ (c .before .before .before .before .add-cents .ensures) (c .enum-told .given .1)
+returns c = convert-left (convertCall _ _) _ _ _ (c .before .before .before .before .add-cents .ensures) (c .enum-told .given .1)
 
 same-length-2 : tie.Need-same-length-2
 same-length-2 c = search needs
 
 returns-2 : tie.Need-returns-2
-returns-2 c = convert-left _ _ _ _ _ (c .before .before .before .before .before .add-cents .ensures) (c .before .number .given .1)
+returns-2 c = convert-left (convertCall _ _) _ _ _ (c .before .before .before .before .before .add-cents .ensures) (c .before .number .given .1)
 
 pub fantanolive-add-cents-spec : {M : Type 1} → statement M
 fantanolive-add-cents-spec =

@@ -1,6 +1,6 @@
 -- `apply::apply_journaled`: a refusal is answered with every buffer untouched, and where there is none `run` writes the journal. Assumes
 -- nothing.
-use mathlib.Core.Path.{refl, sym, _∙_}
+use mathlib.Core.Path.{sym, _∙_}
 use native.Mathlib.Omega.{arith}
 use Rattle.layout.proofs.LimitsLaws.{few-details}
 use Rattle.batch.proofs.KnownLaws.{known}
@@ -25,15 +25,18 @@ same-length-3 c = search needs
 
 returns : tie.Need-returns
 returns c =
-    let a = c .before .before .before .before .before .before .before .before .before .before .before .args in
+    let f = c .before in
+    let a = f .before .before .before .before .before .before .before .before .before .before .args in
     let g = callOf (a .master .now) (a .rows) (a .batch .now) (a .locals .now) (a .year) (a .verdicts .now) (a .rejects .now) in
-    journaled-refused g (a .journal .now) _ (c .before .first-refusal .ensures) (c .if1 .taken) _ refl refl
+    journaled-refused g (a .journal .now) _ (f .first-refusal .ensures) (c .if1 .taken)
 
 is-short-requires : tie.Need-is-short-requires
 is-short-requires c κs =
-    let a = c .before .before .before .before .before .before .before .before .before .before .before .before .args in
+    let i = c .before in
+    let f = i .before in
+    let a = f .before .before .before .before .before .before .before .before .before .before .args in
     let g = callOf (a .master .now) (a .rows) (a .batch .now) (a .locals .now) (a .year) (a .verdicts .now) (a .rejects .now) in
-    let k = known g (passed g (sym (c .before .before .first-refusal .ensures) ∙ c .before .if1 .left)) in
+    let k = known g (passed g (sym (f .first-refusal .ensures) ∙ i .if1 .left)) in
     (omega (arith, k .batch-in), omega (arith, k .batch-limit, few-details))
 
 same-length-4 : tie.Need-same-length-4
@@ -50,15 +53,23 @@ same-length-7 c = search needs
 
 returns-2 : tie.Need-returns-2
 returns-2 c =
-    let a = c .before .before .before .before .before .before .before .before .before .before .before .before .before .before .args in
+    let h = c .before in
+    let i = h .before .before in
+    let f = i .before in
+    let a = f .before .before .before .before .before .before .before .before .before .before .args in
     let g = callOf (a .master .now) (a .rows) (a .batch .now) (a .locals .now) (a .year) (a .verdicts .now) (a .rejects .now) in
-    journaled-25 g (a .journal .now) (sym (c .before .before .before .before .first-refusal .ensures) ∙ c .before .before .before .if1 .left) (c .before .is-short .result) (c .before .is-short .ensures) (c .if2 .taken) _ refl refl
+    journaled-25 g (a .journal .now) (sym (f .first-refusal .ensures) ∙ i .if1 .left) (h .is-short .result) (h .is-short .ensures) (c .if2 .taken)
 
 run-requires : tie.Need-run-requires
 run-requires c κs =
-    let a = c .before .before .before .before .before .before .before .before .before .before .before .before .before .before .before .before .before .before .args in
+    let t = c .before .before .before .before in
+    let h = t .before in
+    let i = h .before .before in
+    let f = i .before in
+    let a = f .before .before .before .before .before .before .before .before .before .before .args in
     let g = callOf (a .master .now) (a .rows) (a .batch .now) (a .locals .now) (a .year) (a .verdicts .now) (a .rejects .now) in
-    (sym (c .before .before .before .before .before .before .before .before .first-refusal .ensures) ∙ c .before .before .before .before .before .before .before .if1 .left, (λ _. has-space g (a .journal .now) (c .before .before .before .before .before .is-short .result) (c .before .before .before .before .before .is-short .ensures) (c .before .before .before .before .if2 .left)))
+    let z = sym (f .first-refusal .ensures) ∙ i .if1 .left in
+    (z, (λ _. has-space g (a .journal .now) z (h .is-short .result) (h .is-short .ensures) (t .if2 .left)))
 
 same-length-8 : tie.Need-same-length-8
 same-length-8 c = search needs
@@ -74,9 +85,15 @@ same-length-11 c = search needs
 
 returns-3 : tie.Need-returns-3
 returns-3 c =
-    let a = c .before .before .before .before .before .before .before .before .before .before .before .before .before .before .before .before .before .before .before .before .before .before .before .before .before .before .before .args in
+    let r = c .before .before .before .before .before .before .before .before in
+    let t = r .before .before .before .before .before in
+    let h = t .before in
+    let i = h .before .before in
+    let f = i .before in
+    let a = f .before .before .before .before .before .before .before .before .before .before .args in
     let g = callOf (a .master .now) (a .rows) (a .batch .now) (a .locals .now) (a .year) (a .verdicts .now) (a .rejects .now) in
-    journaled-done g (a .journal .now) (sym (c .before .before .before .before .before .before .before .before .before .before .before .before .before .before .before .before .before .first-refusal .ensures) ∙ c .before .before .before .before .before .before .before .before .before .before .before .before .before .before .before .before .if1 .left) (c .before .before .before .before .before .before .before .before .before .before .before .before .before .before .is-short .result) (c .before .before .before .before .before .before .before .before .before .before .before .before .before .before .is-short .ensures) (c .before .before .before .before .before .before .before .before .before .before .before .before .before .if2 .left) _ _ _ _ _ (c .before .before .before .before .before .before .before .before .run .ensures)
+    let z = sym (f .first-refusal .ensures) ∙ i .if1 .left in
+    journaled-done g (a .journal .now) z (h .is-short .result) (h .is-short .ensures) (t .if2 .left) _ _ _ _ _ (r .run .ensures)
 
 pub apply-journaled-spec : {M : Type 1} → statement M
 apply-journaled-spec =

@@ -2,7 +2,7 @@
 use Rattle.merging.specs.Merge.{mergeCall}
 use Rattle.layout.specs.Limits.{maxRows}
 use mathlib.Core.Path.{sym, _∙_}
-use Rattle.merging.proofs.MergeLaws.{both-passed, outcome-refused, outcome-done}
+use Rattle.merging.proofs.MergeLaws.{both-passed, merge-refused, merge-done}
 use borrow.Author.Needs.{needs}
 use Rattle.merging.proofs.merge.merge.Statement.{statement}
 use Rattle.merging.proofs.merge.merge.Tie as tie
@@ -16,7 +16,7 @@ same-length c = search needs
 returns : tie.Need-returns
 returns c =
     let a = c .before .before .before .before .before .before .args in
-    outcome-refused (mergeCall (a .first .now) (a .second .now) (a .out .now)) _ (c .before .first-refusal .ensures) (c .if1 .taken)
+    merge-refused (mergeCall (a .first .now) (a .second .now) (a .out .now)) _ (c .before .first-refusal .ensures) (c .if1 .taken)
 
 write-merged-requires : tie.Need-write-merged-requires
 write-merged-requires c κs = search needs
@@ -32,7 +32,7 @@ same-length-2 c = search needs
 returns-2 : tie.Need-returns-2
 returns-2 c =
     let a = c .before .before .before .before .before .before .before .before .before .before .before .args in
-    outcome-done (mergeCall (a .first .now) (a .second .now) (a .out .now)) _ (c .before .before .before .before .before .before .first-refusal .ensures) (c .before .before .before .before .before .if1 .left) _ (c .merged-count .ensures) _ (c .before .before .before .write-merged .ensures)
+    merge-done (mergeCall (a .first .now) (a .second .now) (a .out .now)) _ (c .before .before .before .before .before .before .first-refusal .ensures) (c .before .before .before .before .before .if1 .left) _ (c .merged-count .ensures) _ (c .before .before .before .write-merged .ensures)
 
 pub merge-spec : {M : Type 1} → statement M
 merge-spec =

@@ -5,7 +5,7 @@ use native.Mathlib.Omega.{arith}
 use denote.Ref.{now}
 use Rattle.layout.specs.Limits.{maxRows}
 use Rattle.casemaster.proofs.RefusalsLaws.{master-rows}
-use Rattle.pages.proofs.OutcomeLaws.{outcome-master, room-is, outcome-31, outcome-done}
+use Rattle.pages.proofs.OutcomeLaws.{pages-master, room-is, pages-31, pages-done}
 use borrow.Author.Needs.{needs}
 use Rattle.pages.proofs.printing.pages.Statement.{statement}
 use Rattle.pages.proofs.printing.pages.Tie as tie
@@ -16,7 +16,7 @@ master-refusal-requires c κs = search needs
 returns : tie.Need-returns
 returns c =
     let a = c .before .before .before .before .args in
-    outcome-master (now (a .master)) (a .rows) (a .out .now) _ (c .before .master-refusal .ensures) (c .if1 .taken)
+    pages-master (now (a .master)) (a .rows) (a .out .now) _ (c .before .master-refusal .ensures) (c .if1 .taken)
 
 count-live-requires : tie.Need-count-live-requires
 count-live-requires c κs =
@@ -41,7 +41,7 @@ add-if2 c =
 returns-2 : tie.Need-returns-2
 returns-2 c =
     let a = c .before .before .before .before .before .before .args in
-    outcome-31 (now (a .master)) (a .rows) (a .out .now) (sym (c .before .before .before .master-refusal .ensures) ∙ c .before .before .if1 .left) (c .before .count-live .result) (c .before .count-live .ensures .0) (c .if2 .taken)
+    pages-31 (now (a .master)) (a .rows) (a .out .now) (sym (c .before .before .before .master-refusal .ensures) ∙ c .before .before .if1 .left) (c .before .count-live .result) (c .before .count-live .ensures .0) (c .if2 .taken)
 
 print-rows-requires : tie.Need-print-rows-requires
 print-rows-requires c κs =
@@ -56,7 +56,7 @@ same-length c = search needs
 returns-3 : tie.Need-returns-3
 returns-3 c =
     let a = c .before .before .before .before .before .before .before .before .before .before .args in
-    outcome-done (now (a .master)) (a .rows) (a .out .now) (sym (c .before .before .before .before .before .before .before .master-refusal .ensures) ∙ c .before .before .before .before .before .before .if1 .left) (c .before .before .before .before .before .count-live .result) (c .before .before .before .before .before .count-live .ensures .0) (c .before .before .print-rows .last .0) (c .before .before .print-rows .result) (omega arith) (c .before .before .print-rows .kept .0) (c .before .before .print-rows .ensures)
+    pages-done (now (a .master)) (a .rows) (a .out .now) (sym (c .before .before .before .before .before .before .before .master-refusal .ensures) ∙ c .before .before .before .before .before .before .if1 .left) (c .before .before .before .before .before .count-live .result) (c .before .before .before .before .before .count-live .ensures .0) (c .before .before .print-rows .last .0) (c .before .before .print-rows .result) (omega arith) (c .before .before .print-rows .kept .0) (c .before .before .print-rows .ensures)
 
 pub pages-spec : {M : Type 1} → statement M
 pages-spec =

@@ -10,8 +10,8 @@ beside-dollars-requires c κs = search needs
 whole-dollars-requires : tie.Need-whole-dollars-requires
 whole-dollars-requires c κs = search needs
 
-with-number-requires : tie.Need-with-number-requires
-with-number-requires c κs = search needs
+with-cents-requires : tie.Need-with-cents-requires
+with-cents-requires c κs = search needs
 
 status-of-requires : tie.Need-status-of-requires
 status-of-requires c κs = search needs
@@ -19,13 +19,13 @@ status-of-requires c κs = search needs
 with-status-requires : tie.Need-with-status-requires
 with-status-requires c κs = search needs
 
-with-number-requires-2 : tie.Need-with-number-requires-2
-with-number-requires-2 c κs = search needs
+with-dollars-requires : tie.Need-with-dollars-requires
+with-dollars-requires c κs = search needs
 
 returns : tie.Need-returns
 returns c =
     balance-written (c .before .before .before .before .before .before .args .cents .0) _ _ _ (c .before .before .before .before .before .before .args .row) _ _ _ (c .before .before .before .before .before .beside-dollars .ensures) (c .before .before .before .before .whole-dollars .ensures) (c .before .before .status-of .ensures)
-    (c .before .before .before .with-number .ensures) (c .before .with-status .ensures) (c .with-number2 .ensures)
+    (c .before .before .before .with-cents .ensures) (c .before .with-status .ensures) (c .with-dollars .ensures)
 
 pub with-balance-spec : {M : Type 1} → statement M
 with-balance-spec =
@@ -33,8 +33,8 @@ with-balance-spec =
     (tie.spec
     beside-dollars-requires
     whole-dollars-requires
-    with-number-requires
+    with-cents-requires
     status-of-requires
     with-status-requires
-    with-number-requires-2
+    with-dollars-requires
     returns)

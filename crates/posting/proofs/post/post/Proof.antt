@@ -6,7 +6,7 @@ use lib.ListN.{length}
 use Rattle.layout.specs.Limits.{maxRows}
 use Rattle.collections.specs.File.{fileRefusal}
 use Rattle.posting.specs.Post.{postCall}
-use Rattle.posting.proofs.PostLaws.{rows-inside, rows-fit, outcome-refused, outcome-done}
+use Rattle.posting.proofs.PostLaws.{rows-inside, rows-fit, post-refused, post-done}
 use Rattle.casemaster.proofs.RefusalsLaws.{master-passed, master-refused}
 use Rattle.collections.proofs.FileLaws.{file-whole, file-room}
 use borrow.Author.Needs.{needs}
@@ -23,8 +23,8 @@ returns : tie.Need-returns
 returns c =
     let a = c .before .before .before .before .before .before .args in
     let e = c .before .master-refusal .ensures in
-    outcome-refused (postCall (now (a .master)) (a .rows) (now (a .file)) (now (a .lines))) _
-    (master-refused maxRows (now (a .master)) (a .rows) (λ z. c .if1 .taken (e ∙ z)) (fileRefusal maxRows (now (a .file)) (length (now (a .lines)))) ∙ sym e) (c .if1 .taken)
+    post-refused (postCall (now (a .master)) (a .rows) (now (a .file)) (now (a .lines))) _
+    (e ∙ sym (master-refused maxRows (now (a .master)) (a .rows) (λ z. c .if1 .taken (e ∙ z)) (fileRefusal maxRows (now (a .file)) (length (now (a .lines)))))) (c .if1 .taken)
 
 file-refusal-requires : tie.Need-file-refusal-requires
 file-refusal-requires c κs = search needs
@@ -36,8 +36,8 @@ returns-2 : tie.Need-returns-2
 returns-2 c =
     let a = c .before .before .before .before .before .before .before .before .args in
     let z = sym (c .before .before .before .master-refusal .ensures) ∙ c .before .before .if1 .left in
-    outcome-refused (postCall (now (a .master)) (a .rows) (now (a .file)) (now (a .lines))) _
-    (master-passed maxRows (now (a .master)) (a .rows) z (fileRefusal maxRows (now (a .file)) (length (now (a .lines)))) ∙ sym (c .before .file-refusal .ensures)) (c .if2 .taken)
+    post-refused (postCall (now (a .master)) (a .rows) (now (a .file)) (now (a .lines))) _
+    (c .before .file-refusal .ensures ∙ sym (master-passed maxRows (now (a .master)) (a .rows) z (fileRefusal maxRows (now (a .file)) (length (now (a .lines)))))) (c .if2 .taken)
 
 sub-count : tie.Need-sub-count
 sub-count c =
@@ -72,7 +72,7 @@ returns-3 c =
     let z = sym (c .before .before .before .before .before .before .before .before .before .before .master-refusal .ensures) ∙ c .before .before .before .before .before .before .before .before .before .if1 .left in
     let y = sym (c .before .before .before .before .before .before .before .before .file-refusal .ensures) ∙ c .before .before .before .before .before .before .before .if2 .left in
     let w = file-whole maxRows (now (a .file)) (length (now (a .lines))) y in
-    outcome-done (postCall (now (a .master)) (a .rows) (now (a .file)) (now (a .lines))) _ _ _
+    post-done (postCall (now (a .master)) (a .rows) (now (a .file)) (now (a .lines))) _ _ _
     (master-passed maxRows (now (a .master)) (a .rows) z (fileRefusal maxRows (now (a .file)) (length (now (a .lines)))) ∙ y)
     (rows-inside maxRows (now (a .master)) (a .rows) z) (file-room maxRows (now (a .file)) (length (now (a .lines))) y) (c .before .before .before .before .work .ensures)
 

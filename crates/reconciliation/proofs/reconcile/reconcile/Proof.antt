@@ -11,14 +11,14 @@ use borrow.Author.Tests.{not-true, not-false}
 use Rattle.layout.specs.Limits.{maxRows}
 use Rattle.reconciliation.specs.Reconcile.{recRecords}
 use Rattle.text.specs.Blocks.{joined, over}
-use Rattle.layout.specs.Calendar.{isDate}
+use Rattle.dates.specs.Calendar.{isDate}
 use Rattle.casemaster.specs.Master.{rowsOf}
 use Rattle.layout.specs.States.{isState}
 use Rattle.text.proofs.HoldsLaws.{holds-count, holds-last}
 use Rattle.reconciliation.proofs.ReconcileLaws.{rct-counted}
-use Rattle.reconciliation.proofs.ReconcileOutcomeLaws.{outcome-master, outcome-12, outcome-13, outcome-11, outcome-done}
+use Rattle.reconciliation.proofs.ReconcileOutcomeLaws.{reconcile-master, reconcile-12, reconcile-13, reconcile-11, reconcile-done}
 use Rattle.layout.proofs.StatesLaws.{state-wide}
-use Rattle.layout.proofs.CalendarLaws.{date-wide}
+use Rattle.dates.proofs.CalendarLaws.{date-wide}
 use Rattle.casemaster.proofs.RefusalsLaws.{master-rows}
 use Rattle.reconciliation.proofs.reconcile.reconcile.Statement.{statement}
 use Rattle.reconciliation.proofs.reconcile.reconcile.Tie as tie
@@ -30,7 +30,7 @@ master-refusal-requires c κs = search needs
 returns : tie.Need-returns
 returns c =
     let a = c .before .before .before .before .before .before .args in
-    outcome-master (a .master .now) (a .rows) (a .state .now) (a .date .now) (a .out .now) (c .before .master-refusal .result) (c .before .master-refusal .ensures) (c .if1 .taken)
+    reconcile-master (a .master .now) (a .rows) (a .state .now) (a .date .now) (a .out .now) (c .before .master-refusal .result) (c .before .master-refusal .ensures) (c .if1 .taken)
 
 is-state-requires : tie.Need-is-state-requires
 is-state-requires c κs = search needs
@@ -39,7 +39,7 @@ returns-2 : tie.Need-returns-2
 returns-2 c =
     let a = c .before .before .before .before .before .before .before .before .args in
     let e : masterRefusal maxRows (a .master .now) (a .rows) 0 ≡ 0 = sym (c .before .before .before .master-refusal .ensures) ∙ c .before .before .if1 .left in
-    outcome-12 (a .master .now) (a .rows) (a .state .now) (a .date .now) (a .out .now) e (sym (c .before .is-state .ensures) ∙ not-true _ (c .if2 .taken))
+    reconcile-12 (a .master .now) (a .rows) (a .state .now) (a .date .now) (a .out .now) e (sym (c .before .is-state .ensures) ∙ not-true _ (c .if2 .taken))
 
 is-date-requires : tie.Need-is-date-requires
 is-date-requires c κs = search needs
@@ -49,7 +49,7 @@ returns-3 c =
     let a = c .before .before .before .before .before .before .before .before .before .before .args in
     let e : masterRefusal maxRows (a .master .now) (a .rows) 0 ≡ 0 = sym (c .before .before .before .before .before .master-refusal .ensures) ∙ c .before .before .before .before .if1 .left in
     let s : isState (a .state .now) ≡ true = sym (c .before .before .before .is-state .ensures) ∙ not-false _ (c .before .before .if2 .left) in
-    outcome-13 (a .master .now) (a .rows) (a .state .now) (a .date .now) (a .out .now) e s (sym (c .before .is-date .ensures) ∙ not-true _ (c .if3 .taken))
+    reconcile-13 (a .master .now) (a .rows) (a .state .now) (a .date .now) (a .out .now) e s (sym (c .before .is-date .ensures) ∙ not-true _ (c .if3 .taken))
 
 count-cases-requires : tie.Need-count-cases-requires
 count-cases-requires c κs =
@@ -62,7 +62,7 @@ returns-4 c =
     let e : masterRefusal maxRows (a .master .now) (a .rows) 0 ≡ 0 = sym (c .before .before .before .before .before .before .before .before .master-refusal .ensures) ∙ c .before .before .before .before .before .before .before .if1 .left in
     let s : isState (a .state .now) ≡ true = sym (c .before .before .before .before .before .before .is-state .ensures) ∙ not-false _ (c .before .before .before .before .before .if2 .left) in
     let d : isDate (a .date .now) ≡ true = sym (c .before .before .before .before .is-date .ensures) ∙ not-false _ (c .before .before .before .if3 .left) in
-    outcome-11 (a .master .now) (a .rows) (a .state .now) (a .date .now) (a .out .now) e s d (omega (arith, c .before .before .count-cases .ensures .0, c .if4 .taken))
+    reconcile-11 (a .master .now) (a .rows) (a .state .now) (a .date .now) (a .out .now) e s d (omega (arith, c .before .before .count-cases .ensures .0, c .if4 .taken))
 
 put-records-requires : tie.Need-put-records-requires
 put-records-requires c κs =
@@ -105,7 +105,7 @@ returns-5 c =
     let w : length r ≡ 245 = search needs in
     let rows : List (List ℕ) = rowsOf (a .rows) (a .master .now) in
     let l : length (recRecords (a .state .now) rows) < length (a .out .now) / 245 = omega (arith, k .0, c .before .before .before .before .before .before .before .before .before .before .if4 .left) in
-    outcome-done (a .master .now) (a .rows) (a .state .now) (a .date .now) (a .out .now) e s d (p .result) (c .before .before .copy-in .last .0) l n
+    reconcile-done (a .master .now) (a .rows) (a .state .now) (a .date .now) (a .out .now) e s d (p .result) (c .before .before .copy-in .last .0) l n
     (c .before .before .copy-in .ensures
     ∙ holds-last 245 r (p .ensures) w (omega (arith, p .kept .0))
     ∙ ap (λ (z : List ℕ). over (joined (recRecords (a .state .now) rows) ++ z) (a .out .now))

@@ -5,9 +5,9 @@ use Prim.Native.Nat.{_≤_}
 use native.Mathlib.Omega.{arith}
 use borrow.Author.Needs.{needs}
 use borrow.Author.Tests.{not-true, not-false}
-use Rattle.layout.proofs.MonthLaws.{month-length, month-bounds, no-month, length-common, length-leap}
-use Rattle.layout.proofs.calendar.days_in.Statement.{statement}
-use Rattle.layout.proofs.calendar.days_in.Tie as tie
+use Rattle.dates.proofs.MonthLaws.{month-length, month-bounds, no-month, length-common, length-leap}
+use Rattle.dates.proofs.calendar.days_in.Statement.{statement}
+use Rattle.dates.proofs.calendar.days_in.Tie as tie
 
 returns : tie.Need-returns
 returns c = no-month _ _ (not-true _ (c .if1 .taken))

@@ -4,10 +4,10 @@ use native.Mathlib.Omega.{arith}
 use lib.Dec.{leb}
 use borrow.Author.Needs.{needs}
 use borrow.Author.Tests.{le-leb, not-true, not-false}
-use Rattle.layout.specs.Calendar.{isDay, daysIn}
-use Rattle.layout.proofs.MonthLaws.{isMonth, least-days}
-use Rattle.layout.proofs.calendar.is_day.Statement.{statement}
-use Rattle.layout.proofs.calendar.is_day.Tie as tie
+use Rattle.dates.specs.Calendar.{isDay, daysIn}
+use Rattle.dates.proofs.MonthLaws.{isMonth, least-days}
+use Rattle.dates.proofs.calendar.is_day.Statement.{statement}
+use Rattle.dates.proofs.calendar.is_day.Tie as tie
 
 returns : tie.Need-returns
 unfolding isDay

@@ -6,7 +6,7 @@ use mathlib.Core.Bool.{true}
 use lib.ListN.{length}
 use Rattle.text.specs.Fields.{areDigits}
 use Rattle.text.proofs.FieldsLaws.{and-left, digits-width}
-use Rattle.layout.specs.Calendar.{isDate}
+use Rattle.dates.specs.Calendar.{isDate}
 
 pub date-wide : (date : List ℕ) → isDate date ≡ true → length date ≡ 8
 unfolding isDate

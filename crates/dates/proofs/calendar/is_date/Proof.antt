@@ -5,11 +5,11 @@ use Prim.Native.Nat.{_≤_}
 use lib.Dec.{lit<, lit≤}
 use borrow.Author.Needs.{needs}
 use borrow.Author.Tests.{not-true, not-false}
-use Rattle.layout.specs.Calendar.{isDate}
+use Rattle.dates.specs.Calendar.{isDate}
 use Rattle.text.specs.Fields.{areDigits}
 use Rattle.text.proofs.FieldsLaws.{digits-inside, digits-columns}
-use Rattle.layout.proofs.calendar.is_date.Statement.{statement}
-use Rattle.layout.proofs.calendar.is_date.Tie as tie
+use Rattle.dates.proofs.calendar.is_date.Statement.{statement}
+use Rattle.dates.proofs.calendar.is_date.Tie as tie
 
 are-digits-requires : tie.Need-are-digits-requires
 are-digits-requires c κs = search needs

@@ -2,7 +2,7 @@
 use text::fields;
 use text::fields::Columns;
 ghost use mathlib.Core.Path.{_≡_};
-ghost use Rattle.layout.specs.Calendar.{isLeap, daysIn, isDay, isDate};
+ghost use Rattle.dates.specs.Calendar.{isLeap, daysIn, isDay, isDate};
 
 const YEAR: Columns = Columns { first: 1, last: 4 };
 

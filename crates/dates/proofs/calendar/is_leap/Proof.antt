@@ -1,8 +1,8 @@
 -- `calendar::is_leap` meets its contract: the same test as the definition. Assumes nothing.
 use mathlib.Core.Path.{refl}
-use Rattle.layout.specs.Calendar.{isLeap}
-use Rattle.layout.proofs.calendar.is_leap.Statement.{statement}
-use Rattle.layout.proofs.calendar.is_leap.Tie as tie
+use Rattle.dates.specs.Calendar.{isLeap}
+use Rattle.dates.proofs.calendar.is_leap.Statement.{statement}
+use Rattle.dates.proofs.calendar.is_leap.Tie as tie
 
 returns : tie.Need-returns
 unfolding isLeap

@@ -8,7 +8,7 @@ use native.Mathlib.Omega.{arith}
 use lib.Dec.{eqb, leb, lit≤}
 use borrow.Author.Count.{below-more}
 use borrow.Author.Tests.{eqb-true, ne-eqb, leb-true}
-use Rattle.layout.specs.Calendar.{isLeap, isShort, daysIn}
+use Rattle.dates.specs.Calendar.{isLeap, isShort, daysIn}
 use Rattle.text.proofs.FieldsLaws.{and-left, and-right}
 
 -- 1 in February, 0 in the other months

@@ -1,0 +1,1 @@
+// What every call answers: definitions and laws alone.

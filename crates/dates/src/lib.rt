@@ -1,0 +1,2 @@
+// Dates of the Gregorian calendar.
+pub mod calendar;
