@@ -30,7 +30,7 @@ use Rattle.journalwalk.specs.JournalWalk.{journalPart, JournalRoom}
 use Rattle.journalwalk.proofs.WholeLaws.{journal-whole}
 use Rattle.batch.specs.Journaling.{countsPart, wholeJournal, journalWanted}
 
-module _ (c : Call) (limit-is : c .limit ≡ maxRows) (k : Known c) (st : List ℕ) (own : ℕ) (v₁ : List ℕ) (o : OrderReady st (c .batch) (detailCount (c .batch)) own v₁)
+module _ (c : Call) (limit-is : c .limit ≡ maxRows) (k : Known c) (st : List ℕ) (own : ℕ) (v₁ : List ℕ) (o : OrderReady st (c .year) (c .locals) (c .batch) (detailCount (c .batch)) own v₁)
     (new : ℕ) (ni : new ≡ newOwnKeys (fixedOf st (c .year) (c .locals) (c .batch) own (c .rows)) v₁ (rowsOf (c .rows) (c .master))) where
   -- the rows that there will be keep to the limit
   pub rows-few : c .rows + new < 128 ^ 4
@@ -79,7 +79,7 @@ module _ (c : Call) (limit-is : c .limit ≡ maxRows) (k : Known c) (st : List �
                 a,
                 h e,
                 same-length,
-                o .own-in,
+                o .own-end .within,
                 length-append (numberBytes (c .rows)) (numberBytes (c .rows + new)),
                 number-length 3 (c .rows) rows-before,
                 number-length 3 (c .rows + new) rows-few,

@@ -3,12 +3,11 @@ use crate::refusals;
 use casemaster::master;
 use journal::writing;
 use journalwalk::walk;
-use keyorder::key_work;
 use keyorder::order;
 use keywalk::counting;
+use keywork::worked;
 use layout::chart_a2;
 use layout::records;
-use namemarks::marks;
 use reporting::counts;
 use reporting::verdicts;
 use reporting::verdicts::Progress;
@@ -88,9 +87,8 @@ fn work(
         wanted (now (journal .entry)) (now (m .exit)) (now (verdicts .exit)) (now (rejects .exit)) (r .progress) (now (journal .exit)) (r .written) ⌝ }
 {
     let d = batch.len() / 245 - 1;
-    let own = order::order_details(batch, d, state, verdicts);
-    marks::mark_names(batch, state, verdicts, own);
-    let new = counting::new_rows(m, n, batch, verdicts, own, state, year, list);
+    let own = order::order_details(batch, d, state, year, list, verdicts);
+    let new = counting::new_rows(m, n, batch, verdicts, own);
     let rows = n + new;
     master::shift_rows(m, n, new);
     let at = start_journal(journal, n, rows, wanted);
@@ -108,7 +106,8 @@ fn work(
         at,
         wanted,
     );
-    key_work::judge_alone(batch, verdicts, own, d, state, year, list);
+    worked::work_alone(batch, verdicts, own, d, state, year, list);
+    worked::put_back(verdicts, d);
     let progress = verdicts::write_verdicts(rows, batch, d, verdicts, rejects);
     JournaledWork { progress, written }
 }

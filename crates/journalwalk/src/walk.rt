@@ -3,8 +3,11 @@
 use crate::key_entry;
 use casemaster::master;
 use casemaster::search;
-use keyorder::key_work;
+use keyorder::runs;
+use keyorder::tagged;
 use keywalk::counting;
+use keywork::key_work;
+use layout::records;
 use onecase::case;
 use onecase::case::Case;
 use turns::adds;
@@ -14,8 +17,8 @@ ghost use Prim.Native.Nat.{_+_, _*_, _≤_, _<_};
 ghost use lib.ListN.{length};
 ghost use Rattle.judging.specs.State.{rowIf};
 ghost use Rattle.onecase.specs.Machine.{rowOf};
-ghost use Rattle.keyorder.specs.KeyWork.{Usable};
-ghost use Rattle.keywalk.specs.Walking.{rowIn, oneOrNone, RowOfPut, AreMarked, fixedOf, startOf, StaysBefore, WalkReady};
+ghost use Rattle.keyorder.specs.Runs.{SortedFrom};
+ghost use Rattle.keywalk.specs.Walking.{rowIn, oneOrNone, RowOfPut, fixedOf, startOf, StaysBefore, WalkReady};
 ghost use Rattle.journalwalk.specs.JournalWalk.{standOf, KeyRoom, KeyJournaled, JournalRoom, WalkJournaled};
 
 // How far the walk has come: the position in the key order, the first row not yet passed, the place that the next row goes to, and the
@@ -67,10 +70,9 @@ fn walk_key(
     journal: &mut [u8],
     wanted: bool,
 ) -> Cursor
-    requires { ⌜ (s .position < own) × Usable (now batch) (now numbers) own ⌝ }
+    requires { ⌜ (s .position < own) × SortedFrom (now state) year (now list) (now batch) (now numbers) (s .position) own ⌝ }
     requires { ⌜ (s .to ≤ s .from) × (s .from ≤ end) × (end * 200 ≤ length (now m)) ⌝ }
     requires { ⌜ StaysBefore (fixedOf (now state) year (now list) (now batch) own end) (standOf s (now m) (now numbers)) ⌝ }
-    requires { ⌜ AreMarked (fixedOf (now state) year (now list) (now batch) own end .settings .names) (now batch) own (now numbers) ⌝ }
     requires { ⌜ KeyRoom (fixedOf (now state) year (now list) (now batch) own end) (standOf s (now m) (now numbers)) wanted (s .written) (now journal) ⌝ }
     ensures { λ r. ⌜ KeyJournaled (fixedOf (now (state .entry)) year (now (list .entry)) (now (batch .entry)) own end)
         (standOf s (now (m .entry)) (now (numbers .entry))) (standOf r (now (m .exit)) (now (numbers .exit)))
@@ -79,14 +81,16 @@ fn walk_key(
     let p = s.position;
     let from = s.from;
     let to = s.to;
-    let e = key_work::key_end(batch, numbers, p, own);
-    let key = key_work::key_in(batch, numbers, p);
+    let run = runs::run_at(numbers, p, own);
+    let e = run.end;
+    let gives = run.gives;
+    let key = records::key_at(batch, tagged::index_part(numbers[p]));
     let passed = search::rows_below(m, from, end, &key);
     master::pull_rows(m, from, to, passed);
     let at = from + passed;
     let held = counting::is_row_of(m, at, end, &key);
     let case = case_at(m, at, held);
-    let next = key_work::work_key(case, batch, numbers, p, e, state, year, list);
+    let next = key_work::work_key(case, batch, numbers, p, e, gives, state, year, list);
     let written = key_entry::put_key_entry(journal, s.written, wanted, to + passed, case, next);
     let placed = put_row_of(m, to + passed, next);
     Cursor {
@@ -98,7 +102,7 @@ fn walk_key(
 }
 
 // Walks all own keys: the rows from place `from` up to `end` and the details in key order become the rows after all details, from the
-// first place up to `end`, and each detail's verdict stands beside the index in its own number. Where a journal is wanted the entries of
+// first place up to `end`, and each detail's verdict stands below its index at its own position. Where a journal is wanted the entries of
 // what changes are written from index `at` on; answers the index behind them.
 pub fn walk_keys(
     m: &mut [u8],

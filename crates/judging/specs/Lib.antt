@@ -1,4 +1,5 @@
 pub mod Errors
+pub mod Front
 pub mod Names
 pub mod Parts
 pub mod Setting

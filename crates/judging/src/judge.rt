@@ -45,7 +45,7 @@ pub fn judge_first(rec: &[u8; 245], state: &[u8]) -> FirstErrors
 }
 
 // The set of errors 01 to 05.
-fn set_first(f: FirstErrors) -> u64
+pub fn set_first(f: FirstErrors) -> u64
     ensures { λ r. ⌜ (r ≡ numberOfCodes (firstCodes f)) × (r ≤ 62) ⌝ }
 {
     flag(f.state, 1)
@@ -53,7 +53,7 @@ fn set_first(f: FirstErrors) -> u64
 }
 
 // The set of errors 06 to 08.
-fn set_06_to_08(rec: &[u8; 245], known: bool) -> u64
+pub fn set_06_to_08(rec: &[u8; 245], known: bool) -> u64
     ensures { λ r. ⌜ (r ≡ numberOfCodes (codes06to08 known (now (rec .entry)))) × (r ≤ 448) ⌝ }
 {
     flag(known & errors::has_06(rec), 6)
@@ -61,7 +61,7 @@ fn set_06_to_08(rec: &[u8; 245], known: bool) -> u64
 }
 
 // The set of errors 10 to 13.
-fn set_10_to_13(rec: &[u8; 245], year: u64, list: &[u8], known: bool) -> u64
+pub fn set_10_to_13(rec: &[u8; 245], year: u64, list: &[u8], known: bool) -> u64
     ensures { λ r. ⌜ (r ≡ numberOfCodes (codes10to13 known year (now (list .entry)) (now (rec .entry)))) × (r ≤ 15360) ⌝ }
 {
     flag(known & errors::has_10(rec, list), 10)
@@ -70,7 +70,7 @@ fn set_10_to_13(rec: &[u8; 245], year: u64, list: &[u8], known: bool) -> u64
 }
 
 // The set of errors 14 to 16.
-fn set_14_to_16(rec: &[u8; 245], known: bool) -> u64
+pub fn set_14_to_16(rec: &[u8; 245], known: bool) -> u64
     ensures { λ r. ⌜ (r ≡ numberOfCodes (codes14to16 known (now (rec .entry)))) × (r ≤ 114688) ⌝ }
 {
     flag(known & errors::has_14(rec), 14)

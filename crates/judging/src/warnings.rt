@@ -12,7 +12,7 @@ ghost use Rattle.judging.specs.Warnings.{warning51, isRenamed, warning52
 ghost use Rattle.judging.specs.State.{rowIf};
 
 // Warning 51 (A): the local code is neither blank, 000 nor listed.
-fn has_51(rec: &[u8; 245], list: &[u8]) -> bool
+pub fn has_51(rec: &[u8; 245], list: &[u8]) -> bool
     ensures { λ r. ⌜ r ≡ warning51 (now (list .entry)) (now (rec .entry)) ⌝ }
 {
     let t = rec[72];
@@ -39,7 +39,7 @@ fn is_renamed(rec: &[u8; 245], row: &[u8; 200]) -> bool
 }
 
 // Warning 52 (A): the first or the last name differs from a live row's.
-fn has_52(rec: &[u8; 245], held: bool, row: &[u8; 200]) -> bool
+pub fn has_52(rec: &[u8; 245], held: bool, row: &[u8; 200]) -> bool
     ensures { λ r. ⌜ r ≡ warning52 (rowIf held (now (row .entry))) (now (rec .entry)) ⌝ }
 {
     let t = rec[72];

@@ -2,6 +2,5 @@ pub mod DigitOrder
 pub mod RankLaws
 pub mod NumbersLaws
 pub mod OrderLaws
-pub mod JudgedLaws
-pub mod PackedLaws
-pub mod KeyWorkLaws
+pub mod TaggedLaws
+pub mod RunLaws

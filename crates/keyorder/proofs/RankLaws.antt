@@ -1,13 +1,13 @@
 -- Laws of ranks: the sound keys of one state rank below all others, one key a rank, and in byte order. Assumes nothing.
 use mathlib.Core.Path.{_≡_, refl, sym, ap, _∙_}
-use mathlib.Core.Bool.{Bool, true, false, not, cond, _&&_, _||_, and-true, and-false, false≢true}
+use mathlib.Core.Bool.{Bool, true, false, not, cond, _&&_, _||_, false≢true}
 use mathlib.Core.List.{List, [], _∷_, _++_}
 use Prim.Native.Nat.{ℕ, zero, suc, _+_, _*_, _^_, _≤_, _<_}
 use native.Mathlib.Omega.{arith}
 use lib.Dec.{eqb}
 use lib.ListN.{length, take, drop, getD, take-append-drop, drop-of-length-le}
 use lib.Seq.{drop-cons, drop-drop}
-use borrow.Author.Tests.{eqb-true, eq-eqb, ne-eqb, not-true, not-false}
+use borrow.Author.Tests.{eqb-true, not-true, not-false}
 use Rattle.text.specs.Characters.{A, N}
 use Rattle.text.specs.Fields.{columns, sameBytes, areDigits, isZero, number}
 use Rattle.layout.specs.States.{isState}
@@ -36,21 +36,6 @@ pub record Own (state key : List ℕ) : Type 0 where
   pub same : columns 1 2 key ≡ state
 
 module _ (state key : List ℕ) where
-  -- a key of another width or state is none of the state's own
-  pub other-width : (length key ≡ 12 → ⊥) → isOwnKey state key ≡ false
-  unfolding isOwnKey isSoundKey
-  other-width h = rw (ne-eqb _ _ h)
-
-  pub other-state : sameBytes (columns 1 2 key) state ≡ false → isOwnKey state key ≡ false
-  unfolding isOwnKey
-  other-state h = rw (h, and-false)
-
-  -- a key of the state: the state need not be looked up again
-  pub own-state : length key ≡ 12 → sameBytes (columns 1 2 key) state ≡ true
-      → isOwnKey state key ≡ (isState state && (not (wrongSsn (columns 3 11 key)) && isCaseType (getD key 11 0)))
-  unfolding isOwnKey isSoundKey
-  own-state w h = rw (eq-eqb _ _ w, h, same-eq _ _ h, and-true)
-
   pub own-parts : isOwnKey state key ≡ true → Own state key
   unfolding isOwnKey isSoundKey
   own-parts h =

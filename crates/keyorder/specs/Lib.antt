@@ -1,4 +1,3 @@
 pub mod Order
-pub mod Numbers
-pub mod Packed
-pub mod KeyWork
+pub mod Tagged
+pub mod Runs

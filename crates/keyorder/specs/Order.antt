@@ -1,12 +1,12 @@
 -- For the contracts of inner functions; no rule of the papers stands here.
 -- The details of a batch in the order of their keys: the ranks of keys, and the list of the details' indexes by rank. Assumes nothing.
-use Prim.Native.Nat.{ℕ, _+_, _*_, _/_, _%_, _^_, _≤_, _<_}
+use Prim.Native.Nat.{ℕ, _+_, _*_, _^_, _<_}
 use mathlib.Core.Path.{_≡_}
-use mathlib.Core.List.{List, [], map}
-use mathlib.Core.Bool.{Bool, cond}
+use mathlib.Core.List.{List, []}
+use mathlib.Core.Bool.{cond}
 use mathlib.Core.Logic.{_⊎_}
 use lib.Dec.{eqb}
-use lib.ListN.{length, take, drop, getD}
+use lib.ListN.{length, getD}
 use Rattle.text.specs.Characters.{N}
 use Rattle.text.specs.Fields.{columns, number}
 use Rattle.layout.specs.Key.{isOwnKey}
@@ -39,26 +39,3 @@ pub record InKeyOrder (state : List ℕ) (details : List (List ℕ)) (order : Li
   pub inside : (q : ℕ) → q < length order → getD order q 0 < length details
   pub all : (i : ℕ) → i < length details → (q : ℕ) × (q < length order) × (getD order q 0 ≡ i)
   pub in-order : (q p : ℕ) → q < p → p < length order → Before state details (getD order q 0) (getD order p 0)
-
--- the index that a number of the verdict list holds in its bits 19 to 42
-abbrev pub indexIn : ℕ → ℕ
-indexIn n = n / 2 ^ 19 % 2 ^ 24
-
--- whether it is marked: its bit 0, set where the name of the detail at that index is given under its key
-abbrev pub isMarked : ℕ → Bool
-isMarked n = eqb (n % 2) 1
-
--- the indexes in the first d numbers
-abbrev pub indexesIn : ℕ → List ℕ → List ℕ
-indexesIn d numbers = map indexIn (take d numbers)
-
--- the first d numbers hold the indexes of d details in key order and nothing else, those of the submitting state's sound keys being
--- the first own of them; the numbers behind are kept
-pub record Ordered (state : List ℕ) (details : List (List ℕ)) (d : ℕ) (before after : List ℕ) (own : ℕ) : Type 0 where
-  pub in-order : InKeyOrder state details (indexesIn d after)
-  pub alone : (q : ℕ) → q < d → getD after q 0 ≡ getD (indexesIn d after) q 0 * 2 ^ 19
-  pub kept : drop d after ≡ drop d before
-  pub width : length after ≡ length before
-  pub own-in : own ≤ d
-  pub own-low : (q : ℕ) → q < own → rankAt state details (getD (indexesIn d after) q 0) < noRank
-  pub own-high : (q : ℕ) → own ≤ q → q < d → rankAt state details (getD (indexesIn d after) q 0) ≡ noRank

@@ -1,30 +1,42 @@
-// Where the parts of a 64-bit number of the verdict list stand. The list is also the place that the details are ordered in, so a number
-// holds one thing after the other. Slot p of the first d, by stages:
+// Where the parts of a 64-bit number of the verdict list stand. The list is also the place that the details are ordered and worked in, so a
+// number holds one thing after the other. Slot p of the first d, by stages:
 //
-//                                  bits 63 to 24                      bits 23 to 0
-//   numbered (order)               rank of detail p's key             p
-//   sorted (order)                 rank of the key at position p      index of the detail at position p of the key order
+//                             bits 63 to 32    bits 31 to 8   7 to 4   3       2            1       0
+//   judged (tagged)           rank of p's key  p              kind     gives   warning 51   error   0
+//   sorted (tagged)           the same of the detail at position p of the key order
+//   marked (namemarks)        the same                                                              given
 //
-//                                  bits 63 to 43    bits 42 to 19     bits 18 to 1   bit 0
-//   indexes kept (order)           0                index, the same   0              0
-//   names marked (marks)           0                index, the same   0              mark
-//   worked (key_work, packed)      high part        index, the same   low part       mark, the same
+//                             bits 63 to 40    bits 39 to 19  bits 18 to 0
+//   worked (keywork)          index            high part      low part     of the detail at position p
+//   put back (keywork)        p                high part      low part     of detail p
+//   written (reporting)       the number of detail p's set of codes, alone
 //
-//   written (the batch's last step)  the number of detail p's set of codes, alone
+// gives: the detail gives its name; error: it has one but 09 and 17; given: its name is given by a B record of its key. The two parts of a
+// worked number are the verdict: a set of codes is errors alone, which stand in the low part, or warnings alone, which stand in the high
+// part; with error 17 the high part is the four stored characters.
 //
-// The two parts of a worked number are the verdict on detail p, whose own position is another; the index between them is that of the
-// detail at position p, and the mark says whether the name of that detail is given by a B record of its key. There is no code 0, so no
-// verdict needs bit 0. A set of codes is errors alone, which stand in the low part, or warnings alone, which stand in the high part;
-// with error 17 the high part is the four stored characters.
+// While the names of one key are marked (namemarks) its numbers are codes:
+//
+//                             bits 63 to 32    bit 31              bits 30 to 0
+//   coded                     the name         0 where it is given bits 31 to 1 of the number
 
-// 2 to the power 24: how many indexes there are, and, before and while sorting, the lowest bit of the rank.
+// 2 to the power 32: the lowest bit of the rank.
+pub const RANK_PLACE: u64 = 0x100000000;
+
+// 2 to the power 8: the lowest bit of the index beside a rank.
+pub const INDEX_PLACE: u64 = 0x100;
+
+// 2 to the power 24: how many indexes there are.
 pub const INDEXES: u64 = 0x1000000;
 
-// 2 to the power 19: the lowest bit of the index, once it has been kept.
-pub const INDEX_PLACE: u64 = 0x80000;
+// 2 to the power 40: the lowest bit of the index beside a verdict.
+pub const WORKED_PLACE: u64 = 0x10000000000;
 
-// 2 to the power 43: the lowest bit of the high part.
-pub const HIGH_PLACE: u64 = 0x80000000000;
+// 2 to the power 19: the lowest bit of a verdict's high part.
+pub const HIGH_PLACE: u64 = 0x80000;
+
+// 2 to the power 43: the lowest bit that stands in the high part of a set of warnings.
+pub const WARNINGS: u64 = 0x80000000000;
 
 // 2 to the power 17: the bit of error 17 in the low part.
 pub const NAMED: u64 = 0x20000;

@@ -1,6 +1,6 @@
-// The details of a batch in the order of their keys, and the details of one key worked through the machine.
+// The details of a batch in the order of their keys: judged, numbered and sorted; where each key's details end.
 pub mod bits;
-pub mod key_work;
 pub mod order;
-pub mod packed;
 pub mod rank;
+pub mod runs;
+pub mod tagged;

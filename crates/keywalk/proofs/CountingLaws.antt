@@ -4,29 +4,41 @@ use mathlib.Core.Path.{_≡_, refl, sym, ap, _∙_}
 use mathlib.Core.Logic.{_⊎_, inl, inr}
 use mathlib.Core.Bool.{Bool, true, false, not, cond, _&&_}
 use mathlib.Core.List.{List, [], _∷_, _++_, append-assoc}
-use mathlib.Core.Option.{none}
+use mathlib.Core.Option.{Option, none, some}
 use native.Mathlib.Omega.{arith}
 use lib.ListN.{take, drop, drop-of-length-le}
 use Rattle.text.specs.Blocks.{blocks}
 use Rattle.casemaster.specs.Rows.{rowWith}
 use Rattle.casemaster.specs.Master.{rowsOf, keysOf}
-use Rattle.keyorder.specs.KeyWork.{keyIn, makesRow}
+use Rattle.casemaster.specs.Search.{AreBelow}
+use Rattle.judging.specs.State.{isHeld}
+use Rattle.onecase.specs.Machine.{next}
+use Rattle.keyorder.specs.Tagged.{keyIn}
+use Rattle.keyorder.proofs.TaggedLaws.{tagged-makes}
 use Rattle.keywalk.specs.Walk.{distinct, isNewKey, newKeys}
-use Rattle.keywalk.specs.Walking.{isRowOf, rowsFrom, OrderReady, Fixed, KeyCounted}
+use Rattle.keywalk.specs.Walking.{isRowOf, rowsFrom, OrderReady, Fixed, runMakes, KeyCounted}
 use Rattle.keywalk.specs.declared.counting.Count.{Count}
 use Rattle.keywalk.proofs.GroupLaws.{IsStart, makes-run}
 use Rattle.keywalk.proofs.PassLaws.{AllBelow, FirstNotBelow, isKeyOf, firstOf, below-append, below-more, parted-find}
 use Rattle.keywalk.proofs.StandLaws.{from-split, below-pass, none-back, is-row}
 use Rattle.keywalk.proofs.WalkLaws.{length-own}
 use Rattle.keywalk.proofs.KeysLaws as Keys
-use Rattle.keywalk.proofs.KeysLaws.{indexes-self}
+use Rattle.keywalk.proofs.KeysLaws.{same-self}
 use Rattle.text.proofs.BlocksLaws.{blocks-split}
 use Rattle.turns.specs.Under.{detailsUnder, runRow}
 use Rattle.turns.specs.Adds.{hasNoRow}
 use Rattle.turns.specs.Settings.{settingUnder}
 use Rattle.text.specs.ByteOrder.{orderOf, isLess, rising}
 
-module _ (f : Fixed) (m numbers : List ℕ) (o : OrderReady (f .settings .state) (f .batch) (f .count) (f .own) numbers)
+-- a key counted passes no row behind the last
+pub within-next : (batch : List ℕ) (own end : ℕ) (m numbers : List ℕ) (s s′ : Count) → KeyCounted batch own end m numbers s s′ → s .from ≤ end → s′ .from ≤ end
+within-next batch own end m numbers s s′ kc l = go (runMakes numbers (s .position) (s′ .position)) refl
+  where
+    go : (t : Bool) → runMakes numbers (s .position) (s′ .position) ≡ t → s′ .from ≤ end
+    go true t = omega (arith, kc .below t .within, kc .from-is)
+    go false t = omega (arith, kc .idle t, kc .from-is)
+
+module _ (f : Fixed) (m numbers : List ℕ) (o : OrderReady (f .settings .state) (f .settings .year) (f .settings .list) (f .batch) (f .count) (f .own) numbers)
     (rise : rising (keysOf (rowsOf (f .end) m)) ≡ true) where
   abbrev details : List (List ℕ)
   details = Keys.details o
@@ -46,7 +58,6 @@ module _ (f : Fixed) (m numbers : List ℕ) (o : OrderReady (f .settings .state)
     pub within : s .from ≤ f .end
     pub below : (q : ℕ) → s .position ≤ q → q < f .own → AllBelow (key q) (rowsOf (s .from) m)
     pub counted : s .new + new (distinct (drop (s .position) (Keys.keys o))) ≡ new (distinct (Keys.keys o))
-    pub few : s .new ≤ s .position
 
   pub counting-start : Counting (record { position = 0; from = 0; new = 0 })
   unfolding blocks
@@ -57,10 +68,9 @@ module _ (f : Fixed) (m numbers : List ℕ) (o : OrderReady (f .settings .state)
         within = omega arith;
         below = λ q a b. tt;
         counted = omega arith;
-        few = omega arith;
       }
 
-  module _ (s : Count) (g : Counting s) (l : s .position < f .own) (s′ : Count) (kc : KeyCounted f m numbers s s′) where
+  module _ (s : Count) (g : Counting s) (l : s .position < f .own) (s′ : Count) (kc : KeyCounted (f .batch) (f .own) (f .end) m numbers s s′) where
     abbrev p : ℕ
     p = s .position
 
@@ -73,91 +83,124 @@ module _ (f : Fixed) (m numbers : List ℕ) (o : OrderReady (f .settings .state)
     abbrev k : List ℕ
     k = key p
 
+    in-count : p < f .count
+    in-count = omega (arith, Keys.own-in o)
+
     key-is : keyIn (f .batch) numbers p ≡ k
-    key-is = Keys.in-key o (indexes-self numbers) p l
+    key-is = Keys.in-key o (same-self p numbers) p (omega arith) in-count
 
-    abbrev pass : List (List ℕ)
-    pass = rowsOf (kc .passed) (drop (s .from * 200) m)
+    abbrev makes : Bool
+    makes = runMakes numbers p e
 
-    abbrev front : List (List ℕ)
-    front = rowsOf (s .from) m ++ pass
+    -- one of the details makes a row: the machine's run from none ends with one
+    made : makes ≡ not (hasNoRow (runRow (settingUnder (f .settings) k) none (detailsUnder k details)))
+    made =
+        makes-run (settingUnder (f .settings) k) numbers details (Keys.order o) p (e - p)
+        (λ j b.
+        let c : p + j < f .count = omega (arith, kc .ended .within, kc .ended .later, Keys.own-in o) in
+        tagged-makes _ _ _ _ _ _ (o .tags (p + j) c) (f .settings .names k)
+        ∙ ap (λ (r : List ℕ). isHeld (next (settingUnder (f .settings) k) none r)) (Keys.detail-is o (p + j) c))
+        ∙ rw (Keys.all-under o l (kc .ended) (g .start l))
 
-    abbrev back : List (List ℕ)
-    back = rowsFrom at (f .end) m
-
-    rows-are : rows ≡ front ++ back
-    rows-are =
-        let a : s .from + (f .end - s .from) ≡ f .end = omega (arith, g .within) in
-        ap (λ (x : ℕ). rowsOf x m) (sym a) ∙ blocks-split 200 (s .from) (f .end - s .from) m
-        ∙ ap (λ (x : List (List ℕ)). rowsOf (s .from) m ++ x) (from-split m (s .from) (kc .passed) (f .end) (kc .below .within))
-        ∙ sym (append-assoc (rowsOf (s .from) m) pass back)
-
-    front-below : AllBelow k front
-    front-below =
-        below-append k (rowsOf (s .from) m) pass (g .below p (omega arith) l)
-        (below-pass m k (kc .passed) (s .from) (λ j b. rw (← key-is) (kc .below .below j b)))
-
-    back-none : FirstNotBelow k back
-    back-none = none-back m k at (f .end) (kc .below .within) (go (kc .below .stops))
+    -- no detail makes a row: the key isn't new
+    idle-is : makes ≡ false → isNewKey (f .settings) details rows k ≡ false
+    idle-is t = go (rowWith k rows)
       where
-        go : (at ≡ (f .end)) ⊎ (isLess (orderOf (take 12 (drop (at * 200) m)) (keyIn (f .batch) numbers p)) ≡ false)
-            → (at ≡ (f .end)) ⊎ (isLess (orderOf (take 12 (drop (at * 200) m)) k) ≡ false)
-        go (inl a) = inl a
-        go (inr a) = inr (rw key-is at a)
+        go : (r : Option (List ℕ)) → (hasNoRow r && not (hasNoRow (runRow (settingUnder (f .settings) k) r (detailsUnder k details)))) ≡ false
+        go none = sym made ∙ t
+        go (some row) = refl
 
-    found : rowWith k rows ≡ firstOf k back
-    found = ap (rowWith k) rows-are ∙ parted-find k front back front-below back-none (rw (← rows-are) rise)
+    -- ---- one does
 
-    -- the key is new exactly where it has no row and one of its details makes one
-    pub new-is : isNewKey (f .settings) details rows k
-        ≡ (not (isRowOf m at (f .end) (keyIn (f .batch) numbers p)) && makesRow (settingUnder (f .settings) (keyIn (f .batch) numbers p)) (f .batch) numbers p (e - p))
-    new-is = go (isKeyOf k back) refl
+    module _ (t : makes ≡ true) where
+      abbrev pass : List (List ℕ)
+      pass = rowsOf (kc .passed) (drop (s .from * 200) m)
+
+      abbrev front : List (List ℕ)
+      front = rowsOf (s .from) m ++ pass
+
+      abbrev back : List (List ℕ)
+      back = rowsFrom at (f .end) m
+
+      below : AreBelow m (s .from) (f .end) (keyIn (f .batch) numbers p) (kc .passed)
+      below = kc .below t
+
+      rows-are : rows ≡ front ++ back
+      rows-are =
+          let a : s .from + (f .end - s .from) ≡ f .end = omega (arith, g .within) in
+          ap (λ (x : ℕ). rowsOf x m) (sym a) ∙ blocks-split 200 (s .from) (f .end - s .from) m
+          ∙ ap (λ (x : List (List ℕ)). rowsOf (s .from) m ++ x) (from-split m (s .from) (kc .passed) (f .end) (below .within))
+          ∙ sym (append-assoc (rowsOf (s .from) m) pass back)
+
+      front-below : AllBelow k front
+      front-below =
+          below-append k (rowsOf (s .from) m) pass (g .below p (omega arith) l)
+          (below-pass m k (kc .passed) (s .from) (λ j b. rw (← key-is) (below .below j b)))
+
+      back-none : FirstNotBelow k back
+      back-none = none-back m k at (f .end) (below .within) (go (below .stops))
+        where
+          go : (at ≡ (f .end)) ⊎ (isLess (orderOf (take 12 (drop (at * 200) m)) (keyIn (f .batch) numbers p)) ≡ false)
+              → (at ≡ (f .end)) ⊎ (isLess (orderOf (take 12 (drop (at * 200) m)) k) ≡ false)
+          go (inl a) = inl a
+          go (inr a) = inr (rw key-is at a)
+
+      found : rowWith k rows ≡ firstOf k back
+      found = ap (rowWith k) rows-are ∙ parted-find k front back front-below back-none (rw (← rows-are) rise)
+
+      -- the key is new exactly where it has no row
+      new-is : isNewKey (f .settings) details rows k ≡ not (isRowOf m at (f .end) (keyIn (f .batch) numbers p))
+      new-is = go (isKeyOf k back) refl
+        where
+          held : isRowOf m at (f .end) (keyIn (f .batch) numbers p) ≡ isKeyOf k back
+          held = ap (isRowOf m at (f .end)) key-is ∙ is-row m k at (f .end) (below .within)
+
+          missing : (bs : List (List ℕ)) → isKeyOf k bs ≡ false → firstOf k bs ≡ none
+          missing [] f = refl
+          missing (row ∷ bs) f = rw f
+
+          present : (bs : List (List ℕ)) → isKeyOf k bs ≡ true → hasNoRow (firstOf k bs) ≡ false
+          present [] f = sym f
+          present (row ∷ bs) f = rw f
+
+          go : (b : Bool) → isKeyOf k back ≡ b → isNewKey (f .settings) details rows k ≡ not (isRowOf m at (f .end) (keyIn (f .batch) numbers p))
+          go true b = rw (held, b, found, present back b)
+          go false b = rw (held, b, found, missing back b) (sym made ∙ t)
+
+      passed-below : (q : ℕ) → e ≤ q → q < f .own → AllBelow (key q) (rowsOf (s′ .from) m)
+      passed-below q a b =
+          rw (kc .from-is, blocks-split 200 (s .from) (kc .passed) m)
+          (below-more k (key q) front (Keys.later-above o l (kc .ended) (g .start l) q a b) front-below)
+
+    new-is-all : isNewKey (f .settings) details rows k ≡ (makes && not (isRowOf m at (f .end) (keyIn (f .batch) numbers p)))
+    new-is-all = go makes refl
       where
-        held : isRowOf m at (f .end) (keyIn (f .batch) numbers p) ≡ isKeyOf k back
-        held = ap (isRowOf m at (f .end)) key-is ∙ is-row m k at (f .end) (kc .below .within)
+        go : (t : Bool) → makes ≡ t → isNewKey (f .settings) details rows k ≡ (t && not (isRowOf m at (f .end) (keyIn (f .batch) numbers p)))
+        go true t = new-is t
+        go false t = idle-is t
 
-        made : makesRow (settingUnder (f .settings) (keyIn (f .batch) numbers p)) (f .batch) numbers p (e - p) ≡ not (hasNoRow (runRow (settingUnder (f .settings) k) none (detailsUnder k details)))
-        made =
-            ap (λ (x : List ℕ). makesRow (settingUnder (f .settings) x) (f .batch) numbers p (e - p)) key-is
-            ∙ makes-run (settingUnder (f .settings) k) (f .batch) numbers details (Keys.order o) p (e - p)
-            (λ j b. Keys.record-is o (indexes-self numbers) (p + j) (omega (arith, kc .ended .within, kc .ended .later, o .own-in)))
-            ∙ rw (Keys.all-under o (indexes-self numbers) l (kc .ended) (g .start l))
-
-        missing : (bs : List (List ℕ)) → isKeyOf k bs ≡ false → firstOf k bs ≡ none
-        missing [] f = refl
-        missing (row ∷ bs) f = rw f
-
-        present : (bs : List (List ℕ)) → isKeyOf k bs ≡ true → hasNoRow (firstOf k bs) ≡ false
-        present [] f = sym f
-        present (row ∷ bs) f = rw f
-
-        go : (t : Bool) → isKeyOf k back ≡ t
-            → isNewKey (f .settings) details rows k
-            ≡ (not (isRowOf m at (f .end) (keyIn (f .batch) numbers p)) && makesRow (settingUnder (f .settings) (keyIn (f .batch) numbers p)) (f .batch) numbers p (e - p))
-        go true t = rw (held, t, found, present back t)
-        go false t = rw (held, t, made, found, missing back t)
+    below-all : (q : ℕ) → e ≤ q → q < f .own → AllBelow (key q) (rowsOf (s′ .from) m)
+    below-all q a b = go makes refl
+      where
+        go : (t : Bool) → makes ≡ t → AllBelow (key q) (rowsOf (s′ .from) m)
+        go true t = passed-below t q a b
+        go false t =
+            let z : s′ .from ≡ s .from = omega (arith, kc .from-is, kc .idle t) in
+            rw z (g .below q (omega (arith, kc .ended .later)) b)
 
     pub counting-next : Counting s′
     unfolding newKeys
     counting-next =
-        let kn : distinct (drop p (Keys.keys o)) ≡ k ∷ distinct (drop e (Keys.keys o)) = Keys.keys-next o (indexes-self numbers) l (kc .ended) (g .start l) in
+        let kn : distinct (drop p (Keys.keys o)) ≡ k ∷ distinct (drop e (Keys.keys o)) = Keys.keys-next o l (kc .ended) (g .start l) in
         let c : s .new + (cond (isNewKey (f .settings) details rows k) 1 0 + new (distinct (drop e (Keys.keys o)))) ≡ new (distinct (Keys.keys o)) = rw kn at (g .counted) in
-        let one : s′ .new ≡ s .new + cond (isNewKey (f .settings) details rows k) 1 0 = rw new-is (kc .new-is) in
-        let few : cond (isNewKey (f .settings) details rows k) 1 0 ≤ 1 = most (isNewKey (f .settings) details rows k) in
+        let one : s′ .new ≡ s .new + cond (isNewKey (f .settings) details rows k) 1 0 = rw new-is-all (kc .new-is) in
         record {
           position = kc .ended .within;
-          start = Keys.start-next o (indexes-self numbers) l (kc .ended) (g .start l);
-          within = omega (arith, kc .below .within, kc .from-is);
-          below = λ q a b.
-              rw (kc .from-is, blocks-split 200 (s .from) (kc .passed) m)
-              (below-more k (key q) front (Keys.later-above o (indexes-self numbers) l (kc .ended) (g .start l) q a b) front-below);
+          start = Keys.start-next o l (kc .ended) (g .start l);
+          within = within-next (f .batch) (f .own) (f .end) m numbers s s′ kc (g .within);
+          below = below-all;
           counted = omega (arith, c, one);
-          few = omega (arith, one, few, g .few, kc .ended .later);
         }
-      where
-        most : (t : Bool) → cond t 1 0 ≤ 1
-        most true = omega arith
-        most false = omega arith
 
   pub counting-done : (s : Count) → Counting s → f .own ≤ s .position → s .new ≡ new (distinct (Keys.keys o))
   unfolding newKeys distinct

@@ -13,7 +13,11 @@ use Rattle.text.proofs.SameLaws.{eq-same, same-eq}
 use Rattle.onecase.specs.Machine.{next}
 use Rattle.onecase.proofs.MachineLaws.{row-stays}
 use Rattle.keyorder.specs.Order.{detailAt, rankAt, rankOf, noRank, InKeyOrder}
-use Rattle.keyorder.specs.KeyWork.{recordIn, makesRow}
+use Rattle.keyorder.specs.Tagged.{makesFrom, recordIn}
+use Rattle.keyorder.specs.Runs.{anyFrom}
+use Rattle.keyorder.proofs.RunLaws.{any-nil, any-more}
+use Rattle.keywork.specs.Worked.{rowAfter}
+use Rattle.keywork.proofs.WorkedLaws.{after-none, after-more}
 use Rattle.keywalk.proofs.KeyOrderLaws.{keyAt, under-first, under-next, under-last}
 use Rattle.turns.specs.Under.{detailsUnder, runRow}
 use Rattle.turns.specs.Adds.{hasNoRow}
@@ -118,21 +122,34 @@ module _ (setting : Setting) where
   held-more none x = refl
   held-more (some row) x = let s = row-stays setting row x in rw (s .1)
 
-  module _ (batch numbers : List ℕ) (details : List (List ℕ)) (order : List ℕ) where
-    held-is : (row : Option (List ℕ)) → isHeld row ≡ not (hasNoRow row)
-    held-is none = refl
-    held-is (some row) = refl
+  held-is : (row : Option (List ℕ)) → isHeld row ≡ not (hasNoRow row)
+  held-is none = refl
+  held-is (some row) = refl
 
+  module _ (numbers : List ℕ) (details : List (List ℕ)) (order : List ℕ) where
     -- one of the details makes a row: the run from none ends with one
-    pub makes-run : (p n : ℕ) → ((j : ℕ) → j < n → recordIn batch numbers (p + j) ≡ detailAt details (getD order (p + j) 0))
-        → makesRow setting batch numbers p n ≡ not (hasNoRow (runRow setting none (detailsFrom details order p n)))
-    unfolding makesRow runRow
-    makes-run p zero h = refl
+    pub makes-run : (p n : ℕ)
+        → ((j : ℕ) → j < n → makesFrom (getD numbers (p + j) 0) ≡ isHeld (next setting none (detailAt details (getD order (p + j) 0))))
+        → anyFrom makesFrom numbers p n ≡ not (hasNoRow (runRow setting none (detailsFrom details order p n)))
+    unfolding runRow
+    makes-run p zero h = any-nil makesFrom numbers p
     makes-run p (suc n) h =
-        rw (
+        any-more makesFrom numbers p n
+        ∙ rw (
           makes-run p n (λ j l. h j (omega arith)),
           h n (omega arith),
           held-is (next setting none (detailAt details (getD order (p + n) 0))),
           run-more none (detailsFrom details order p n) (detailAt details (getD order (p + n) 0)),
         )
         (sym (held-more (runRow setting none (detailsFrom details order p n)) (detailAt details (getD order (p + n) 0))))
+
+    -- the row after n details is that of the run over them
+    pub after-run : (batch : List ℕ) (p n : ℕ) (row : Option (List ℕ))
+        → ((j : ℕ) → j < n → recordIn batch numbers (p + j) ≡ detailAt details (getD order (p + j) 0))
+        → rowAfter setting batch numbers p n row ≡ runRow setting row (detailsFrom details order p n)
+    unfolding runRow
+    after-run batch p zero row h = after-none setting batch numbers p row
+    after-run batch p (suc n) row h =
+        after-more setting batch numbers p row n
+        ∙ rw (after-run batch p n row (λ j l. h j (omega arith)), h n (omega arith))
+        (sym (run-more row (detailsFrom details order p n) (detailAt details (getD order (p + n) 0))))

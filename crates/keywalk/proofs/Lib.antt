@@ -1,7 +1,6 @@
 pub mod KeyOrderLaws
 pub mod GroupLaws
 pub mod PassLaws
-pub mod NotedLaws
 pub mod StandLaws
 pub mod WalkLaws
 pub mod KeysLaws

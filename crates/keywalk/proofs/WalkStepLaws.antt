@@ -1,5 +1,5 @@
 -- The steps of the walk put together: what the work on one key leaves in the buffers. Assumes nothing.
-use Prim.Native.Nat.{ℕ, _+_, _-_, _*_, _≤_}
+use Prim.Native.Nat.{ℕ, _+_, _*_, _≤_}
 use mathlib.Core.Path.{_≡_, refl, sym, ap, _∙_, subst}
 use mathlib.Core.Bool.{Bool, true, false, not, cond, _&&_, false≢true, true≢false}
 use mathlib.Core.List.{List, _++_, append-nil}
@@ -12,14 +12,14 @@ use Rattle.text.specs.Fields.{sameBytes}
 use Rattle.casemaster.specs.Master.{rowsOf}
 use Rattle.casemaster.specs.Search.{AreBelow, RowPut, Pulled}
 use Rattle.text.proofs.FieldsLaws.{and-left}
-use Rattle.keyorder.specs.KeyWork.{recordIn, keyIn, Usable, IsKeyEnd, MarkedBy, UnderMarks, KeyRun, makesRow}
-use Rattle.keywalk.specs.Walking.{rowIn, isRowOf, oneOrNone, RowOfPut, AreMarked, Fixed, Stand, keyNow, hasRow, rowNow, KeyCounted, KeyWorked, KeyWalked, StaysBefore}
+use Rattle.keyorder.specs.Tagged.{keyIn}
+use Rattle.keyorder.specs.Runs.{IsRun, RunFound}
+use Rattle.keyorder.specs.declared.runs.Run.{Run}
+use Rattle.keywork.specs.Worked.{RunWorked}
+use Rattle.keywalk.specs.Walking.{rowIn, isRowOf, oneOrNone, RowOfPut, Fixed, Stand, keyNow, hasRow, rowNow, settingNow, runMakes, KeyCounted, KeyWorked, KeyWalked, StaysBefore}
 use Rattle.keywalk.specs.declared.counting.Count.{Count}
 use Rattle.text.proofs.BlocksLaws.{kept-further}
 use Rattle.judging.specs.State.{rowIf}
-use Rattle.judging.specs.Setting.{settingOf}
-use Rattle.judging.specs.Errors.{isGiven}
-use Rattle.turns.specs.Settings.{settingUnder}
 
 -- ---- a row written, or none
 
@@ -36,13 +36,11 @@ module _ (m : List ℕ) (p : ℕ) (row m′ : List ℕ) where
 -- ---- one key
 
 module _ (f : Fixed) (s : Stand) (stays : StaysBefore f s) (e passed : ℕ) (key m₁ : List ℕ)
-    (ke : IsKeyEnd (f .batch) (s .numbers) (s .position) (f .own) e) (ki : key ≡ keyNow f s)
+    (ke : IsRun (s .numbers) (s .position) (f .own) e) (ki : key ≡ keyNow f s)
     (ab : AreBelow (s .master) (s .from) (f .end) key passed) (pulled : Pulled (s .master) (s .from) (s .to) passed m₁)
     (held : Bool) (hi : held ≡ isRowOf m₁ (s .from + passed) (f .end) key)
     (start row : Option (List ℕ)) (si : start ≡ rowIf held (rowIn m₁ (s .from + passed))) (numbers′ : List ℕ)
-    (marked : AreMarked (f .settings .names) (f .batch) (f .own) (s .numbers))
-    (run : UnderMarks (f .batch) (s .numbers) (s .position) e (λ names.
-    KeyRun (settingOf (f .settings .state) (f .settings .year) (f .settings .list) names) (f .batch) (s .position) (e - s .position) start (s .numbers) row numbers′))
+    (run : RunWorked (settingNow f s e) (f .batch) (s .position) e start row (s .numbers) numbers′)
   where
     -- the rows to come are as before
     pub held-is : held ≡ hasRow f s passed
@@ -55,20 +53,12 @@ module _ (f : Fixed) (s : Stand) (stays : StaysBefore f s) (e passed : ℕ) (key
         si ∙ ap (λ (t : Bool). rowIf t (rowIn m₁ (s .from + passed))) held-is
         ∙ ap (λ (x : List ℕ). rowIf (hasRow f s passed) (take 200 x)) (pulled .rest-kept)
 
-    -- the marks of the key's details are by the names given under it
-    marked-here : MarkedBy (f .settings .names (keyNow f s)) (f .batch) (s .numbers) (s .position) e
-    marked-here q a b =
-        marked q (omega (arith, ke .within))
-        ∙ ap (λ (x : List ℕ). isGiven (f .settings .names x) (recordIn (f .batch) (s .numbers) q)) (ke .same q a b)
-
     pub key-worked : KeyWorked f s e passed row numbers′
     key-worked =
         record {
           ended = ke;
           below = subst (λ (x : List ℕ). AreBelow (s .master) (s .from) (f .end) x passed) ki ab;
-          run =
-              subst (λ (x : Option (List ℕ)). KeyRun (settingUnder (f .settings) (keyNow f s)) (f .batch) (s .position) (e - s .position) x (s .numbers) row numbers′)
-              start-is (run (f .settings .names (keyNow f s)) marked-here);
+          run = subst (λ (x : Option (List ℕ)). RunWorked (settingNow f s e) (f .batch) (s .position) e x row (s .numbers) numbers′) start-is run;
         }
 
     pub stays-before : s .to + length (oneOrNone row) ≤ s .from + cond held 1 0
@@ -103,36 +93,35 @@ module _ (f : Fixed) (s : Stand) (stays : StaysBefore f s) (e passed : ℕ) (key
               ∙ kept-further m₁ (s .master) ((s .from + passed) * 200) ((s .from + passed + one) * 200) (omega arith) (pulled .rest-kept);
         }
 
--- ---- some of the numbers
-
-pub usable-less : (batch numbers : List ℕ) (own e : ℕ) → e ≤ own → Usable batch numbers own → Usable batch numbers e
-usable-less batch numbers own e l u =
-    record {
-      within = omega (arith, u .within);
-      numbered = λ q b. u .numbered q (omega arith);
-      recorded = λ q b. u .recorded q (omega arith);
-    }
-
 -- ---- one key counted
 
-module _ (f : Fixed) (m numbers : List ℕ) (s : Count) where
-  pub key-counted : (e passed : ℕ) (key : List ℕ) → IsKeyEnd (f .batch) numbers (s .position) (f .own) e
-      → key ≡ keyIn (f .batch) numbers (s .position) → AreBelow m (s .from) (f .end) key passed → (one : ℕ)
-      → ((names : List (List ℕ)) → one
-      ≡ cond (not (isRowOf m (s .from + passed) (f .end) key)
-      && makesRow (settingOf (f .settings .state) (f .settings .year) (f .settings .list) names) (f .batch) numbers (s .position) (e - s .position)) 1 0)
-      → KeyCounted f m numbers s (record { position = e; from = s .from + passed; new = s .new + one })
-  key-counted e passed key ke ki ab one oi =
+module _ (batch : List ℕ) (own end : ℕ) (m numbers : List ℕ) (s : Count) (r : Run) (found : RunFound numbers (s .position) own r) where
+  -- none of its details makes a row
+  pub counted-idle : r .makes ≡ false → KeyCounted batch own end m numbers s (record { position = r .end; from = s .from; new = s .new })
+  counted-idle e =
+      let x : runMakes numbers (s .position) (r .end) ≡ false = sym (found .makes-is) ∙ e in
+      record {
+        passed = 0;
+        ended = found .run;
+        below = λ t. absurd (false≢true (sym x ∙ t));
+        idle = λ t. refl;
+        from-is = omega arith;
+        new-is = rw x (omega arith);
+      }
+
+  -- one of them does
+  pub counted-new : r .makes ≡ true → (key : List ℕ) (passed one : ℕ) → key ≡ keyIn batch numbers (s .position) → AreBelow m (s .from) end key passed
+      → one ≡ cond (not (isRowOf m (s .from + passed) end key)) 1 0
+      → KeyCounted batch own end m numbers s (record { position = r .end; from = s .from + passed; new = s .new + one })
+  counted-new e key passed one ki ab oi =
+      let x : runMakes numbers (s .position) (r .end) ≡ true = sym (found .makes-is) ∙ e in
       record {
         passed = passed;
-        ended = ke;
-        below = subst (λ (x : List ℕ). AreBelow m (s .from) (f .end) x passed) ki ab;
+        ended = found .run;
+        below = λ t. subst (λ (k : List ℕ). AreBelow m (s .from) end k passed) ki ab;
+        idle = λ t. absurd (false≢true (sym t ∙ x));
         from-is = refl;
-        new-is =
-            ap (λ (x : ℕ). s .new + x)
-            (oi (f .settings .names (keyIn (f .batch) numbers (s .position)))
-            ∙ ap (λ (x : List ℕ). cond (not (isRowOf m (s .from + passed) (f .end) x)
-            && makesRow (settingUnder (f .settings) (keyIn (f .batch) numbers (s .position))) (f .batch) numbers (s .position) (e - s .position)) 1 0) ki);
+        new-is = rw x (ap (λ (n : ℕ). s .new + n) (oi ∙ ap (λ (k : List ℕ). cond (not (isRowOf m (s .from + passed) end k)) 1 0) ki));
       }
 
 -- a row that has a key is there

@@ -13,27 +13,24 @@ use Rattle.text.specs.Blocks.{blocks}
 use Rattle.casemaster.specs.Row.{rowKey}
 use Rattle.casemaster.specs.Rows.{rowWith, withStored}
 use Rattle.casemaster.specs.Master.{rowsOf, keysOf}
-use Rattle.text.proofs.BlocksLaws.{length-blocks, blocks-get, blocks-split, kept-further}
+use Rattle.text.proofs.BlocksLaws.{length-blocks, blocks-split, kept-further}
 use Rattle.text.proofs.FieldsLaws.{and-left}
 use Rattle.onecase.specs.Verdict.{judgement, noJudgement}
-use Rattle.keyorder.specs.Order.{detailAt, isMarked}
-use Rattle.keyorder.specs.KeyWork.{recordIn, SameSlots, KeyRun}
-use Rattle.layout.specs.Batch.{recordAt}
-use Rattle.layout.specs.Record.{recordKey}
-use Rattle.judging.specs.Setting.{Setting}
-use Rattle.judging.specs.Errors.{isGiven}
+use Rattle.keyorder.specs.Order.{detailAt}
+use Rattle.keyorder.specs.Runs.{IsRun, SortedFrom}
+use Rattle.keywork.specs.Packed.{Packed}
+use Rattle.keywork.specs.Worked.{rowAfter, RunWorked}
+use Rattle.judging.specs.Setting.{Setting, settingOf}
 use Rattle.turns.specs.Turns.{finalRows}
 use Rattle.keywalk.specs.Walk.{distinct, keyRow, workedKeys}
 use Rattle.text.proofs.WidthLaws.{blocks-wide}
 use Rattle.keywalk.proofs.KeyOrderLaws.{verdict-under}
-use Rattle.keywalk.specs.Walking.{isRowOf, rowOfKey, rowsFrom, oneOrNone, HasVerdict, OrderReady, AreMarked, Fixed, Stand, keyNow, hasRow, rowNow, verdictAt, KeyWorked, KeyWalked, WalkReady, Walked}
-use Rattle.keyorder.proofs.KeyWorkLaws.{run-slots}
-use Rattle.keywalk.proofs.GroupLaws.{detailsFrom, IsStart, Group}
+use Rattle.keywalk.specs.Walking.{isRowOf, rowOfKey, rowsFrom, oneOrNone, OrderReady, Fixed, Stand, keyNow, hasRow, rowNow, settingNow, verdictAt, KeyWorked, KeyWalked, WalkReady, Walked}
+use Rattle.keywalk.proofs.GroupLaws.{detailsFrom, IsStart, Group, after-run}
 use Rattle.keywalk.proofs.KeysLaws as Keys
-use Rattle.keywalk.proofs.KeysLaws.{SameIndexes, indexes-self}
+use Rattle.keywalk.proofs.KeysLaws.{SameFrom, same-self}
 use Rattle.keywalk.proofs.PassLaws.{AllBelow, FirstNotBelow, isKeyOf, firstOf, behindKey, below-append, below-more, parted-find, parted-stored}
 use Rattle.keywalk.proofs.StandLaws.{from-split, below-pass, none-back, first-is, behind-is}
-use Rattle.keywalk.proofs.NotedLaws.{Holding, RunResult, run-result, run-kept, moved}
 use Rattle.keywalk.proofs.WalkLaws.{worked-low, worked-length, worked-final, worked-fit, worked-other, keyRow-key, length-own, run-stays}
 use Rattle.turns.specs.Under.{detailsUnder, runRow}
 use Rattle.turns.specs.Settings.{settingUnder}
@@ -41,7 +38,7 @@ use Rattle.casemaster.proofs.RowsLaws.{Fit, rows-rise}
 use Rattle.text.specs.ByteOrder.{orderOf, isLess, rising}
 
 module _ (f : Fixed) (s₀ : Stand) (w : WalkReady f s₀) where
-  abbrev o : OrderReady (f .settings .state) (f .batch) (f .count) (f .own) (s₀ .numbers)
+  abbrev o : OrderReady (f .settings .state) (f .settings .year) (f .settings .list) (f .batch) (f .count) (f .own) (s₀ .numbers)
   o = w .ordered
 
   abbrev details : List (List ℕ)
@@ -79,7 +76,7 @@ module _ (f : Fixed) (s₀ : Stand) (w : WalkReady f s₀) where
 
   final-is : workedKeys (f .settings) details (distinct keys) rows₀ ≡ finalRows (f .settings) rows₀ details
   final-is =
-      worked-final (f .settings) (o .in-order) (f .own) (Keys.own-order o) (o .own-low) (Keys.high o) rows₀ (w .listed) (Keys.records o) (fit₀ .wide) (fit₀ .sound)
+      worked-final (f .settings) (o .in-order) (f .own) (Keys.own-order o) (Keys.low o) (Keys.high o) rows₀ (w .listed) (Keys.records o) (fit₀ .wide) (fit₀ .sound)
 
   final-length : length (finalRows (f .settings) rows₀ details) ≡ f .end
   final-length =
@@ -96,14 +93,12 @@ module _ (f : Fixed) (s₀ : Stand) (w : WalkReady f s₀) where
     pub within : s .from ≤ f .end
     pub len : length (s .master) ≡ length (s₀ .master)
     pub rows-kept : drop (f .end * 200) (s .master) ≡ drop (f .end * 200) (s₀ .master)
-    pub numbers-kept : drop (f .count) (s .numbers) ≡ drop (f .count) (s₀ .numbers)
-    pub same : SameIndexes (s₀ .numbers) (s .numbers)
-    pub marks : (q : ℕ) → isMarked (getD (s .numbers) q 0) ≡ isMarked (getD (s₀ .numbers) q 0)
+    pub same : SameFrom (s .position) (s₀ .numbers) (s .numbers)
     pub fit : Fit (rowsAt s)
     pub whole : workedKeys (f .settings) details (distinct (drop (s .position) keys)) (rowsAt s) ≡ finalRows (f .settings) rows₀ details
     pub untouched : (q : ℕ) → s .position ≤ q → q < f .own → rowWith (key q) (rowsAt s) ≡ rowWith (key q) rows₀
     pub below : (q : ℕ) → s .position ≤ q → q < f .own → AllBelow (key q) (rowsOf (s .to) (s .master))
-    pub noted : (q : ℕ) → q < s .position → HasVerdict (s .numbers) (at q) (verdictAt f s₀ q)
+    pub noted : (q : ℕ) → q < s .position → Packed (getD (s .numbers) q 0) (at q) (verdictAt f s₀ q)
 
   pub walking-start : s₀ .position ≡ 0 → s₀ .to ≡ 0 → Walking s₀
   unfolding blocks
@@ -115,9 +110,7 @@ module _ (f : Fixed) (s₀ : Stand) (w : WalkReady f s₀) where
         within = w .within;
         len = refl;
         rows-kept = refl;
-        numbers-kept = refl;
-        same = indexes-self (s₀ .numbers);
-        marks = λ q. refl;
+        same = same-self (s₀ .position) (s₀ .numbers);
         fit = rw te fit₀;
         whole = rw (pe, te) final-is;
         untouched = λ q a b. rw te;
@@ -125,11 +118,10 @@ module _ (f : Fixed) (s₀ : Stand) (w : WalkReady f s₀) where
         noted = λ q l. absurd (omega (arith, pe));
       }
 
-  -- the marks say at each place what they said at the start
-  pub walking-marked : (s : Stand) → Walking s → AreMarked (f .settings .names) (f .batch) (f .own) (s .numbers)
-  walking-marked s g q l =
-      let r : recordIn (f .batch) (s .numbers) q ≡ recordIn (f .batch) (s₀ .numbers) q = ap (recordAt (f .batch)) (g .same .indexes q) in
-      g .marks q ∙ w .marked q l ∙ ap (λ (x : List ℕ). isGiven (f .settings .names (recordKey x)) x) (sym r)
+  -- the numbers to come are as they were sorted
+  pub walking-sorted : (s : Stand) → Walking s
+      → SortedFrom (f .settings .state) (f .settings .year) (f .settings .list) (f .batch) (s .numbers) (s .position) (f .own)
+  walking-sorted s g = Keys.sorted-from o (g .same)
 
   -- ---- one key
 
@@ -148,14 +140,20 @@ module _ (f : Fixed) (s₀ : Stand) (w : WalkReady f s₀) where
       abbrev k : List ℕ
       k = key p
 
+      in-count : p < f .count
+      in-count = omega (arith, Keys.own-in o)
+
       key-is : keyNow f s ≡ k
-      key-is = Keys.in-key o (g .same) p l
+      key-is = Keys.in-key o (g .same) p (omega arith) in-count
+
+      ended : IsRun (s₀ .numbers) p (f .own) e
+      ended = Keys.run-same o (g .same) (kw .ended)
 
       group : Group details order (f .own) p e
-      group = Keys.group o (g .same) l (kw .ended) (g .start l)
+      group = Keys.group o l ended (g .start l)
 
       later-above : (q : ℕ) → e ≤ q → q < f .own → isLess (orderOf k (key q)) ≡ true
-      later-above = Keys.later-above o (g .same) l (kw .ended) (g .start l)
+      later-above = Keys.later-above o l ended (g .start l)
 
       abbrev pass : List (List ℕ)
       pass = rowsOf passed (drop (s .from * 200) m)
@@ -196,32 +194,28 @@ module _ (f : Fixed) (s₀ : Stand) (w : WalkReady f s₀) where
           ∙ sym (parted-find k front back front-below back-none rise)
           ∙ ap (rowWith k) (sym here-is)
 
-      -- a position of the key's is one of the first details
-      inside : (q : ℕ) → q < p + (e - p) → q < f .count
-      inside q b = omega (arith, kw .ended .within, o .own-in, kw .ended .later)
-
       abbrev setting : Setting
       setting = settingUnder (f .settings) k
 
+      -- the names that its details give are those given under it
+      setting-is : settingNow f s e ≡ setting
+      setting-is =
+          ap (settingOf (f .settings .state) (f .settings .year) (f .settings .list)) (Keys.names-are o l ended (g .start l) (g .same) ∙ sym (w .given k))
+
       -- the key's details worked under its setting
-      run-here : KeyRun setting (f .batch) p (e - p) (rowNow f s passed) (s .numbers) row numbers′
-      run-here =
-          subst (λ (x : List ℕ). KeyRun (settingUnder (f .settings) x) (f .batch) p (e - p) (rowNow f s passed) (s .numbers) row numbers′) key-is (kw .run)
+      run-here : RunWorked setting (f .batch) p e (rowNow f s passed) row (s .numbers) numbers′
+      run-here = subst (λ (x : Setting). RunWorked x (f .batch) p e (rowNow f s passed) row (s .numbers) numbers′) setting-is (kw .run)
 
-      holding : Holding setting (f .batch) details order p (p + (e - p)) (s .numbers)
-      holding =
-          record {
-            index-is = λ q a b. Keys.index-is o (g .same) q (inside q b);
-            there = λ q a b. omega (arith, Keys.at-inside o q (inside q b), g .same .len, o .numbered);
-            detail-is = λ q a b. sym (blocks-get 245 (f .count) (f .batch) (at q) (Keys.at-inside o q (inside q b)));
-            apart = λ q r a b c. Keys.apart o q r b (inside r c);
-          }
-
-      ran : RunResult setting (f .batch) details order p (e - p) (rowNow f s passed) (s .numbers) row numbers′
-      ran = run-result setting (f .batch) details order p (e - p) (rowNow f s passed) (s .numbers) row numbers′ holding run-here
+      -- the row after some of them
+      after-is : (n : ℕ) → p + n ≤ e → rowAfter setting (f .batch) (s .numbers) p n (rowNow f s passed) ≡ runRow setting (rowNow f s passed) (detailsFrom details order p n)
+      after-is n b =
+          after-run setting (s .numbers) details order (f .batch) p n (rowNow f s passed)
+          (λ j c. Keys.record-is o (g .same) (p + j) (omega arith) (omega (arith, kw .ended .within, Keys.own-in o)))
 
       row-is : row ≡ keyRow (f .settings) details k here
-      row-is = ran .row-is ∙ rw (start-is, Keys.all-under o (g .same) l (kw .ended) (g .start l))
+      row-is =
+          run-here .row-is ∙ after-is (e - p) (omega (arith, kw .ended .later))
+          ∙ rw (start-is, Keys.all-under o l ended (g .start l))
 
       -- where the machine leaves no row there was none
       none-there : row ≡ none → isKeyOf k back ≡ false
@@ -258,7 +252,7 @@ module _ (f : Fixed) (s₀ : Stand) (w : WalkReady f s₀) where
       whole-next : workedKeys (f .settings) details (distinct (drop e keys)) (front ++ (oneOrNone row ++ rest)) ≡ finalRows (f .settings) rows₀ details
       unfolding workedKeys
       whole-next =
-          let a : workedKeys (f .settings) details (k ∷ distinct (drop e keys)) here ≡ finalRows (f .settings) rows₀ details = rw (Keys.keys-next o (g .same) l (kw .ended) (g .start l)) at (g .whole) in
+          let a : workedKeys (f .settings) details (k ∷ distinct (drop e keys)) here ≡ finalRows (f .settings) rows₀ details = rw (Keys.keys-next o l ended (g .start l)) at (g .whole) in
           subst (λ (x : List (List ℕ)). workedKeys (f .settings) details (distinct (drop e keys)) x ≡ finalRows (f .settings) rows₀ details) stored-is a
 
       fit-next : Fit (front ++ (oneOrNone row ++ rest))
@@ -317,35 +311,30 @@ module _ (f : Fixed) (s₀ : Stand) (w : WalkReady f s₀) where
               (rw r (later-above q a b), tt)
 
       -- the verdicts on the key's details
-      noted-now : (j : ℕ) → j < e - p → HasVerdict numbers′ (at (p + j)) (verdictAt f s₀ (p + j))
-      noted-now j b =
-          let kq : key (p + j) ≡ k = group .same (p + j) (omega arith) (omega arith) in
-          let v = verdict-under (f .settings) rows₀ details (at (p + j)) noJudgement (rw (Keys.count-details o) (Keys.at-inside o (p + j) (inside (p + j) (omega arith)))) (Keys.records o) (fit₀ .wide) in
-          let u : detailsUnder k (take (at (p + j)) details) ≡ detailsFrom details order p j =
-          Keys.some-under o (g .same) l (kw .ended) (g .start l) j b in
+      noted-now : (q : ℕ) → p ≤ q → q < e → Packed (getD numbers′ q 0) (at q) (verdictAt f s₀ q)
+      noted-now q a b =
+          let c : q < f .count = omega (arith, kw .ended .within, Keys.own-in o) in
+          let z : p + (q - p) ≡ q = omega arith in
+          let kq : key q ≡ k = group .same q a b in
+          let v = verdict-under (f .settings) rows₀ details (at q) noJudgement (rw (Keys.count-details o) (Keys.at-inside o q c)) (Keys.records o) (fit₀ .wide) in
+          let u : detailsUnder k (take (at q) details) ≡ detailsFrom details order p (q - p) =
+          rw z at (Keys.some-under o l ended (g .start l) (q - p) (omega arith)) in
           let n : rowNow f s passed ≡ rowWith k rows₀ = start-is ∙ g .untouched p (omega arith) l in
-          let x : verdictAt f s₀ (p + j)
-          ≡ judgement setting (runRow setting (rowNow f s passed) (detailsFrom details order p j)) (detailAt details (at (p + j))) =
+          let x : verdictAt f s₀ q ≡ judgement setting (runRow setting (rowNow f s passed) (detailsFrom details order p (q - p))) (detailAt details (at q)) =
           v ∙ rw (kq, u, n) in
-          subst (HasVerdict numbers′ (at (p + j))) (sym x) (ran .notes j b)
+          rw x (rw (after-is (q - p) (omega arith), Keys.record-is o (g .same) q a c, Keys.index-is o (g .same) q a c) at (run-here .packed q a b))
 
-      noted-next : (q : ℕ) → q < e → HasVerdict numbers′ (at q) (verdictAt f s₀ q)
+      noted-next : (q : ℕ) → q < e → Packed (getD numbers′ q 0) (at q) (verdictAt f s₀ q)
       noted-next q b = go (ltb q p) refl
         where
-          go : (t : Bool) → ltb q p ≡ t → HasVerdict numbers′ (at q) (verdictAt f s₀ q)
-          go true t =
-              let a = ltb-true q p t in
-              moved setting (f .batch) details order (s .numbers) numbers′ (at q) _
-              (ran .others (at q) (λ j c e. Keys.apart o q (p + j) (omega (arith, a)) (omega (arith, kw .ended .within, o .own-in)) e)) (g .noted q a)
-          go false t =
-              let a = ltb-false q p t in
-              let n : p + (q - p) ≡ q = omega (arith, a) in
-              subst (λ (x : ℕ). HasVerdict numbers′ (at x) (verdictAt f s₀ x)) n (noted-now (q - p) (omega (arith, a)))
+          go : (t : Bool) → ltb q p ≡ t → Packed (getD numbers′ q 0) (at q) (verdictAt f s₀ q)
+          go true t = let a = ltb-true q p t in rw (run-here .kept q (inl a)) (g .noted q a)
+          go false t = noted-now q (ltb-false q p t) b
 
       untouched-next : (q : ℕ) → e ≤ q → q < f .own → rowWith (key q) (front ++ (oneOrNone row ++ rest)) ≡ rowWith (key q) rows₀
       untouched-next q a b =
           ap (rowWith (key q)) (sym stored-is)
-          ∙ worked-other (f .settings) details (Keys.records o) k here (g .fit .wide) (key q) (Keys.other-key o (g .same) l (kw .ended) (g .start l) q a b)
+          ∙ worked-other (f .settings) details (Keys.records o) k here (g .fit .wide) (key q) (Keys.other-key o l ended (g .start l) q a b)
           ∙ g .untouched q (omega (arith, kw .ended .later)) b
 
     module _ (s′ : Stand) (k : KeyWalked f s s′) (len : length (s′ .master) ≡ length (s .master)) where
@@ -365,40 +354,29 @@ module _ (f : Fixed) (s₀ : Stand) (w : WalkReady f s₀) where
           ∙ rest-from e (k .passed) (k .row) (s′ .numbers) (k .worked) in
           rw (k .rows-are, a) (append-assoc new (oneOrNone (k .row)) (rest e (k .passed) (k .row) (s′ .numbers) (k .worked)))
 
-      slots : SameSlots (s .numbers) (s′ .numbers)
-      slots = run-slots (settingUnder (f .settings) (keyNow f s)) (f .batch) (s .position) (e - s .position) _ (s .numbers) (k .row) (s′ .numbers) (k .worked .run)
-
       pub walking-next : Walking s′
       walking-next =
           let r = walking-room e (k .passed) (k .row) (s′ .numbers) (k .worked) in
           let i = held-in e (k .passed) (k .row) (s′ .numbers) (k .worked) in
           record {
             position = k .worked .ended .within;
-            start = Keys.start-next o (g .same) l (k .worked .ended) (g .start l);
+            start = Keys.start-next o l (ended e (k .passed) (k .row) (s′ .numbers) (k .worked)) (g .start l);
             low = omega (arith, r, k .from-is, k .to-is);
             within = omega (arith, k .from-is, i);
             len = len ∙ g .len;
             rows-kept = kept-further (s′ .master) (s .master) (s′ .from * 200) (f .end * 200) (omega (arith, k .from-is, i)) (k .rest-kept) ∙ g .rows-kept;
-            numbers-kept =
-                run-kept (settingUnder (f .settings) (keyNow f s)) (f .batch) details order (f .count) (s .position) (e - s .position) _ (s .numbers) (k .row) (s′ .numbers)
-                (λ q a b.
-                rw (Keys.index-is o (g .same) q (inside e (k .passed) (k .row) (s′ .numbers) (k .worked) q b))
-                (Keys.at-inside o q (inside e (k .passed) (k .row) (s′ .numbers) (k .worked) q b)))
-                (k .worked .run)
-                ∙ g .numbers-kept;
             same =
                 record {
-                  len = slots .len ∙ g .same .len;
-                  indexes = λ q. slots .indexes q ∙ g .same .indexes q;
+                  len = k .worked .run .width ∙ g .same .len;
+                  same = λ q a. k .worked .run .kept q (inr a) ∙ g .same .same q (omega (arith, k .worked .ended .later));
                 };
-            marks = λ q. slots .marks q ∙ g .marks q;
             fit = rw stands (fit-next e (k .passed) (k .row) (s′ .numbers) (k .worked));
             whole = rw stands (whole-next e (k .passed) (k .row) (s′ .numbers) (k .worked));
             untouched = λ q a b. rw stands (untouched-next e (k .passed) (k .row) (s′ .numbers) (k .worked) q a b);
             below = λ q a b.
                 rw (k .rows-are)
                 (below-append (key q) new (oneOrNone (k .row))
-                (below-more (key (s .position)) (key q) new (Keys.later-above o (g .same) l (k .worked .ended) (g .start l) q a b)
+                (below-more (key (s .position)) (key q) new (later-above e (k .passed) (k .row) (s′ .numbers) (k .worked) q a b)
                 (front-below e (k .passed) (k .row) (s′ .numbers) (k .worked)))
                 (row-below e (k .passed) (k .row) (s′ .numbers) (k .worked) q a b));
             noted = noted-next e (k .passed) (k .row) (s′ .numbers) (k .worked);
@@ -435,7 +413,7 @@ module _ (f : Fixed) (s₀ : Stand) (w : WalkReady f s₀) where
             ap (λ (z : ℕ). rowsOf z (s .master)) (sym y) ∙ blocks-split 200 (s .to) (f .end - s .to) (s .master)
             ∙ ap (λ (z : ℕ). rowsOf (s .to) (s .master) ++ rowsFrom z (f .end) (s .master)) (sym x) ∙ all;
         rows-kept = g .rows-kept;
-        indexes = g .same .indexes;
         verdicts = λ q b. g .noted q (omega (arith, e));
-        numbers-kept = g .numbers-kept;
+        behind = λ q b. g .same .same q (omega (arith, e));
+        width = g .same .len;
       }

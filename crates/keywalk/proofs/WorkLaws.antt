@@ -4,38 +4,41 @@ use Prim.Native.Nat.{ℕ, zero, suc, _+_, _-_, _*_, _≤_, _<_}
 use mathlib.Core.Path.{_≡_, refl, sym, ap, _∙_, subst}
 use mathlib.Core.Bool.{Bool, true, false}
 use mathlib.Core.List.{List, [], _∷_}
+use mathlib.Core.Logic.{inl, inr}
 use mathlib.Core.Option.{Option, none, some}
 use native.Mathlib.Omega.{arith}
 use borrow.Author.Tests.{ltb-true, ltb-false}
 use lib.Dec.{ltb}
-use lib.ListN.{length, take, drop, getD}
+use lib.ListN.{length, take, drop, getD, length-drop}
+use lib.Seq.{getD-drop, ext-getD}
 use Rattle.text.specs.Blocks.{blocks}
 use Rattle.casemaster.specs.Rows.{rowWith}
 use Rattle.layout.specs.Locals.{isLocalList}
-use Rattle.casemaster.specs.Master.{rowsOf, areSoundRows}
-use Rattle.text.proofs.BlocksLaws.{blocks-get}
+use Rattle.casemaster.specs.Master.{areSoundRows}
+use Rattle.text.proofs.BlocksLaws.{length-blocks, blocks-get}
 use Rattle.layout.specs.Record.{recordKey}
 use Rattle.onecase.specs.Verdict.{Judgement, judgement, noJudgement}
 use Rattle.onecase.proofs.MachineLaws.{Good}
-use Rattle.keyorder.specs.Order.{detailAt, Ordered}
-use Rattle.keyorder.specs.Packed.{SoundOrNone, IsJudged}
-use Rattle.keyorder.specs.KeyWork.{JudgedRun}
+use Rattle.keyorder.specs.Order.{detailAt}
+use Rattle.keyorder.specs.Tagged.{indexPart, indexParts, TaggedOrder}
+use Rattle.keyorder.specs.Runs.{IsOwnEnd}
+use Rattle.keyorder.proofs.TaggedLaws.{tag-at, tagged-known}
 use Rattle.keyorder.proofs.RankLaws.{own-below}
+use Rattle.keywork.specs.Packed.{placeIn, Packed, SoundOrNone, IsJudged, HoldsVerdicts}
+use Rattle.keywork.specs.Worked.{AllPlaces, PutBack, UnderAlone, AloneWorked}
 use Rattle.turns.specs.Turns.{afterDetail, verdictOn, finalRows, verdictsOn}
 use Rattle.keywalk.specs.Walk.{distinct, newKeys}
-use Rattle.text.proofs.WidthLaws.{All, blocks-wide}
+use Rattle.text.proofs.WidthLaws.{All}
 use Rattle.turns.proofs.UnderLaws.{IsRecord, final-fit, length-verdicts}
 use Rattle.turns.proofs.TurnsLaws.{found-good, after-wide, after-sound, room-after}
 use Rattle.keywalk.proofs.KeyOrderLaws.{keyAt, verdict-at}
-use Rattle.keywalk.specs.Walking.{HasVerdict, OrderReady, HoldsVerdicts, Fixed, newOwnKeys}
+use Rattle.keywalk.specs.Walking.{OrderReady, AreThere}
 use Rattle.keywalk.proofs.KeysLaws as Keys
-use Rattle.keywalk.proofs.KeysLaws.{SameIndexes}
-use Rattle.keywalk.proofs.NotedLaws.{Holding, JudgedResult, judged-result, judged-kept, moved}
+use Rattle.keywalk.proofs.KeysLaws.{SameFrom, same-self}
 use Rattle.keywalk.proofs.WalkLaws.{worked-length, worked-final}
-use Rattle.turns.specs.Adds.{addsWithoutRow, hasAdd}
-use Rattle.turns.proofs.AddLaws.{no-add-new}
+use Rattle.turns.specs.Adds.{addsWithoutRow}
 use Rattle.casemaster.proofs.RowsLaws.{IsWide, Fit}
-use Rattle.judging.specs.Setting.{Setting, settingOf}
+use Rattle.judging.specs.Setting.{settingOf}
 use Rattle.turns.specs.Settings.{Settings, settingUnder}
 use Rattle.layout.specs.Key.{isOwnKey}
 use Rattle.onecase.proofs.JudgementLaws.{judged-alone}
@@ -55,21 +58,31 @@ final-few settings l rows (d ∷ details) a w s =
 
 -- ---- the details in key order
 
-module _ (state batch : List ℕ) (d : ℕ) (numbers₀ numbers : List ℕ) (own : ℕ) (r : d * 245 ≤ length batch) (n : d ≤ length numbers₀)
-    (x : Ordered state (blocks 245 d batch) d numbers₀ numbers own) where
-  pub order-ready : OrderReady state batch d own numbers
+module _ (state : List ℕ) (year : ℕ) (list batch : List ℕ) (d : ℕ) (numbers₀ numbers : List ℕ) (own : ℕ) (r : d * 245 ≤ length batch) (n : d ≤ length numbers₀)
+    (x : TaggedOrder state year list (blocks 245 d batch) d numbers₀ numbers) (w : IsOwnEnd d numbers own) where
+  pub order-ready : OrderReady state year list batch d own numbers
   order-ready =
       record {
         recorded = r;
         numbered = omega (arith, x .width, n);
-        own-in = x .own-in;
         in-order = x .in-order;
-        own-low = x .own-low;
-        own-high = x .own-high;
+        tags = λ q l.
+            let c : length (indexParts d numbers) ≡ length (blocks 245 d batch) = x .in-order .count in
+            let m = length-blocks 245 d batch in
+            let i : indexPart (getD numbers q 0) < d =
+            rw (← tag-at d numbers q l) (omega (arith, x .in-order .inside q (omega (arith, c, m)), m)) in
+            rw (← blocks-get 245 d batch (indexPart (getD numbers q 0)) i) (x .tags q l);
+        own-end = w;
       }
 
+-- the records of own keys are there
+pub own-there : {state : List ℕ} {year : ℕ} {list batch : List ℕ} {d own : ℕ} {numbers : List ℕ} → OrderReady state year list batch d own numbers → AreThere batch numbers own
+own-there {own = own} {numbers = numbers} o =
+    let s = Keys.sorted-from o (same-self 0 numbers) in
+    record { within = s .within; there = λ q l. s .there q (omega arith) l }
+
 module _ (settings : Settings) {batch : List ℕ} {d own : ℕ} {rows : List (List ℕ)} {numbers : List ℕ}
-    (o : OrderReady (settings .state) batch d own numbers) (fit : Fit rows) (listed : isLocalList (settings .list) ≡ true) where
+    (o : OrderReady (settings .state) (settings .year) (settings .list) batch d own numbers) (fit : Fit rows) (listed : isLocalList (settings .list) ≡ true) where
   abbrev details : List (List ℕ)
   details = Keys.details o
 
@@ -89,7 +102,7 @@ module _ (settings : Settings) {batch : List ℕ} {d own : ℕ} {rows : List (Li
   pub new-final : length rows + newKeys settings details (distinct keys) rows ≡ length (finalRows settings rows details)
   new-final =
       sym (worked-length settings details (Keys.records o) listed (distinct keys) rows (Keys.rises o 0) (fit .wide) (fit .sound))
-      ∙ ap length (worked-final settings (o .in-order) own (Keys.own-order o) (o .own-low) (Keys.high o) rows listed (Keys.records o) (fit .wide) (fit .sound))
+      ∙ ap length (worked-final settings (o .in-order) own (Keys.own-order o) (Keys.low o) (Keys.high o) rows listed (Keys.records o) (fit .wide) (fit .sound))
 
   pub new-few : newKeys settings details (distinct keys) rows ≤ addsWithoutRow rows details
   new-few = omega (arith, new-final, final-few settings listed rows details (Keys.records o) (fit .wide) (fit .sound))
@@ -125,81 +138,87 @@ module _ (settings : Settings) {batch : List ℕ} {d own : ℕ} {rows : List (Li
       sound none g = tt
       sound (some row) g = (g .wide, g .sound)
 
-  module _ {numbers₁ : List ℕ} (numbers₂ : List ℕ) (si : SameIndexes numbers numbers₁)
-      (walked : (q : ℕ) → q < own → HasVerdict numbers₁ (at q) (getD verdicts (at q) noJudgement))
-      (judged : (names : List (List ℕ))
-      → JudgedRun (settingOf (settings .state) (settings .year) (settings .list) names) batch own (d - own) numbers₁ numbers₂) where
-    -- the settings of the detail at a position of the key order
-    abbrev setting : ℕ → Setting
-    setting q = settingUnder settings (keyAt details (at q))
+  -- a detail whose key isn't an own one goes by no row
+  alone : (q : ℕ) → own ≤ q → q < d
+      → getD verdicts (at q) noJudgement ≡ judgement (settingUnder settings (keyAt details (at q))) none (detailAt details (at q))
+  alone q a b =
+      let l : at q < d = Keys.at-inside o q b in
+      let ll : at q < length details = rw (Keys.count-details o) l in
+      verdict-at settings rows details (at q) noJudgement ll
+      ∙ opened (finalRows settings rows (take (at q) details)) (detailAt details (at q))
+      ∙ judged-alone (settingUnder settings (keyAt details (at q))) (detailAt details (at q)) (wide (at q) details (Keys.records o) ll)
+      (go (isOwnKey (settings .state) (keyAt details (at q))) refl)
+      (rowWith (recordKey (detailAt details (at q))) (finalRows settings rows (take (at q) details)))
+    where
+      wide : (i : ℕ) (ds : List (List ℕ)) → All IsRecord ds → i < length ds → length (detailAt ds i) ≡ 245
+      wide i [] h l = absurd (omega arith)
+      wide zero (x ∷ ds) h l = h .0
+      wide (suc i) (x ∷ ds) h l = wide i ds (h .1) (omega arith)
 
-    holding : (s : Setting) → Holding s batch details order own (own + (d - own)) numbers₁
-    holding s =
-        record {
-          index-is = λ q a b. Keys.index-is o si q (omega (arith, o .own-in));
-          there = λ q a b. omega (arith, Keys.at-inside o q (omega (arith, o .own-in)), si .len, o .numbered);
-          detail-is = λ q a b. sym (blocks-get 245 d batch (at q) (Keys.at-inside o q (omega (arith, o .own-in))));
-          apart = λ q r a b c. Keys.apart o q r b (omega (arith, o .own-in));
-        }
+      go : (t : Bool) → isOwnKey (settings .state) (keyAt details (at q)) ≡ t → t ≡ false
+      go false t = refl
+      go true t = absurd (omega (arith, own-below (settings .state) (keyAt details (at q)) t, Keys.high o q a (rw (Keys.count-order o) b)))
 
-    -- a detail whose key isn't an own one goes by no row
-    alone : (q : ℕ) → own ≤ q → q < d → getD verdicts (at q) noJudgement ≡ judgement (setting q) none (detailAt details (at q))
-    alone q a b =
-        let l : at q < d = Keys.at-inside o q b in
-        let ll : at q < length details = rw (Keys.count-details o) l in
-        verdict-at settings rows details (at q) noJudgement ll
-        ∙ opened (finalRows settings rows (take (at q) details)) (detailAt details (at q))
-        ∙ judged-alone (setting q) (detailAt details (at q)) (wide (at q) details (Keys.records o) ll)
-        (go (isOwnKey (settings .state) (keyAt details (at q))) refl)
-        (rowWith (recordKey (detailAt details (at q))) (finalRows settings rows (take (at q) details)))
-      where
-        wide : (i : ℕ) (ds : List (List ℕ)) → All IsRecord ds → i < length ds → length (detailAt ds i) ≡ 245
-        wide i [] h l = absurd (omega arith)
-        wide zero (x ∷ ds) h l = h .0
-        wide (suc i) (x ∷ ds) h l = wide i ds (h .1) (omega arith)
+  -- ---- behind the walk: the details without an own key, and all numbers put back
 
-        go : (t : Bool) → isOwnKey (settings .state) (keyAt details (at q)) ≡ t → t ≡ false
-        go false t = refl
-        go true t = absurd (omega (arith, own-below (settings .state) (keyAt details (at q)) t, o .own-high q a b))
+  module _ (numbers₁ : List ℕ) (width₁ : length numbers₁ ≡ length numbers)
+      (walked : (q : ℕ) → q < own → Packed (getD numbers₁ q 0) (at q) (getD verdicts (at q) noJudgement))
+      (behind : (q : ℕ) → own ≤ q → getD numbers₁ q 0 ≡ getD numbers q 0) where
+    same : SameFrom own numbers numbers₁
+    same = record { len = width₁; same = behind }
 
-    noted : (q : ℕ) → q < d → HasVerdict numbers₂ (at q) (getD verdicts (at q) noJudgement)
-    noted q b = go (ltb q own) refl
-      where
-        rest : JudgedResult (setting q) batch details order own (d - own) numbers₁ numbers₂
-        rest = judged-result (setting q) batch details order own (d - own) numbers₁ numbers₂ (holding (setting q)) (judged (settings .names (keyAt details (at q))))
+    -- the records behind the own keys are there
+    pub alone-there : (own ≤ d) × (d ≤ length numbers₁) × ((q : ℕ) → own ≤ q → q < d → indexPart (getD numbers₁ q 0) * 245 + 245 ≤ length batch)
+    alone-there = (
+      Keys.own-in o,
+      omega (arith, width₁, o .numbered),
+      λ q a b. omega (arith, Keys.index-is o same q a b, Keys.at-inside o q b, o .recorded),
+    )
 
-        go : (t : Bool) → ltb q own ≡ t → HasVerdict numbers₂ (at q) (getD verdicts (at q) noJudgement)
-        go true t =
-            let a = ltb-true q own t in
-            moved (setting q) batch details order numbers₁ numbers₂ (at q) _
-            (rest .others (at q) (λ j c e. Keys.apart o q (own + j) (omega (arith, a)) (omega arith) e)) (walked q a)
-        go false t =
-            let a = ltb-false q own t in
-            let s : own + (q - own) ≡ q = omega (arith, a) in
-            let h : HasVerdict numbers₂ (at (own + (q - own))) (judgement (setting q) none (detailAt details (at (own + (q - own))))) = rest .notes (q - own) (omega (arith, a)) in
-            subst (HasVerdict numbers₂ (at q)) (sym (alone q (omega (arith, a)) b))
-            (subst (λ (x : ℕ). HasVerdict numbers₂ (at x) (judgement (setting q) none (detailAt details (at x)))) s h)
+    module _ (numbers₂ numbers₃ : List ℕ)
+        (judged : UnderAlone (settings .state) (settings .year) (settings .list) batch numbers₁ own d (λ s. AloneWorked s batch own d numbers₁ numbers₂))
+        (back : PutBack d numbers₂ numbers₃) where
+      rest : (names : List (List ℕ)) → AloneWorked (settingOf (settings .state) (settings .year) (settings .list) names) batch own d numbers₁ numbers₂
+      rest names =
+          judged names (λ q a b. rw (behind q a) (tagged-known _ _ _ _ _ _ (o .tags q b)))
 
-    pub all-noted : HoldsVerdicts d numbers₂ verdicts
-    all-noted =
-        record {
-          count = length-verdicts settings rows details ∙ Keys.count-details o;
-          held = λ i l.
-              let s = o .in-order .all i (rw (Keys.count-details o) l) in
-              subst (λ (x : ℕ). HasVerdict numbers₂ x (getD verdicts x noJudgement)) (s .2)
-              (noted (s .0) (rw (Keys.count-order o) at (s .1)));
-          judged = verdict-judged;
-        }
+      noted : (q : ℕ) → q < d → Packed (getD numbers₂ q 0) (at q) (getD verdicts (at q) noJudgement)
+      noted q b = go (ltb q own) refl
+        where
+          go : (t : Bool) → ltb q own ≡ t → Packed (getD numbers₂ q 0) (at q) (getD verdicts (at q) noJudgement)
+          go true t = let a = ltb-true q own t in rw (rest [] .kept q (inl a)) (walked q a)
+          go false t =
+              let a = ltb-false q own t in
+              rw (alone q a b) (rw (Keys.record-is o same q a b, Keys.index-is o same q a b) at (rest (settings .names (keyAt details (at q))) .packed q a b))
 
-    pub numbers-behind : drop d numbers₂ ≡ drop d numbers₁
-    numbers-behind =
-        judged-kept (settingUnder settings []) batch details order d own (d - own) numbers₁ numbers₂
-        (λ q a b. rw (Keys.index-is o si q (omega (arith, o .own-in))) (Keys.at-inside o q (omega (arith, o .own-in)))) (judged (settings .names []))
+      -- each index stands once
+      places : AllPlaces d numbers₂
+      places =
+          record {
+            inside = λ q l. rw (noted q l .index-is) (Keys.at-inside o q l);
+            apart = λ q p l m e.
+                let n : q < d = omega arith in
+                Keys.apart o q p l m (sym (noted q n .index-is) ∙ e ∙ noted p m .index-is);
+          }
 
--- no row is added
-pub no-new : (f : Fixed) {numbers : List ℕ} → OrderReady (f .settings .state) (f .batch) (f .count) (f .own) numbers → (m : List ℕ)
-    → f .end * 200 ≤ length m → areSoundRows (rowsOf (f .end) m) ≡ true → isLocalList (f .settings .list) ≡ true
-    → hasAdd (blocks 245 (f .count) (f .batch)) ≡ false → 0 ≡ newOwnKeys f numbers (rowsOf (f .end) m)
-no-new f o m w s l e =
-    let few = new-few (f .settings) o (record { wide = blocks-wide 200 (f .end) m w; sound = s }) l in
-    omega (arith, few, no-add-new (rowsOf (f .end) m) (blocks 245 (f .count) (f .batch)) e)
+      pub all-noted : HoldsVerdicts d numbers₃ verdicts
+      all-noted =
+          record {
+            count = length-verdicts settings rows details ∙ Keys.count-details o;
+            held = λ i l.
+                let s = o .in-order .all i (rw (Keys.count-details o) l) in
+                let b : s .0 < d = rw (Keys.count-order o) at (s .1) in
+                let x : getD numbers₃ (placeIn (getD numbers₂ (s .0) 0)) 0 ≡ getD numbers₂ (s .0) 0 = back .number places (s .0) b in
+                let y : getD numbers₃ i 0 ≡ getD numbers₂ (s .0) 0 = (rw (noted (s .0) b .index-is, s .2) at x) in
+                subst (λ (n : ℕ). Packed (getD numbers₃ i 0) n (getD verdicts n noJudgement)) (s .2) (rw y (noted (s .0) b));
+            judged = verdict-judged;
+          }
+
+      pub numbers-behind : drop d numbers₃ ≡ drop d numbers
+      numbers-behind =
+          back .kept
+          ∙ ext-getD 0 (drop d numbers₂) (drop d numbers)
+          (length-drop d numbers₂ ∙ rw (rest [] .width, width₁) (sym (length-drop d numbers)))
+          (λ i l.
+          getD-drop d numbers₂ i 0 ∙ rest [] .kept (d + i) (inr (omega arith)) ∙ behind (d + i) (omega (arith, Keys.own-in o))
+          ∙ sym (getD-drop d numbers i 0))

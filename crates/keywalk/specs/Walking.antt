@@ -4,7 +4,7 @@
 use Prim.Native.Nat.{ℕ, _+_, _-_, _*_, _≤_, _<_}
 use mathlib.Core.Path.{_≡_}
 use mathlib.Core.List.{List, [], _∷_, _++_}
-use mathlib.Core.Bool.{Bool, true, not, cond, _&&_}
+use mathlib.Core.Bool.{Bool, true, false, not, cond, _&&_}
 use mathlib.Core.Option.{Option, none, some}
 use lib.Dec.{ltb}
 use lib.ListN.{length, take, drop, getD}
@@ -15,15 +15,20 @@ use Rattle.casemaster.specs.Master.{rowsOf, areSoundRows}
 use Rattle.casemaster.specs.Search.{AreBelow}
 use Rattle.layout.specs.Batch.{detailCount}
 use Rattle.onecase.specs.Verdict.{Judgement, noJudgement}
-use Rattle.keyorder.specs.Order.{indexIn, isMarked, indexesIn, rankAt, noRank, InKeyOrder}
-use Rattle.keyorder.specs.Packed.{Packed, IsJudged}
-use Rattle.keyorder.specs.KeyWork.{recordIn, keyIn, IsKeyEnd, KeyRun, makesRow}
+use Rattle.keyorder.specs.Order.{InKeyOrder}
+use Rattle.keyorder.specs.Tagged.{indexPart, makesFrom, Tagged, indexParts, recordIn, keyIn}
+use Rattle.keyorder.specs.Runs.{IsOwnEnd, IsRun, anyFrom}
+use Rattle.keywork.specs.Packed.{Packed}
+use Rattle.keywork.specs.Worked.{RunWorked}
+use Rattle.keywork.specs.KeyWork.{runSetting}
 use Rattle.turns.specs.Turns.{finalRows, verdictsOn}
 use Rattle.keywalk.specs.Walk.{keysAt, distinct, newKeys}
 use Rattle.keywalk.specs.declared.counting.Count.{Count}
 use Rattle.judging.specs.State.{rowIf}
-use Rattle.judging.specs.Errors.{isGiven}
-use Rattle.turns.specs.Settings.{Settings, settingUnder, settingsOf}
+use Rattle.judging.specs.Names.{namesGiven}
+use Rattle.judging.specs.Setting.{Setting}
+use Rattle.turns.specs.Under.{detailsUnder}
+use Rattle.turns.specs.Settings.{Settings, settingsOf}
 
 -- the row at a place
 abbrev pub rowIn : List ℕ → ℕ → List ℕ
@@ -52,23 +57,23 @@ pub record RowOfPut (before : List ℕ) (p : ℕ) (row : Option (List ℕ)) (aft
   pub rows-are : rowsOf next after ≡ rowsOf p before ++ oneOrNone row
   pub rest-kept : drop (next * 200) after ≡ drop (next * 200) before
 
--- number i holds a verdict
-abbrev pub HasVerdict : List ℕ → ℕ → Judgement → Type 0
-HasVerdict numbers i j = (index : ℕ) × Packed (getD numbers i 0) index j
-
--- d details in key order, those of own keys first
-pub record OrderReady (state batch : List ℕ) (d own : ℕ) (numbers : List ℕ) : Type 0 where
+-- d details judged and in key order, each with its number, those of own keys first
+pub record OrderReady (state : List ℕ) (year : ℕ) (list batch : List ℕ) (d own : ℕ) (numbers : List ℕ) : Type 0 where
   pub recorded : d * 245 ≤ length batch
   pub numbered : d ≤ length numbers
-  pub own-in : own ≤ d
-  pub in-order : InKeyOrder state (blocks 245 d batch) (indexesIn d numbers)
-  pub own-low : (q : ℕ) → q < own → rankAt state (blocks 245 d batch) (getD (indexesIn d numbers) q 0) < noRank
-  pub own-high : (q : ℕ) → own ≤ q → q < d → rankAt state (blocks 245 d batch) (getD (indexesIn d numbers) q 0) ≡ noRank
+  pub in-order : InKeyOrder state (blocks 245 d batch) (indexParts d numbers)
+  pub tags : (q : ℕ) → q < d → Tagged state year list (indexPart (getD numbers q 0)) (recordIn batch numbers q) (getD numbers q 0)
+  pub own-end : IsOwnEnd d numbers own
 
--- each of the first own numbers is marked exactly where the name of its detail is among those given under its key
-abbrev pub AreMarked : (List ℕ → List (List ℕ)) → List ℕ → ℕ → List ℕ → Type 0
-AreMarked names batch own numbers =
-    (q : ℕ) → q < own → isMarked (getD numbers q 0) ≡ isGiven (names (keyIn batch numbers q)) (recordIn batch numbers q)
+-- it holds in every setting in which the details are so
+abbrev pub UnderOrder : List ℕ → ℕ → List ℕ → (List ℕ → ℕ → List ℕ → Type 0) → Type 0
+UnderOrder batch own numbers holds =
+    (state : List ℕ) (year : ℕ) (list : List ℕ) → OrderReady state year list batch (detailCount batch) own numbers → holds state year list
+
+-- the first own numbers hold the indexes of records that are there
+pub record AreThere (batch numbers : List ℕ) (own : ℕ) : Type 0 where
+  pub within : own ≤ length numbers
+  pub there : (q : ℕ) → q < own → indexPart (getD numbers q 0) * 245 + 245 ≤ length batch
 
 -- what stays the same while the keys are worked
 pub record Fixed : Type 0 where
@@ -105,24 +110,25 @@ startOf from master numbers = record { position = 0; from = from; to = 0; master
 
 -- the keys of the details of own keys, in key order
 abbrev pub ownKeys : Fixed → List ℕ → List (List ℕ)
-ownKeys f numbers = keysAt (blocks 245 (f .count) (f .batch)) (take (f .own) (indexesIn (f .count) numbers))
+ownKeys f numbers = keysAt (blocks 245 (f .count) (f .batch)) (take (f .own) (indexParts (f .count) numbers))
 
 -- how many of them, each counted once, are new beside some rows
 abbrev pub newOwnKeys : Fixed → List ℕ → List (List ℕ) → ℕ
 newOwnKeys f numbers rows = newKeys (f .settings) (blocks 245 (f .count) (f .batch)) (distinct (ownKeys f numbers)) rows
 
--- 1 where the key of the details at positions p up to e has no row at a place and one of them makes one, else 0
-abbrev pub newRow : Fixed → List ℕ → List ℕ → ℕ → ℕ → ℕ → ℕ
-newRow f m numbers p e at =
-    cond (not (isRowOf m at (f .end) (keyIn (f .batch) numbers p)) && makesRow (settingUnder (f .settings) (keyIn (f .batch) numbers p)) (f .batch) numbers p (e - p)) 1 0
+-- one of the details at positions p up to e makes a row where there is none
+abbrev pub runMakes : List ℕ → ℕ → ℕ → Bool
+runMakes numbers p e = anyFrom makesFrom numbers p (e - p)
 
--- one key counted: the rows below it passed, and one more new row where it has none and one of its details makes one
-pub record KeyCounted (f : Fixed) (m numbers : List ℕ) (s s′ : Count) : Type 0 where
+-- one key counted: where one of its details makes a row, the rows below it are passed, and there is one new row more if it has none
+pub record KeyCounted (batch : List ℕ) (own end : ℕ) (m numbers : List ℕ) (s s′ : Count) : Type 0 where
   pub passed : ℕ
-  pub ended : IsKeyEnd (f .batch) numbers (s .position) (f .own) (s′ .position)
-  pub below : AreBelow m (s .from) (f .end) (keyIn (f .batch) numbers (s .position)) passed
+  pub ended : IsRun numbers (s .position) own (s′ .position)
+  pub below : runMakes numbers (s .position) (s′ .position) ≡ true → AreBelow m (s .from) end (keyIn batch numbers (s .position)) passed
+  pub idle : runMakes numbers (s .position) (s′ .position) ≡ false → passed ≡ 0
   pub from-is : s′ .from ≡ s .from + passed
-  pub new-is : s′ .new ≡ s .new + newRow f m numbers (s .position) (s′ .position) (s .from + passed)
+  pub new-is : s′ .new
+      ≡ s .new + cond (runMakes numbers (s .position) (s′ .position) && not (isRowOf m (s .from + passed) end (keyIn batch numbers (s .position)))) 1 0
 
 -- the key at the position
 abbrev pub keyNow : Fixed → Stand → List ℕ
@@ -136,11 +142,15 @@ hasRow f s passed = isRowOf (s .master) (s .from + passed) (f .end) (keyNow f s)
 abbrev pub rowNow : Fixed → Stand → ℕ → Option (List ℕ)
 rowNow f s passed = rowOfKey (s .master) (s .from + passed) (f .end) (keyNow f s)
 
+-- the setting of the work on the key at the position, whose details end at e: the names given are those that its details give
+abbrev pub settingNow : Fixed → Stand → ℕ → Setting
+settingNow f s e = runSetting (f .settings .state) (f .settings .year) (f .settings .list) (f .batch) (s .numbers) (s .position) e
+
 -- the work on the key at the position: its details end at e, the rows passed are those below it, and its details leave a row or none
 pub record KeyWorked (f : Fixed) (s : Stand) (e passed : ℕ) (row : Option (List ℕ)) (numbers′ : List ℕ) : Type 0 where
-  pub ended : IsKeyEnd (f .batch) (s .numbers) (s .position) (f .own) e
+  pub ended : IsRun (s .numbers) (s .position) (f .own) e
   pub below : AreBelow (s .master) (s .from) (f .end) (keyNow f s) passed
-  pub run : KeyRun (settingUnder (f .settings) (keyNow f s)) (f .batch) (s .position) (e - s .position) (rowNow f s passed) (s .numbers) row numbers′
+  pub run : RunWorked (settingNow f s e) (f .batch) (s .position) e (rowNow f s passed) row (s .numbers) numbers′
 
 -- one key walked: the rows below it passed, its details worked, its row, if it has one then, put in behind them
 pub record KeyWalked (f : Fixed) (s s′ : Stand) : Type 0 where
@@ -159,33 +169,30 @@ StaysBefore f s =
     (e passed : ℕ) (row : Option (List ℕ)) (numbers′ : List ℕ) → KeyWorked f s e passed row numbers′
     → s .to + length (oneOrNone row) ≤ s .from + cond (hasRow f s passed) 1 0
 
--- what the walk is given: all details in key order and marked by name, the rows from a place on, and before them space for the new ones
+-- what the walk is given: all details judged and in key order, the rows from a place on, and before them space for the new ones
 pub record WalkReady (f : Fixed) (s : Stand) : Type 0 where
   pub listed : isLocalList (f .settings .list) ≡ true
-  pub ordered : OrderReady (f .settings .state) (f .batch) (f .count) (f .own) (s .numbers)
-  pub marked : AreMarked (f .settings .names) (f .batch) (f .own) (s .numbers)
+  pub ordered : OrderReady (f .settings .state) (f .settings .year) (f .settings .list) (f .batch) (f .count) (f .own) (s .numbers)
+  pub given : (key : List ℕ) → f .settings .names key ≡ namesGiven (f .settings .state) (detailsUnder key (blocks 245 (f .count) (f .batch)))
   pub within : s .from ≤ f .end
   pub rows-in : f .end * 200 ≤ length (s .master)
   pub sound : areSoundRows (rowsFrom (s .from) (f .end) (s .master)) ≡ true
   pub room : s .from ≡ newOwnKeys f (s .numbers) (rowsFrom (s .from) (f .end) (s .master))
 
--- the verdict of the detail at position q of the key order, on the rows that the walk starts from
+-- the index of the detail at position q of the key order
+abbrev pub indexAt : Fixed → Stand → ℕ → ℕ
+indexAt f s q = getD (indexParts (f .count) (s .numbers)) q 0
+
+-- its verdict, on the rows that the walk starts from
 abbrev pub verdictAt : Fixed → Stand → ℕ → Judgement
 verdictAt f s q =
-    getD (verdictsOn (f .settings) (rowsFrom (s .from) (f .end) (s .master)) (blocks 245 (f .count) (f .batch)))
-    (getD (indexesIn (f .count) (s .numbers)) q 0) noJudgement
+    getD (verdictsOn (f .settings) (rowsFrom (s .from) (f .end) (s .master)) (blocks 245 (f .count) (f .batch))) (indexAt f s q) noJudgement
 
--- what it leaves: the rows after all details, and the verdict of each detail of an own key beside an index
+-- what it leaves: the rows after all details, and the verdict of each detail of an own key below its index, at its own position
 pub record Walked (f : Fixed) (s : Stand) (master′ numbers′ : List ℕ) : Type 0 where
   pub rows-are : rowsOf (f .end) master′
       ≡ finalRows (f .settings) (rowsFrom (s .from) (f .end) (s .master)) (blocks 245 (f .count) (f .batch))
   pub rows-kept : drop (f .end * 200) master′ ≡ drop (f .end * 200) (s .master)
-  pub indexes : (q : ℕ) → indexIn (getD numbers′ q 0) ≡ indexIn (getD (s .numbers) q 0)
-  pub verdicts : (q : ℕ) → q < f .own → HasVerdict numbers′ (getD (indexesIn (f .count) (s .numbers)) q 0) (verdictAt f s q)
-  pub numbers-kept : drop (f .count) numbers′ ≡ drop (f .count) (s .numbers)
-
--- the first d numbers hold the verdicts, each beside some index
-pub record HoldsVerdicts (d : ℕ) (numbers : List ℕ) (verdicts : List Judgement) : Type 0 where
-  pub count : length verdicts ≡ d
-  pub held : (i : ℕ) → i < d → HasVerdict numbers i (getD verdicts i noJudgement)
-  pub judged : (i : ℕ) → i < d → IsJudged (getD verdicts i noJudgement)
+  pub verdicts : (q : ℕ) → q < f .own → Packed (getD numbers′ q 0) (indexAt f s q) (verdictAt f s q)
+  pub behind : (q : ℕ) → f .own ≤ q → getD numbers′ q 0 ≡ getD (s .numbers) q 0
+  pub width : length numbers′ ≡ length (s .numbers)

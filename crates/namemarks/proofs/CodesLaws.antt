@@ -15,11 +15,10 @@ use Rattle.text.proofs.BoolLaws.{either}
 use Rattle.text.proofs.FieldsLaws.{part-of-front}
 use Rattle.text.proofs.SameLaws.{eq-same, same-eq}
 use Rattle.text.proofs.ByteNumberLaws.{bytes-take, bytes-drop, four-number, number-same}
-use Rattle.layout.specs.Batch.{recordAt}
 use Rattle.judging.specs.Names.{givesName}
 use Rattle.judging.proofs.NamesLaws.{given-none, given-next}
-use Rattle.keyorder.specs.Order.{indexIn}
-use Rattle.namemarks.specs.Marks.{nameAt, recordOf, Recorded, isMatched}
+use Rattle.keyorder.specs.Tagged.{indexPart, recordOf}
+use Rattle.namemarks.specs.Marks.{nameAt, restPart, isMatched}
 use Rattle.namemarks.specs.Codes.{nameCode, hasGiver}
 
 -- ---- the name
@@ -65,14 +64,14 @@ pub bit-most : (t : Bool) (a b : ℕ) → a ≤ 1 → b ≤ 1 → cond t a b ≤
 bit-most t a b h k = either (λ (n : ℕ). n ≤ 1) t a b (λ e. h) k
 
 -- the parts of a code
-module _ (a g i : ℕ) (h : g ≤ 1) (k : i < 2 ^ 24) where
-  above-index : (a * 2 ^ 25 + g * 2 ^ 24 + i) / 2 ^ 24 ≡ a * 2 + g
+module _ (a g i : ℕ) (h : g ≤ 1) (k : i < 2 ^ 31) where
+  above-index : (a * 2 ^ 32 + g * 2 ^ 31 + i) / 2 ^ 31 ≡ a * 2 + g
   above-index = omega arith
 
-  above-gives : (a * 2 ^ 25 + g * 2 ^ 24 + i) / 2 ^ 25 ≡ a
+  above-gives : (a * 2 ^ 32 + g * 2 ^ 31 + i) / 2 ^ 32 ≡ a
   above-gives = omega arith
 
-  index-alone : (a * 2 ^ 25 + g * 2 ^ 24 + i) % 2 ^ 24 ≡ i
+  index-alone : (a * 2 ^ 32 + g * 2 ^ 31 + i) % 2 ^ 31 ≡ i
   index-alone = omega arith
 
 twice : (a b : ℕ) → eqb (a * 2 + 0) (b * 2) ≡ eqb a b
@@ -83,45 +82,42 @@ twice a b = go (eqb a b) refl
     go false t = ne-eqb (a * 2 + 0) (b * 2) (λ e. eqb-false a b t (omega arith))
 
 module _ (state batch : List ℕ) where
-  pub gives-of : (n i : ℕ) (r : Bool) → i ≡ indexIn n → r ≡ givesName state (recordAt batch i) → givesName state (recordOf batch n) ≡ r
-  gives-of n i r e h = sym (rw e at h)
-
-  pub code-is : (n i name giving : ℕ) (gives : Bool) → i ≡ indexIn n → name ≡ bytesNumber (nameAt batch i)
-      → gives ≡ givesName state (recordAt batch i) → giving ≡ cond gives 0 1
-      → name * 2 ^ 25 + giving * 2 ^ 24 + i ≡ nameCode state batch n
+  pub code-is : (n i name giving : ℕ) (gives : Bool) → i ≡ indexPart n → name ≡ bytesNumber (nameAt batch i)
+      → gives ≡ givesName state (recordOf batch n) → giving ≡ cond gives 0 1
+      → name * 2 ^ 32 + giving * 2 ^ 31 + restPart n ≡ nameCode state batch n
   unfolding nameCode
   code-is n i name giving gives e p q r = rw (p, r, q, e)
 
-  pub code-index : (n : ℕ) → nameCode state batch n % 2 ^ 24 ≡ indexIn n
+  pub code-index : (n : ℕ) → nameCode state batch n % 2 ^ 31 ≡ restPart n
   unfolding nameCode
   code-index n =
-      index-alone (bytesNumber (nameAt batch (indexIn n))) (cond (givesName state (recordOf batch n)) 0 1) (indexIn n)
+      index-alone (bytesNumber (nameAt batch (indexPart n))) (cond (givesName state (recordOf batch n)) 0 1) (restPart n)
       (bit-most (givesName state (recordOf batch n)) 0 1 (omega arith) (omega arith)) (omega arith)
 
   -- the code of m says that it gives the name of n exactly where it does
-  code-tells : (n m : ℕ) → AreBytes batch → indexIn n * 245 + 245 ≤ length batch → indexIn m * 245 + 245 ≤ length batch
-      → eqb (nameCode state batch m / 2 ^ 24) (nameCode state batch n / 2 ^ 25 * 2)
-      ≡ (givesName state (recordOf batch m) && sameBytes (nameAt batch (indexIn n)) (nameAt batch (indexIn m)))
+  code-tells : (n m : ℕ) → AreBytes batch → indexPart n * 245 + 245 ≤ length batch → indexPart m * 245 + 245 ≤ length batch
+      → eqb (nameCode state batch m / 2 ^ 31) (nameCode state batch n / 2 ^ 32 * 2)
+      ≡ (givesName state (recordOf batch m) && sameBytes (nameAt batch (indexPart n)) (nameAt batch (indexPart m)))
   unfolding nameCode
   code-tells n m bytes h k =
       rw (
-        above-index (bytesNumber (nameAt batch (indexIn m))) (cond (givesName state (recordOf batch m)) 0 1) (indexIn m)
+        above-index (bytesNumber (nameAt batch (indexPart m))) (cond (givesName state (recordOf batch m)) 0 1) (restPart m)
             (bit-most (givesName state (recordOf batch m)) 0 1 (omega arith) (omega arith)) (omega arith),
-        above-gives (bytesNumber (nameAt batch (indexIn n))) (cond (givesName state (recordOf batch n)) 0 1) (indexIn n)
+        above-gives (bytesNumber (nameAt batch (indexPart n))) (cond (givesName state (recordOf batch n)) 0 1) (restPart n)
             (bit-most (givesName state (recordOf batch n)) 0 1 (omega arith) (omega arith)) (omega arith),
       )
       (go (givesName state (recordOf batch m)))
     where
-      go : (t : Bool) → eqb (bytesNumber (nameAt batch (indexIn m)) * 2 + cond t 0 1) (bytesNumber (nameAt batch (indexIn n)) * 2)
-          ≡ (t && sameBytes (nameAt batch (indexIn n)) (nameAt batch (indexIn m)))
+      go : (t : Bool) → eqb (bytesNumber (nameAt batch (indexPart m)) * 2 + cond t 0 1) (bytesNumber (nameAt batch (indexPart n)) * 2)
+          ≡ (t && sameBytes (nameAt batch (indexPart n)) (nameAt batch (indexPart m)))
       go true =
-          twice (bytesNumber (nameAt batch (indexIn m))) (bytesNumber (nameAt batch (indexIn n)))
-          ∙ same-name batch (indexIn n) (indexIn m) bytes h k
+          twice (bytesNumber (nameAt batch (indexPart m))) (bytesNumber (nameAt batch (indexPart n)))
+          ∙ same-name batch (indexPart n) (indexPart m) bytes h k
       go false =
-          ne-eqb (bytesNumber (nameAt batch (indexIn m)) * 2 + 1) (bytesNumber (nameAt batch (indexIn n)) * 2) (λ e. omega arith)
+          ne-eqb (bytesNumber (nameAt batch (indexPart m)) * 2 + 1) (bytesNumber (nameAt batch (indexPart n)) * 2) (λ e. omega arith)
 
   -- so the codes of all details tell whether a name is matched
-  pub codes-tell : (s : List ℕ) (n : ℕ) → AreBytes batch → Recorded batch s → indexIn n * 245 + 245 ≤ length batch
+  pub codes-tell : (s : List ℕ) (n : ℕ) → AreBytes batch → ((q : ℕ) → q < length s → indexPart (getD s q 0) * 245 + 245 ≤ length batch) → indexPart n * 245 + 245 ≤ length batch
       → hasGiver (map (nameCode state batch) s) (nameCode state batch n) ≡ isMatched state batch s n
   unfolding hasGiver
   codes-tell [] n bytes r h = sym (given-none state (recordOf batch n))

@@ -1,6 +1,7 @@
-pub mod MappedLaws
 pub mod AnyLaws
+pub mod MappedLaws
 pub mod SweepLaws
 pub mod CodesLaws
 pub mod MarksLaws
-pub mod MarkingLaws
+pub mod MarkedLaws
+pub mod PartLaws

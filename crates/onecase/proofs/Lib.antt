@@ -11,3 +11,4 @@ pub mod SoundChangesLaws
 pub mod StepLaws
 pub mod StepsLaws
 pub mod TableProof
+pub mod KnownLaws

@@ -3,3 +3,4 @@ pub mod Copies
 pub mod Machine
 pub mod Table
 pub mod Verdict
+pub mod Known

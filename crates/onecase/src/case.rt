@@ -37,7 +37,7 @@ pub fn no_case() -> Case
 }
 
 // The row that a record without an error leaves.
-fn applied_row(held: bool, row: [u8; 200], rec: &[u8; 245], list: &[u8]) -> Case
+pub fn applied_row(held: bool, row: [u8; 200], rec: &[u8; 245], list: &[u8]) -> Case
     ensures { λ r. ⌜ rowOf r ≡ applied (now (list .entry)) (rowIf held row) (now (rec .entry)) ⌝ }
 {
     let t = rec[72];
@@ -60,7 +60,7 @@ fn applied_row(held: bool, row: [u8; 200], rec: &[u8; 245], list: &[u8]) -> Case
 }
 
 // The verdict on a record with the errors given.
-fn rejection(set: u64, named: bool, row: [u8; 200]) -> Verdict
+pub fn rejection(set: u64, named: bool, row: [u8; 200]) -> Verdict
     ensures { λ r. ⌜ IsRejection set named row r ⌝ }
 {
     if named {

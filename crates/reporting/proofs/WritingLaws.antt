@@ -19,7 +19,7 @@ use Rattle.onecase.specs.Verdict.{Judgement, isEmpty, isRejected, isWarned, mea
 use Rattle.onecase.specs.declared.verdict.Verdict.{Verdict}
 use Rattle.judging.proofs.CodeSums.{number-none}
 use Rattle.onecase.proofs.JudgedLaws.{Judged, judged}
-use Rattle.keyorder.specs.Packed.{Packed, IsJudged, IsVerdictIn}
+use Rattle.keywork.specs.Packed.{Packed, IsJudged, IsVerdictIn, HoldsVerdicts}
 use Rattle.reporting.specs.Rejects.{numberOf, numbers, rejectRecord, ifAny, rejectRecords}
 use Rattle.reporting.specs.Counts.{Counts, countsOf}
 use Rattle.reporting.specs.Tally.{countsIn, plus, oneDetail, AtMost}
@@ -29,7 +29,6 @@ use Rattle.reporting.specs.declared.counts.Tally.{Tally}
 use Rattle.reporting.specs.declared.verdicts.Progress.{Progress}
 use Rattle.reporting.proofs.RejectsLaws.{codes-in}
 use Rattle.reporting.proofs.CountsLaws.{counts-cons, plus-assoc, counts-none, none-plus, plus-none}
-use Rattle.keywalk.specs.Walking.{HoldsVerdicts}
 use Rattle.reporting.specs.Recorded.{Recorded, noTally}
 
 -- the first number of what is kept is kept
@@ -140,14 +139,14 @@ module _ (rows : ℕ) (batch : List ℕ) (d : ℕ) (v₀ rj₀ : List ℕ) where
         verdicts-are : drop i verdicts ≡ vd ∷ later
         verdicts-are = rw (add-one i) (drop-cons verdicts i noJudgement (omega (arith, h .count)))
 
-        packed : (index : ℕ) × Packed (getD v i 0) index vd
-        packed = subst (λ (z : ℕ). (index : ℕ) × Packed z index vd) (sym (kept-first v v₀ i (g .kept-v))) (h .held i l)
+        packed : Packed (getD v i 0) i vd
+        packed = subst (λ (z : ℕ). Packed z i vd) (sym (kept-first v v₀ i (g .kept-v))) (h .held i l)
 
         means : meaning w ≡ vd
-        means = iv .means (packed .0) vd (packed .1) (h .judged i l)
+        means = iv .means i vd packed (h .judged i l)
 
         says : saysAccepted w ≡ not (isRejected vd)
-        says = iv .says (packed .0) vd (packed .1) (h .judged i l)
+        says = iv .says i vd packed (h .judged i l)
 
         numbers-go : take (i + 1) v′ ++ numbers later ≡ numbers verdicts
         unfolding numbers

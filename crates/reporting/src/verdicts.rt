@@ -2,7 +2,7 @@
 use crate::counts;
 use crate::counts::Tally;
 use crate::rejects;
-use keyorder::packed;
+use keywork::packed;
 use layout::records::RECORD_WIDTH;
 use onecase::verdict::Verdict;
 ghost use mathlib.Core.Path.{_≡_};
@@ -13,7 +13,7 @@ ghost use Rattle.text.specs.Blocks.{blocks};
 ghost use Rattle.onecase.specs.Verdict.{Judgement};
 ghost use Rattle.reporting.specs.Tally.{AtMost};
 ghost use Rattle.reporting.specs.Written.{VerdictsWritten};
-ghost use Rattle.keywalk.specs.Walking.{HoldsVerdicts};
+ghost use Rattle.keywork.specs.Packed.{HoldsVerdicts};
 ghost use Rattle.reporting.specs.Recorded.{noTally, Recorded};
 
 // How far the work has come: rows, reject records and counts.

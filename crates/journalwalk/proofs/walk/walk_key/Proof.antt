@@ -1,22 +1,36 @@
 -- `walk::walk_key`: pulling the rows below the key leaves those to come as they are, the key's entry goes by its row there and its new one,
 -- and the new one is put before the rows to come. Assumes nothing.
-use Rattle.keywalk.specs.Walking.{fixedOf}
-use Rattle.journalwalk.specs.JournalWalk.{standOf}
-use Rattle.keywalk.proofs.WalkStepLaws.{usable-less, row-there, put-room}
-use Rattle.journalwalk.proofs.StepLaws.{entry-room, key-journaled}
-use borrow.Author.Needs.{needs}
+use Prim.Native.Nat.{ℕ}
+use mathlib.Core.Path.{ap, _∙_}
 use native.Mathlib.Omega.{arith}
+use Rattle.layout.specs.Batch.{recordAt}
+use Rattle.layout.specs.Record.{recordKey}
+use Rattle.keywork.proofs.KeyWorkLaws.{key-ready}
+use Rattle.keywalk.specs.Walking.{fixedOf}
+use Rattle.keywalk.proofs.WalkStepLaws.{row-there, put-room}
+use Rattle.journalwalk.specs.JournalWalk.{standOf}
+use Rattle.journalwalk.proofs.StepLaws.{entry-room, key-journaled}
 use borrow.Author.Needs.{needs}
 use Rattle.journalwalk.proofs.walk.walk_key.Statement.{statement}
 use Rattle.journalwalk.proofs.walk.walk_key.Tie as tie
 
-key-end-requires : tie.Need-key-end-requires
-key-end-requires c κs = search needs
+run-at-requires : tie.Need-run-at-requires
+run-at-requires c κs = search needs
 
-key-in-requires : tie.Need-key-in-requires
-key-in-requires c κs =
-    let h = c .before .before .before .before .before .before .before .before .before .pre .0 in
-    (omega (arith, h .1 .within, h .0), h .1 .recorded _ (h .0))
+mul-index-part : tie.Need-mul-index-part
+mul-index-part c = search needs
+
+slice-read-index-part : tie.Need-slice-read-index-part
+slice-read-index-part c = search needs
+
+index-part-requires : tie.Need-index-part-requires
+index-part-requires c κs = search needs
+
+key-at-requires : tie.Need-key-at-requires
+key-at-requires c κs =
+    let h = c .before .before .before .before .before .before .before .before .before .before .pre .0 in
+    let i = c .index-part .ensures .0 in
+    omega (arith, i, h .1 .there _ (omega arith) (h .0))
 
 slice-aggregate-rows-below : tie.Need-slice-aggregate-rows-below
 slice-aggregate-rows-below c = search needs
@@ -38,44 +52,44 @@ is-row-of-requires c κs = search needs
 
 case-at-requires : tie.Need-case-at-requires
 case-at-requires c κs =
-    row-there _ _ _ _ _ (c .before .is-row-of .ensures) (omega (arith, c .before .before .before .before .before .before .before .before .before .before .before .before .before .before .before .before .before .before .before .before .before .pre .1 .0 .2, c .before .before .before .before .before .before .pull-rows .ensures .same-length))
+    row-there _ _ _ _ _ (c .before .is-row-of .ensures) (omega (arith, c .before .before .before .before .before .before .before .before .before .before .before .before .before .before .before .before .before .before .before .before .before .before .pre .1 .0 .2, c .before .before .before .before .before .before .pull-rows .ensures .same-length))
 
 work-key-requires : tie.Need-work-key-requires
 work-key-requires c κs =
-    let k = c .before .before .before .before .before .before .before .before .before .before .before .before .before .before .before .key-end .ensures in
-    (omega (arith, k .later), usable-less _ _ _ _ (k .within) (c .before .before .before .before .before .before .before .before .before .before .before .before .before .before .before .before .before .before .before .before .before .before .before .pre .0 .1))
+    let a = c .before .before .before .before .before .before .before .before .before .before .before .before .before .before .before .before .before .before .before .before .before .before .before .before .args in
+    key-ready (a .state .now) (a .year) (a .list .now) (a .batch .now) (a .numbers .now) (a .s .position) (a .own) (c .before .before .before .before .before .before .before .before .before .before .before .before .before .before .before .before .run-at .result) (c .before .before .before .before .before .before .before .before .before .before .before .before .before .before .before .before .before .before .before .before .before .before .before .before .pre .0 .1) (c .before .before .before .before .before .before .before .before .before .before .before .before .before .before .before .before .run-at .ensures)
 
 add-put-key-entry : tie.Need-add-put-key-entry
 add-put-key-entry c =
-    let h = c .before .before .before .before .before .before .before .before .before .before .before .before .before .before .before .before .before .before .before .before .before .before .before .before .before .before .before .pre .1 .0 in
-    omega (arith, h .0, c .before .before .before .before .before .before .before .before .before .before .before .before .before .before .rows-below .ensures .within, h .2, c .before .before .before .before .before .before .before .before .before .before .before .before .before .before .before .before .before .before .before .before .before .before .before .before .before .before .before .good .0)
+    let h = c .before .before .before .before .before .before .before .before .before .before .before .before .before .before .before .before .before .before .before .before .before .before .before .before .before .before .before .before .pre .1 .0 in
+    omega (arith, h .0, c .before .before .before .before .before .before .before .before .before .before .before .before .before .before .rows-below .ensures .within, h .2, c .before .before .before .before .before .before .before .before .before .before .before .before .before .before .before .before .before .before .before .before .before .before .before .before .before .before .before .before .good .0)
 
 put-key-entry-requires : tie.Need-put-key-entry-requires
 put-key-entry-requires c κs =
-    let a = c .before .before .before .before .before .before .before .before .before .before .before .before .before .before .before .before .before .before .before .before .before .before .before .before .before .before .before .args in
+    let a = c .before .before .before .before .before .before .before .before .before .before .before .before .before .before .before .before .before .before .before .before .before .before .before .before .before .before .before .before .args in
     entry-room (fixedOf (a .state .now) (a .year) (a .list .now) (a .batch .now) (a .own) (a .end)) (standOf (a .s) (a .m .now) (a .numbers .now))
-    (c .before .before .before .before .before .before .before .before .before .before .before .before .before .before .before .before .before .before .before .before .before .before .before .before .before .before .before .pre .1 .1 .0) _ _ _ _ (c .before .before .before .before .before .before .before .before .before .before .before .before .before .before .before .before .before .before .before .key-end .ensures) (c .before .before .before .before .before .before .before .before .before .before .before .before .before .before .before .before .before .key-in .ensures) (c .before .before .before .before .before .before .before .before .before .before .before .before .before .before .rows-below .ensures) (c .before .before .before .before .before .before .before .before .before .before .before .before .pull-rows .ensures) _
-    (c .before .before .before .before .before .before .before .is-row-of .ensures) _ _ (c .before .before .before .before .before .case-at .ensures) _ (c .before .before .before .before .before .before .before .before .before .before .before .before .before .before .before .before .before .before .before .before .before .before .before .before .before .before .before .pre .1 .1 .1 .0) (c .before .before .before .work-key .ensures) (a .wanted) (a .s .written) (a .journal .now) (c .before .before .before .before .before .before .before .before .before .before .before .before .before .before .before .before .before .before .before .before .before .before .before .before .before .before .before .pre .1 .1 .1 .1)
+    (c .before .before .before .before .before .before .before .before .before .before .before .before .before .before .before .before .before .before .before .before .before .before .before .before .before .before .before .before .pre .1 .1 .0) _ _ _ _ (c .before .before .before .before .before .before .before .before .before .before .before .before .before .before .before .before .before .before .before .before .run-at .ensures .run) (c .before .before .before .before .before .before .before .before .before .before .before .before .before .before .before .before .before .key-at .ensures ∙ ap (λ (i : ℕ). recordKey (recordAt (a .batch .now) i)) (c .before .before .before .before .before .before .before .before .before .before .before .before .before .before .before .before .before .before .index-part .ensures .0)) (c .before .before .before .before .before .before .before .before .before .before .before .before .before .before .rows-below .ensures) (c .before .before .before .before .before .before .before .before .before .before .before .before .pull-rows .ensures) _
+    (c .before .before .before .before .before .before .before .is-row-of .ensures) _ _ (c .before .before .before .before .before .case-at .ensures) _ (c .before .before .before .work-key .ensures) (a .wanted) (a .s .written) (a .journal .now) (c .before .before .before .before .before .before .before .before .before .before .before .before .before .before .before .before .before .before .before .before .before .before .before .before .before .before .before .before .pre .1 .1 .1)
 
 add-put-row-of : tie.Need-add-put-row-of
 add-put-row-of c =
-    let h = c .before .before .before .before .before .before .before .before .before .before .before .before .before .before .before .before .before .before .before .before .before .before .before .before .before .before .before .before .before .before .before .pre .1 .0 in
-    omega (arith, h .0, c .before .before .before .before .before .before .before .before .before .before .before .before .before .before .before .before .before .before .rows-below .ensures .within, h .2, c .before .before .before .before .before .before .before .before .before .before .before .before .before .before .before .before .before .before .before .before .before .before .before .before .before .before .before .before .before .before .before .good .0)
+    let h = c .before .before .before .before .before .before .before .before .before .before .before .before .before .before .before .before .before .before .before .before .before .before .before .before .before .before .before .before .before .before .before .before .pre .1 .0 in
+    omega (arith, h .0, c .before .before .before .before .before .before .before .before .before .before .before .before .before .before .before .before .before .before .rows-below .ensures .within, h .2, c .before .before .before .before .before .before .before .before .before .before .before .before .before .before .before .before .before .before .before .before .before .before .before .before .before .before .before .before .before .before .before .before .good .0)
 
 put-row-of-requires : tie.Need-put-row-of-requires
 put-row-of-requires c κs =
-    let a = c .before .before .before .before .before .before .before .before .before .before .before .before .before .before .before .before .before .before .before .before .before .before .before .before .before .before .before .before .before .before .before .args in
+    let a = c .before .before .before .before .before .before .before .before .before .before .before .before .before .before .before .before .before .before .before .before .before .before .before .before .before .before .before .before .before .before .before .before .args in
     put-room (fixedOf (a .state .now) (a .year) (a .list .now) (a .batch .now) (a .own) (a .end)) (standOf (a .s) (a .m .now) (a .numbers .now))
-    (c .before .before .before .before .before .before .before .before .before .before .before .before .before .before .before .before .before .before .before .before .before .before .before .before .before .before .before .before .before .before .before .pre .1 .1 .0) _ _ _ _ (c .before .before .before .before .before .before .before .before .before .before .before .before .before .before .before .before .before .before .before .before .before .before .before .key-end .ensures) (c .before .before .before .before .before .before .before .before .before .before .before .before .before .before .before .before .before .before .before .before .before .key-in .ensures) (c .before .before .before .before .before .before .before .before .before .before .before .before .before .before .before .before .before .before .rows-below .ensures) (c .before .before .before .before .before .before .before .before .before .before .before .before .before .before .before .before .pull-rows .ensures) _
-    (c .before .before .before .before .before .before .before .before .before .before .before .is-row-of .ensures) _ _ (c .before .before .before .before .before .before .before .before .before .case-at .ensures) _ (c .before .before .before .before .before .before .before .before .before .before .before .before .before .before .before .before .before .before .before .before .before .before .before .before .before .before .before .before .before .before .before .pre .1 .1 .1 .0) (c .before .before .before .before .before .before .before .work-key .ensures) (c .before .before .before .before .before .before .before .before .before .before .before .before .before .before .before .before .before .before .before .before .before .before .before .before .before .before .before .before .before .before .before .pre .1 .0 .2)
+    (c .before .before .before .before .before .before .before .before .before .before .before .before .before .before .before .before .before .before .before .before .before .before .before .before .before .before .before .before .before .before .before .before .pre .1 .1 .0) _ _ _ _ (c .before .before .before .before .before .before .before .before .before .before .before .before .before .before .before .before .before .before .before .before .before .before .before .before .run-at .ensures .run) (c .before .before .before .before .before .before .before .before .before .before .before .before .before .before .before .before .before .before .before .before .before .key-at .ensures ∙ ap (λ (i : ℕ). recordKey (recordAt (a .batch .now) i)) (c .before .before .before .before .before .before .before .before .before .before .before .before .before .before .before .before .before .before .before .before .before .before .index-part .ensures .0)) (c .before .before .before .before .before .before .before .before .before .before .before .before .before .before .before .before .before .before .rows-below .ensures) (c .before .before .before .before .before .before .before .before .before .before .before .before .before .before .before .before .pull-rows .ensures) _
+    (c .before .before .before .before .before .before .before .before .before .before .before .is-row-of .ensures) _ _ (c .before .before .before .before .before .before .before .before .before .case-at .ensures) _ (c .before .before .before .before .before .before .before .work-key .ensures) (c .before .before .before .before .before .before .before .before .before .before .before .before .before .before .before .before .before .before .before .before .before .before .before .before .before .before .before .before .before .before .before .before .pre .1 .0 .2)
 
 one-if-requires : tie.Need-one-if-requires
 one-if-requires c κs = search needs
 
-add-t49 : tie.Need-add-t49
-add-t49 c =
-    let h = c .before .before .before .before .before .before .before .before .before .before .before .before .before .before .before .before .before .before .before .before .before .before .before .before .before .before .before .before .before .before .before .before .before .before .before .pre .1 .0 in
-    omega (arith, c .one-if .ensures .1, c .before .before .before .before .before .before .before .before .before .before .before .before .before .before .before .before .before .before .before .before .before .before .rows-below .ensures .within, h .2, c .before .before .before .before .before .before .before .before .before .before .before .before .before .before .before .before .before .before .before .before .before .before .before .before .before .before .before .before .before .before .before .before .before .before .before .good .0)
+add-t30 : tie.Need-add-t30
+add-t30 c =
+    let h = c .before .before .before .before .before .before .before .before .before .before .before .before .before .before .before .before .before .before .before .before .before .before .before .before .before .before .before .before .before .before .before .before .before .before .before .before .pre .1 .0 in
+    omega (arith, c .one-if .ensures .1, c .before .before .before .before .before .before .before .before .before .before .before .before .before .before .before .before .before .before .before .before .before .before .rows-below .ensures .within, h .2, c .before .before .before .before .before .before .before .before .before .before .before .before .before .before .before .before .before .before .before .before .before .before .before .before .before .before .before .before .before .before .before .before .before .before .before .before .good .0)
 
 same-length : tie.Need-same-length
 same-length c = search needs
@@ -88,18 +102,21 @@ same-length-3 c = search needs
 
 returns : tie.Need-returns
 returns c =
-    let a = c .before .before .before .before .before .before .before .before .before .before .before .before .before .before .before .before .before .before .before .before .before .before .before .before .before .before .before .before .before .before .before .before .before .before .before .args in
+    let a = c .before .before .before .before .before .before .before .before .before .before .before .before .before .before .before .before .before .before .before .before .before .before .before .before .before .before .before .before .before .before .before .before .before .before .before .before .args in
     key-journaled (fixedOf (a .state .now) (a .year) (a .list .now) (a .batch .now) (a .own) (a .end)) (standOf (a .s) (a .m .now) (a .numbers .now))
-    (c .before .before .before .before .before .before .before .before .before .before .before .before .before .before .before .before .before .before .before .before .before .before .before .before .before .before .before .before .before .before .before .before .before .before .before .pre .1 .1 .0) _ _ _ _ (c .before .before .before .before .before .before .before .before .before .before .before .before .before .before .before .before .before .before .before .before .before .before .before .before .before .before .before .key-end .ensures) (c .before .before .before .before .before .before .before .before .before .before .before .before .before .before .before .before .before .before .before .before .before .before .before .before .before .key-in .ensures) (c .before .before .before .before .before .before .before .before .before .before .before .before .before .before .before .before .before .before .before .before .before .before .rows-below .ensures) (c .before .before .before .before .before .before .before .before .before .before .before .before .before .before .before .before .before .before .before .before .pull-rows .ensures) _
-    (c .before .before .before .before .before .before .before .before .before .before .before .before .before .before .before .is-row-of .ensures) _ _ (c .before .before .before .before .before .before .before .before .before .before .before .before .before .case-at .ensures) _ (c .before .before .before .before .before .before .before .before .before .before .before .before .before .before .before .before .before .before .before .before .before .before .before .before .before .before .before .before .before .before .before .before .before .before .before .pre .1 .1 .1 .0) (c .before .before .before .before .before .before .before .before .before .before .before .work-key .ensures) (a .wanted) (a .s .written) (a .journal .now)
+    (c .before .before .before .before .before .before .before .before .before .before .before .before .before .before .before .before .before .before .before .before .before .before .before .before .before .before .before .before .before .before .before .before .before .before .before .before .pre .1 .1 .0) _ _ _ _ (c .before .before .before .before .before .before .before .before .before .before .before .before .before .before .before .before .before .before .before .before .before .before .before .before .before .before .before .before .run-at .ensures .run) (c .before .before .before .before .before .before .before .before .before .before .before .before .before .before .before .before .before .before .before .before .before .before .before .before .before .key-at .ensures ∙ ap (λ (i : ℕ). recordKey (recordAt (a .batch .now) i)) (c .before .before .before .before .before .before .before .before .before .before .before .before .before .before .before .before .before .before .before .before .before .before .before .before .before .before .index-part .ensures .0)) (c .before .before .before .before .before .before .before .before .before .before .before .before .before .before .before .before .before .before .before .before .before .before .rows-below .ensures) (c .before .before .before .before .before .before .before .before .before .before .before .before .before .before .before .before .before .before .before .before .pull-rows .ensures) _
+    (c .before .before .before .before .before .before .before .before .before .before .before .before .before .before .before .is-row-of .ensures) _ _ (c .before .before .before .before .before .before .before .before .before .before .before .before .before .case-at .ensures) _ (c .before .before .before .before .before .before .before .before .before .before .before .work-key .ensures) (a .wanted) (a .s .written) (a .journal .now)
     _ _ (c .before .before .before .put-row-of .ensures) _ (c .one-if .ensures .0) _ _ (c .before .before .before .before .before .before .before .put-key-entry .ensures)
 
 pub walk-key-spec : {M : Type 1} → statement M
 walk-key-spec =
     tie.close
     (tie.spec
-    key-end-requires
-    key-in-requires
+    run-at-requires
+    mul-index-part
+    slice-read-index-part
+    index-part-requires
+    key-at-requires
     slice-aggregate-rows-below
     rows-below-requires
     pull-rows-requires
@@ -113,7 +130,7 @@ walk-key-spec =
     add-put-row-of
     put-row-of-requires
     one-if-requires
-    add-t49
+    add-t30
     same-length
     same-length-2
     same-length-3

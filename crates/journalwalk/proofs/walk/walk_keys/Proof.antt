@@ -4,8 +4,7 @@ use mathlib.Core.Path.{refl}
 use denote.Ref.{now}
 use Rattle.keywalk.specs.Walking.{WalkReady, fixedOf, startOf}
 use Rattle.journalwalk.specs.JournalWalk.{standOf}
-use Rattle.keywalk.proofs.KeysLaws.{usable}
-use Rattle.keywalk.proofs.WalkingLaws.{Walking, walking-start, walking-room, walking-marked, walking-next}
+use Rattle.keywalk.proofs.WalkingLaws.{Walking, walking-start, walking-room, walking-sorted, walking-next}
 use Rattle.journalwalk.proofs.JournalingLaws.{Journaling, journaling-start, journaling-room, journaling-next, journaling-done}
 use native.Mathlib.Omega.{arith}
 use Prim.Native.Nat.{_-_}
@@ -39,12 +38,12 @@ walk-key-requires c κs =
     let t = c .before .before .before .if1 .taken in
     let f = fixedOf (a .state .now) (a .year) (a .list .now) (a .batch .now) (a .own) (a .end) in
     let s = startOf (a .from) (a .m .now) (a .numbers .now) in (
-      (t, usable (w .ordered) (g .same) (a .own) (w .ordered .own-in)),
+      (t, walking-sorted f s w _ g),
       (
         (g .low, g .within, omega (arith, g .len, w .rows-in)),
         (
           walking-room f s w _ g t,
-          (walking-marked f s w _ g, journaling-room f s (a .wanted) (a .journal .now) (a .at) w _ g _ _ n t),
+          journaling-room f s (a .wanted) (a .journal .now) (a .at) w _ g _ _ n t,
         ),
       ),
     )

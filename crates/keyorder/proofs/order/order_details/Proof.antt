@@ -1,57 +1,30 @@
--- `order::order_details`: in rising numbers the ranks don't fall, and the indexes rise within a rank. Assumes nothing.
-use borrow.Author.Needs.{needs}
-use denote.Ref.{now}
+-- `order::order_details`: what is in key order has ranks that don't fall. Assumes nothing.
+use native.Mathlib.Omega.{arith}
 use Rattle.text.specs.Blocks.{blocks}
-use Rattle.text.proofs.BlocksLaws.{length-blocks}
-use Rattle.keyorder.proofs.OrderLaws.{second-rises, second-ordered}
+use Rattle.keyorder.proofs.TaggedLaws.{tagged-rises}
+use borrow.Author.Needs.{needs}
 use Rattle.keyorder.proofs.order.order_details.Statement.{statement}
 use Rattle.keyorder.proofs.order.order_details.Tie as tie
 
-number-details-requires : tie.Need-number-details-requires
-number-details-requires c κs = search needs
+order-tagged-requires : tie.Need-order-tagged-requires
+order-tagged-requires c κs = search needs
 
-sub-sort : tie.Need-sub-sort
-sub-sort c = search needs
-
-part-sort-start : tie.Need-part-sort-start
-part-sort-start c = search needs
-
-part-sort-end : tie.Need-part-sort-end
-part-sort-end c = search needs
-
-sort-requires : tie.Need-sort-requires
-sort-requires c κs = search needs
-
-keep-indexes-requires : tie.Need-keep-indexes-requires
-keep-indexes-requires c κs =
-    let m = c .before .before .before .before .before .before .before .number-details in
-    let s = c .before .before .before .before .before .before .before .before .before .before .before .before in
-    let a = s .args in
-    second-rises (now (a .state)) (blocks 245 (a .d) (now (a .batch))) (a .d) (now (a .numbers)) (m .last .1 .1 .1 .0) (c .before .before .before .sort .last .0)
-    (length-blocks 245 (a .d) (now (a .batch))) (s .pre .2) (s .pre .1) (m .ensures) (m .kept .1 .1 .1 .0) (c .before .before .before .sort .ensures)
+own-end-requires : tie.Need-own-end-requires
+own-end-requires c κs =
+    let a = c .before .before .before .before .before .before .before .before .before .args in
+    let t = c .before .before .before .order-tagged .ensures in
+    let l = c .before .before .before .before .before .before .before .before .before .pre .1 in
+    let w = t .width in (
+      omega (arith, l, w),
+      tagged-rises (a .state .now) (a .year) (a .list .now) (blocks 245 (a .d) (a .batch .now)) (a .d) (a .numbers .now) _ t (omega (arith, l, w)),
+    )
 
 same-length : tie.Need-same-length
 same-length c = search needs
 
 returns : tie.Need-returns
-returns c =
-    let k = c .before .before .keep-indexes in
-    let o = c .before .before .before .before .before .before .sort in
-    let m = c .before .before .before .before .before .before .before .before .before .before .number-details in
-    let s = c .before .before .before .before .before .before .before .before .before .before .before .before .before .before .before in
-    let a = s .args in
-    second-ordered (now (a .state)) (blocks 245 (a .d) (now (a .batch))) (a .d) (now (a .numbers)) (m .last .1 .1 .1 .0) (o .last .0)
-    (length-blocks 245 (a .d) (now (a .batch))) (s .pre .2) (s .pre .1) (m .ensures) (m .kept .1 .1 .1 .0) (o .ensures) (k .last .0) (k .result) (k .ensures) (k .kept .0)
+returns c = record { order = c .before .before .before .before .order-tagged .ensures; own-end = c .own-end .ensures }
 
 pub order-details-spec : {M : Type 1} → statement M
 order-details-spec =
-    tie.close
-    (tie.spec
-    number-details-requires
-    sub-sort
-    part-sort-start
-    part-sort-end
-    sort-requires
-    keep-indexes-requires
-    same-length
-    returns)
+    tie.close (tie.spec order-tagged-requires own-end-requires same-length returns)

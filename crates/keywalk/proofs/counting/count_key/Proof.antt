@@ -1,18 +1,39 @@
--- `counting::count_key`: the search stops at the first row that isn't below the key, so that row alone can be the key's. Assumes nothing.
-use borrow.Author.Needs.{needs}
+-- `counting::count_key`: the search stops at the first row that isn't below the key, so that row alone can be the key's; where no detail makes a
+-- row nothing is looked for. Assumes nothing.
+use mathlib.Core.Path.{ap, _∙_}
 use native.Mathlib.Omega.{arith}
-use Rattle.keywalk.specs.Walking.{fixedOf}
-use Rattle.keywalk.proofs.WalkStepLaws.{usable-less, key-counted}
+use borrow.Author.Tests.{not-true, not-false}
+use Rattle.layout.specs.Batch.{recordAt}
+use Rattle.layout.specs.Record.{recordKey}
+use Rattle.keywalk.proofs.WalkStepLaws.{counted-idle, counted-new}
+use borrow.Author.Needs.{needs}
 use Rattle.keywalk.proofs.counting.count_key.Statement.{statement}
 use Rattle.keywalk.proofs.counting.count_key.Tie as tie
 
-key-end-requires : tie.Need-key-end-requires
-key-end-requires c κs = search needs
+run-at-requires : tie.Need-run-at-requires
+run-at-requires c κs = search needs
 
-key-in-requires : tie.Need-key-in-requires
-key-in-requires c κs =
-    let h = c .before .before .before .before .before .before .pre .0 in
-    (omega (arith, h .1 .within, h .0), h .1 .recorded _ (h .0))
+returns : tie.Need-returns
+returns c =
+    let a = c .before .before .before .before .before .args in
+    let f = c .before .run-at .ensures in (
+      counted-idle (a .batch .now) (a .own) (a .n) (a .m .now) (a .numbers .now) (a .s) (c .before .run-at .result) f (not-true _ (c .if1 .taken)),
+      omega (arith, f .run .later, c .before .before .before .before .before .pre .1 .2),
+    )
+
+mul-index-part : tie.Need-mul-index-part
+mul-index-part c = search needs
+
+shared-slice-read-index-part : tie.Need-shared-slice-read-index-part
+shared-slice-read-index-part c = search needs
+
+index-part-requires : tie.Need-index-part-requires
+index-part-requires c κs = search needs
+
+key-at-requires : tie.Need-key-at-requires
+key-at-requires c κs =
+    let h = c .before .before .before .before .before .before .before .pre .0 in
+    rw (c .index-part .ensures .0) (h .1 .there _ (h .0))
 
 slice-aggregate-rows-below : tie.Need-slice-aggregate-rows-below
 slice-aggregate-rows-below c = search needs
@@ -23,36 +44,43 @@ rows-below-requires c κs = search needs
 add-at : tie.Need-add-at
 add-at c = search needs
 
-slice-aggregate-new-row : tie.Need-slice-aggregate-new-row
-slice-aggregate-new-row c = search needs
+slice-aggregate-is-row-of : tie.Need-slice-aggregate-is-row-of
+slice-aggregate-is-row-of c = search needs
 
-new-row-requires : tie.Need-new-row-requires
-new-row-requires c κs =
-    let k = c .before .before .before .before .key-end .ensures in
-    let h = c .before .before .before .before .before .before .before .before .before .before .pre in
-    (omega (arith, c .before .rows-below .ensures .within), h .1 .1, omega (arith, k .later), usable-less _ _ _ _ (k .within) (h .0 .1))
+is-row-of-requires : tie.Need-is-row-of-requires
+is-row-of-requires c κs = search needs
 
-add-t17 : tie.Need-add-t17
-add-t17 c =
-    let h = c .before .before .before .before .before .before .before .before .before .before .before .before .pre in
-    omega (arith, c .before .new-row .ensures .1, h .1 .2, h .0 .0, h .0 .1 .within, c .before .before .before .before .before .before .before .before .before .before .before .before .good)
+one-if-requires : tie.Need-one-if-requires
+one-if-requires c κs = search needs
 
-returns : tie.Need-returns
-returns c =
-    let a = c .before .before .before .before .before .before .before .before .before .before .before .before .args in
-    key-counted (fixedOf (a .state .now) (a .year) (a .list .now) (a .batch .now) (a .own) (a .n)) (a .m .now) (a .numbers .now) (a .s) _ _ _
-    (c .before .before .before .before .before .before .key-end .ensures) (c .before .before .before .before .before .key-in .ensures) (c .before .before .before .rows-below .ensures) _ (c .before .new-row .ensures .0)
+add-t18 : tie.Need-add-t18
+add-t18 c = omega (arith, c .one-if .ensures .1, c .before .before .before .before .before .before .before .before .before .before .before .before .before .pre .1 .2, c .before .before .before .before .before .before .before .before .before .before .before .before .before .pre .0 .0, c .before .before .before .before .before .before .before .before .before .before .before .before .before .good)
+
+returns-2 : tie.Need-returns-2
+returns-2 c =
+    let a = c .before .before .before .before .before .before .before .before .before .before .before .before .before .args in
+    let f = c .before .before .before .before .before .before .before .before .before .run-at .ensures in (
+      counted-new (a .batch .now) (a .own) (a .n) (a .m .now) (a .numbers .now) (a .s) (c .before .before .before .before .before .before .before .before .before .run-at .result) f (not-false _ (c .before .before .before .before .before .before .before .before .if1 .left)) (c .before .before .before .before .before .key-at .result) (c .before .before .before .rows-below .result) (c .one-if .result)
+          (c .before .before .before .before .before .key-at .ensures ∙ ap (λ i. recordKey (recordAt (a .batch .now) i)) (c .before .before .before .before .before .before .index-part .ensures .0)) (c .before .before .before .rows-below .ensures)
+          (c .one-if .ensures .0 ∙ rw (c .before .is-row-of .ensures)),
+      omega (arith, f .run .later, c .one-if .ensures .1, c .before .before .before .before .before .before .before .before .before .before .before .before .before .pre .1 .2),
+    )
 
 pub count-key-spec : {M : Type 1} → statement M
 count-key-spec =
     tie.close
     (tie.spec
-    key-end-requires
-    key-in-requires
+    run-at-requires
+    returns
+    mul-index-part
+    shared-slice-read-index-part
+    index-part-requires
+    key-at-requires
     slice-aggregate-rows-below
     rows-below-requires
     add-at
-    slice-aggregate-new-row
-    new-row-requires
-    add-t17
-    returns)
+    slice-aggregate-is-row-of
+    is-row-of-requires
+    one-if-requires
+    add-t18
+    returns-2)

@@ -1,30 +1,61 @@
--- `counting::new_rows`: without a record of type A no detail makes a row, so no key is new. Assumes nothing.
-use borrow.Author.Needs.{needs}
-use mathlib.Core.Path.{_∙_, sym}
-use borrow.Author.Tests.{not-true}
-use Rattle.keywalk.specs.Walking.{fixedOf}
+-- `counting::new_rows`: what is counted and what the keys to come add make the whole, in every setting in which the details are in order.
+-- Assumes nothing.
+use Prim.Native.Nat.{ℕ, _-_, _≤_}
+use mathlib.Core.Path.{_≡_}
+use mathlib.Core.Bool.{true}
+use mathlib.Core.List.{List}
+use native.Mathlib.Omega.{arith}
+use Rattle.layout.specs.Batch.{detailCount}
+use Rattle.text.specs.ByteOrder.{rising}
+use Rattle.casemaster.specs.Master.{rowsOf, keysOf}
+use Rattle.casemaster.proofs.RowsLaws.{rows-rise}
+use Rattle.keywalk.specs.Walking.{OrderReady, fixedOf}
+use Rattle.keywalk.proofs.CountingLaws.{Counting, within-next, counting-start, counting-next, counting-done}
 use Rattle.keywalk.proofs.counting.new_rows.Statement.{statement}
 use Rattle.keywalk.proofs.counting.new_rows.Tie as tie
-use Rattle.keywalk.proofs.WorkLaws.{no-new}
 
-sub-d : tie.Need-sub-d
-sub-d c = search needs
+abbrev Inv-loop : tie.InvT-loop
+Inv-loop m n batch numbers own s₀ s =
+    (s .position ≤ own) × (s .from ≤ n) × (s .new ≤ s .position)
+    × ((state : List ℕ) (year : ℕ) (list : List ℕ) (o : OrderReady state year list batch (detailCount batch) own numbers) (r : rising (keysOf (rowsOf n m)) ≡ true)
+    → Counting (fixedOf state year list batch own n) m numbers o r s)
 
-has-add-requires : tie.Need-has-add-requires
-has-add-requires c κs = search needs
+abbrev μ-loop : tie.MeasureT-loop
+μ-loop m n batch numbers own s₀ s = own - s .position
 
-returns : tie.Need-returns
-returns c =
+loop-holds : tie.Need-loop-holds Inv-loop μ-loop
+loop-holds c =
+    let a = c .before .before .before .args in
+    (omega arith, omega arith, omega arith, λ state year list o r. counting-start (fixedOf state year list (a .batch .now) (a .own) (a .n)) (a .m .now) (a .numbers .now) o r)
+
+count-key-requires : tie.Need-count-key-requires Inv-loop μ-loop
+count-key-requires c κs =
+    let h = c .before .before .before .before .before .before .pre in
+    let i = c .before .before .loop .inv in
+    ((c .if1 .taken, h .2), (i .1, h .0, i .2))
+
+loop-less : tie.Need-loop-less Inv-loop μ-loop
+loop-less c = let k = c .count-key .ensures .0 .ended in omega (arith, k .later, c .before .if1 .taken)
+
+loop-again : tie.Need-loop-again Inv-loop μ-loop
+loop-again c =
     let a = c .before .before .before .before .before .before .before .args in
-    let h = c .before .before .before .before .before .before .before .pre in
-    no-new (fixedOf (a .state .now) (a .year) (a .list .now) (a .batch .now) (a .own) (a .n)) (h .0) (a .m .now) (h .1 .0 .0) (h .1 .0 .1) (h .1 .1 .0)
-    (sym (c .before .has-add .ensures) ∙ not-true _ (c .if1 .taken))
+    let i = c .before .before .before .loop .inv in
+    let k = c .count-key .ensures in (
+      k .0 .ended .within,
+      within-next (a .batch .now) (a .own) (a .n) (a .m .now) (a .numbers .now) _ _ (k .0) (i .1),
+      k .1,
+      λ state year list o r. counting-next (fixedOf state year list (a .batch .now) (a .own) (a .n)) (a .m .now) (a .numbers .now) o r _ (i .3 state year list o r) (c .before .if1 .taken) _ (k .0),
+    )
 
-count-keys-requires : tie.Need-count-keys-requires
-count-keys-requires c κs = search needs
-
-returns-2 : tie.Need-returns-2
-returns-2 c = search needs
+returns : tie.Need-returns Inv-loop μ-loop
+returns c =
+    let a = c .before .before .before .before .before .before .args in
+    let i = c .before .before .loop .inv in
+    λ state year list o.
+    let r = rows-rise (rowsOf (a .n) (a .m .now)) (c .before .before .before .before .before .before .pre .1) in
+    counting-done (fixedOf state year list (a .batch .now) (a .own) (a .n)) (a .m .now) (a .numbers .now) o r _ (i .3 state year list o r) (c .if1 .left)
 
 pub new-rows-spec : {M : Type 1} → statement M
-new-rows-spec = tie.close (tie.spec sub-d has-add-requires returns count-keys-requires returns-2)
+new-rows-spec =
+    tie.close (tie.spec Inv-loop μ-loop loop-holds count-key-requires loop-less loop-again returns)

@@ -1,8 +1,9 @@
 -- `codes::code_all`: the first k numbers are coded, the others as they were. Assumes nothing.
 use mathlib.Core.Path.{ap, _∙_}
-use Prim.Native.Nat.{_-_}
+use Prim.Native.Nat.{_-_, _<_}
 use native.Mathlib.Omega.{arith}
 use lib.ListN.{length}
+use denote.Ref.{now}
 use Rattle.namemarks.specs.Codes.{nameCode}
 use Rattle.namemarks.proofs.MappedLaws.{Mapped, mapped-start, mapped-next, mapped-end}
 use borrow.Author.Needs.{needs}
@@ -27,8 +28,9 @@ slice-read-code c = search needs
 code-requires : tie.Need-code-requires Inv-loop μ-loop
 code-requires c κs =
     let l = c .before .before .loop in
-    let t = c .before .loop-test .taken in
-    omega (arith, l .inv .kept (l .k) (omega arith), c .before .before .before .before .before .before .pre (l .k) (omega (arith, t, l .inv .wide)))
+    let s = c .before .before .before .before .before .before in
+    let i : l .k < length (now (s .args .numbers)) = omega (arith, c .before .loop-test .taken, l .inv .wide) in
+    rw (l .inv .kept (l .k) (omega arith)) (s .pre .there (l .k) i, s .pre .gives (l .k) i)
 
 mul-numbers : tie.Need-mul-numbers Inv-loop μ-loop
 mul-numbers c = search needs

@@ -1,4 +1,4 @@
--- `codes::one_if_given`: above the index of a giver stands twice its name's number. Assumes nothing.
+-- `codes::one_if_given`: above the rest of a giver stands twice its name's number. Assumes nothing.
 use borrow.Author.Tests.{eq-eqb, ne-eqb}
 use borrow.Author.Needs.{needs}
 use Rattle.namemarks.proofs.codes.one_if_given.Statement.{statement}

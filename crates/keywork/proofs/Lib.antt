@@ -1,0 +1,4 @@
+pub mod JudgedLaws
+pub mod PackedLaws
+pub mod WorkedLaws
+pub mod KeyWorkLaws

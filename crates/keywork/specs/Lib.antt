@@ -1,0 +1,3 @@
+pub mod Packed
+pub mod Worked
+pub mod KeyWork

@@ -1,0 +1,126 @@
+// The details of one key, at the positions of one rank, worked through the machine: each verdict at its detail's own position, below the
+// index, so that sorting the numbers puts the verdicts back in batch order.
+use crate::packed;
+use judging::front;
+use judging::front::FrontErrors;
+use keyorder::tagged;
+use layout::records;
+use onecase::case;
+use onecase::case::Case;
+use onecase::known;
+use sorting::sorting::sort;
+ghost use mathlib.Core.Path.{_≡_};
+ghost use mathlib.Core.Bool.{not};
+ghost use Prim.Native.Nat.{ℕ, _+_, _*_, _^_, _≤_, _<_};
+ghost use lib.Dec.{eqb};
+ghost use lib.ListN.{length, getD};
+ghost use Rattle.layout.specs.Batch.{recordAt};
+ghost use Rattle.layout.specs.Codes.{numberOfCodes};
+ghost use Rattle.judging.specs.Front.{frontErrors, IsFront};
+ghost use Rattle.onecase.specs.Machine.{rowOf};
+ghost use Rattle.keyorder.specs.Tagged.{indexPart, flagWrong, flagGiven};
+ghost use Rattle.keywork.specs.Worked.{UnderTag, OneWorked, UnderTags, RunWorked, PutBack, UnderAlone, AloneWorked};
+
+// Whether the name of a detail is given.
+pub fn flag_given(number: u64) -> bool
+    ensures { λ r. ⌜ r ≡ flagGiven number ⌝ }
+{
+    number % 2 == 1
+}
+
+// The errors but 09 and 17 of a detail by its number: none, or they are judged again.
+fn front_of(x: u64, rec: &[u8; 245], state: &[u8], year: u64, list: &[u8]) -> FrontErrors
+    ensures { λ r. ⌜ (flagWrong x ≡ not (eqb (numberOfCodes (frontErrors (now (state .entry)) year (now (list .entry)) (now (rec .entry)))) 0)
+        → IsFront (now (state .entry)) year (now (list .entry)) (now (rec .entry)) r) × (r .set ≤ 2 ^ 19) ⌝ }
+{
+    if tagged::flag_wrong(x) {
+        front::judge_front(rec, state, year, list)
+    } else {
+        front::no_errors()
+    }
+}
+
+// The new state, and the number with the verdict.
+pub struct After {
+    pub case: Case,
+    pub number: u64,
+}
+
+// The detail of a number on one row or none.
+fn work_tagged(case: Case, batch: &[u8], x: u64, state: &[u8], year: u64, list: &[u8]) -> After
+    requires { ⌜ indexPart x * 245 + 245 ≤ length (now batch) ⌝ }
+    ensures { λ r. ⌜ UnderTag (now (state .entry)) year (now (list .entry)) (recordAt (now (batch .entry)) (indexPart x)) x (λ setting.
+        OneWorked setting (rowOf case) (recordAt (now (batch .entry)) (indexPart x)) (indexPart x) r) ⌝ }
+{
+    let i = tagged::index_part(x);
+    let rec = records::record_at(batch, i);
+    let f = front_of(x, &rec, state, year, list);
+    let local = tagged::flag_local(x);
+    let given = flag_given(x);
+    let held = case.held;
+    let row = case.row;
+    let step = known::step_known(held, row, &rec, f, local, given, list);
+    let verdict = step.verdict;
+    let after = step.case;
+    let number = packed::with_verdict(i, verdict);
+    After {
+        case: after,
+        number,
+    }
+}
+
+// The details at positions p up to e through the machine in batch order; the state that they leave is handed back.
+pub fn work_run(
+    case: Case,
+    batch: &[u8],
+    numbers: &mut [u64],
+    p: usize,
+    e: usize,
+    state: &[u8],
+    year: u64,
+    list: &[u8],
+) -> Case
+    requires { ⌜ (p ≤ e) × (e ≤ length (now numbers)) × ((q : ℕ) → p ≤ q → q < e → indexPart (getD (now numbers) q 0) * 245 + 245 ≤ length (now batch)) ⌝ }
+    ensures { λ r. ⌜ UnderTags (now (state .entry)) year (now (list .entry)) (now (batch .entry)) (now (numbers .entry)) p e (λ setting.
+        RunWorked setting (now (batch .entry)) p e (rowOf case) (rowOf r) (now (numbers .entry)) (now (numbers .exit))) ⌝ }
+{
+    let mut c = case;
+    let mut q = p;
+    while q < e {
+        let after = work_tagged(c, batch, numbers[q], state, year, list);
+        numbers[q] = after.number;
+        c = after.case;
+        q += 1;
+    }
+    c
+}
+
+// The numbers of d worked details put back in batch order: each at the place of its index.
+pub fn put_back(numbers: &mut [u64], d: usize)
+    requires { ⌜ d ≤ length (now numbers) ⌝ }
+    ensures { λ _. ⌜ PutBack d (now (numbers .entry)) (now (numbers .exit)) ⌝ }
+{
+    sort(&mut numbers[0..d]);
+}
+
+// The details at positions p up to e, each on no row; no name given has a say there.
+pub fn work_alone(
+    batch: &[u8],
+    numbers: &mut [u64],
+    p: usize,
+    e: usize,
+    state: &[u8],
+    year: u64,
+    list: &[u8],
+)
+    requires { ⌜ (p ≤ e) × (e ≤ length (now numbers)) × ((q : ℕ) → p ≤ q → q < e → indexPart (getD (now numbers) q 0) * 245 + 245 ≤ length (now batch)) ⌝ }
+    ensures { λ _. ⌜ UnderAlone (now (state .entry)) year (now (list .entry)) (now (batch .entry)) (now (numbers .entry)) p e (λ setting.
+        AloneWorked setting (now (batch .entry)) p e (now (numbers .entry)) (now (numbers .exit))) ⌝ }
+{
+    let mut q = p;
+    while q < e {
+        let after = work_tagged(case::no_case(), batch, numbers[q], state, year, list);
+        numbers[q] = after.number;
+        q += 1;
+    }
+}
