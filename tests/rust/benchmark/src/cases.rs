@@ -6,20 +6,20 @@ use generator::records::Record;
 use generator::rng::Rng;
 use generator::text::{blank, digits, put, put_text};
 
-use crate::input::{input, renames, scattered, Input, MOST, STATE, TYPES};
+use crate::input::{input, renames, scattered, Input, MANY, STATE, TYPES};
 
 /// A change on every row, in key order.
 pub fn in_order(name: &str) -> Input {
     let mut rng = Rng::new(29);
-    let details: Vec<Record> = (0..MOST)
+    let details: Vec<Record> = (0..MANY)
         .map(|place| bulk::change(&mut rng, STATE, 2 * place, TYPES))
         .collect();
-    input(name, MOST, MOST, &details, 0.0)
+    input(name, MANY, MANY, &details, 0.0)
 }
 
 /// No rows, adds in falling key order, and a list of all 1,000 codes; the adds have the last one.
 pub fn coded(name: &str) -> Input {
-    let details: Vec<Record> = (0..MOST)
+    let details: Vec<Record> = (0..MANY)
         .rev()
         .map(|number| {
             let mut record = bulk::add(STATE, number);
@@ -27,7 +27,7 @@ pub fn coded(name: &str) -> Input {
             record
         })
         .collect();
-    let mut coded = input(name, 0, MOST, &details, 0.0);
+    let mut coded = input(name, 0, MANY, &details, 0.0);
     coded.list = vec![0; 3000];
     for code in 0..1000 {
         put(&mut coded.list, 3 * code + 1, &digits(code as u64, 3));
@@ -59,7 +59,7 @@ pub const FURTHER: [fn() -> Input; 4] = [
     || half_known("45875 rows, 19660 A, half on rows"),
     || in_order("65535 rows, 65535 changes in key order"),
     || coded("no rows, 65535 adds, 1000 local codes"),
-    || renames("65535 details of one key, half B", MOST, MOST, true),
+    || renames("65535 details of one key, half B", MANY, MANY, true),
 ];
 
 /// Gives a share of the rows, in percent, a name that need not have four letters in front.

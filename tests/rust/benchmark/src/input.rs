@@ -5,7 +5,8 @@ use generator::records::{control, totals, Record};
 use generator::rng::Rng;
 use generator::text::text;
 
-pub const MOST: usize = 65_535;
+/// Rows or details of the cases that name no other number.
+pub const MANY: usize = 65_535;
 pub const STATE: [u8; 2] = [0xD6, 0xC8];
 pub const TYPES: &[u8] = b"MCBLRZST";
 
@@ -92,9 +93,9 @@ pub fn renames(name: &str, rows: usize, count: usize, given: bool) -> Input {
 
 /// 65,535 rows, and keys of rows for find.
 pub fn lookup(keys: usize) -> (Vec<u8>, Vec<Vec<u8>>, [u8; 2]) {
-    let master = bulk::rows(STATE, MOST, 2);
+    let master = bulk::rows(STATE, MANY, 2);
     let mut rng = Rng::new(11);
-    let keys = scattered(&mut rng, MOST)
+    let keys = scattered(&mut rng, MANY)
         .iter()
         .take(keys)
         .map(|place| master[place * 200..place * 200 + 12].to_vec())

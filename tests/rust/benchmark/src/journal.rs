@@ -6,7 +6,7 @@ use std::hint::black_box;
 use generator::journal::enough;
 
 use crate::clock::seconds;
-use crate::input::{adds, changes, falling, Input, MOST};
+use crate::input::{adds, changes, falling, Input, MANY};
 use crate::once::measured_call;
 use crate::{cell, median, run, Buffers};
 
@@ -92,8 +92,8 @@ fn times(input: &Input, repetitions: usize) -> [f64; 4] {
 
 pub fn measured(repetitions: usize) -> Vec<String> {
     let inputs = [
-        changes("65535 rows, 100 changes", MOST, 100),
-        changes("65535 rows, 65535 changes", MOST, MOST),
+        changes("65535 rows, 100 changes", MANY, 100),
+        changes("65535 rows, 65535 changes", MANY, MANY),
         adds("45875 rows, 19660 adds", 45_875, 19_660, false),
         adds(
             "45875 rows, 65535 details, 19660 adds",
@@ -101,7 +101,7 @@ pub fn measured(repetitions: usize) -> Vec<String> {
             19_660,
             true,
         ),
-        falling("no rows, 65535 adds falling", MOST),
+        falling("no rows, 65535 adds falling", MANY),
     ];
     let mut lines = vec![format!(
         "{:<40}{:>22}{:>22}{:>8}{:>22}",

@@ -1,7 +1,8 @@
 //! Times of the library, the reference and the speed engine, each also as a multiple of one
 //! memcpy of 13,107,000 bytes measured in the same run; converting, reading contacts and posting
 //! as multiples of one memcpy of the file or master; the later calls beside one memcpy too. `--quick` leaves out what is predicted to take
-//! more than two seconds; `--once CASE ENGINE` makes one call and measures nothing.
+//! more than two seconds; `--once CASE ENGINE` makes one call and measures nothing; `--scale` measures every call at growing sizes
+//! alone, with `--all` up to the limit, with `--huge` on huge pages, with another word only the calls with it in their name.
 
 mod beside;
 mod cases;
@@ -16,6 +17,7 @@ mod merge;
 mod once;
 mod pages;
 mod posting;
+mod scale;
 mod totals;
 
 use std::hint::black_box;
@@ -24,7 +26,7 @@ use std::time::{Duration, Instant, SystemTime, UNIX_EPOCH};
 use clock::seconds;
 use contacts::{updating, Updates};
 use convert::{converting, Conversions};
-use input::{adds, changes, falling, lookup, renames, Input, MOST};
+use input::{adds, changes, falling, lookup, renames, Input, MANY};
 use posting::{posting, Postings};
 
 const COPIED: usize = 13_107_000;
@@ -92,10 +94,23 @@ impl Buffers {
 
 fn main() {
     let arguments: Vec<String> = std::env::args().skip(1).collect();
-    if let [_, case, engine] = &arguments[..] {
-        return once::once(case, engine);
+    if let [once, case, engine] = &arguments[..] {
+        if once == "--once" {
+            return once::once(case, engine);
+        }
     }
-    measure(arguments.iter().any(|argument| argument == "--quick"));
+    let has = |option: &str| arguments.iter().any(|argument| argument == option);
+    if has("--scale") || has("--all") {
+        return scale::measure(&scale::Wanted {
+            all: has("--all"),
+            huge: has("--huge"),
+            word: arguments
+                .iter()
+                .find(|word| !word.starts_with('-'))
+                .cloned(),
+        });
+    }
+    measure(has("--quick"));
 }
 
 fn measure(quick: bool) {
@@ -112,7 +127,7 @@ fn measure(quick: bool) {
     let mut applied = Vec::new();
     for details in [100, 1000, 8192, 16_384, 32_768, 65_535] {
         let name = format!("65535 rows, {details} changes");
-        applied.push(bench.line(&changes(&name, MOST, details)));
+        applied.push(bench.line(&changes(&name, MANY, details)));
     }
     for count in [8192, 16_384, 32_768, 65_535] {
         let name = format!("no rows, {count} adds falling");
@@ -239,14 +254,14 @@ impl Bench {
 
     /// As many details under one key as on distinct keys, the latter first.
     fn crowded(&mut self) -> Vec<Line> {
-        let name = format!("{MOST} details on distinct keys");
-        let mut lines = vec![self.line(&changes(&name, MOST, MOST))];
+        let name = format!("{MANY} details on distinct keys");
+        let mut lines = vec![self.line(&changes(&name, MANY, MANY))];
         for (given, name) in [
             (true, "of one key, M with names of Bs"),
             (false, "of one key, M with other names"),
         ] {
-            let name = format!("{MOST} {name}");
-            lines.push(self.line(&renames(&name, MOST, MOST, given)));
+            let name = format!("{MANY} {name}");
+            lines.push(self.line(&renames(&name, MANY, MANY, given)));
         }
         lines
     }
@@ -259,19 +274,19 @@ impl Bench {
         for (at, key) in keys.iter().enumerate() {
             let (mut place, mut answer) = (0, 0);
             times[0].push(seconds(|| {
-                answer = library::find(black_box(&master), MOST, key, &mut place);
+                answer = library::find(black_box(&master), MANY, key, &mut place);
             }));
             assert_eq!(answer, 0, "find was refused");
             let mut found = Err(0);
             times[2].push(seconds(|| {
-                found = speed::find(black_box(&master), MOST, key);
+                found = speed::find(black_box(&master), MANY, key);
             }));
             assert_eq!(found, Ok(place), "find differs");
             // The reference is slow: a part of the keys is enough.
             if at < 40 {
                 let mut found = Err(0);
                 times[1].push(seconds(|| {
-                    found = reference::find(black_box(&master), MOST, key);
+                    found = reference::find(black_box(&master), MANY, key);
                 }));
                 assert_eq!(found, Ok(place), "find differs");
             }
@@ -285,7 +300,7 @@ impl Bench {
     fn reconciling(&mut self) -> Line {
         let (master, _, state) = lookup(0);
         let date = generator::text::text("20261115");
-        let mut one = vec![1; 245 * (MOST + 1)];
+        let mut one = vec![1; 245 * (MANY + 1)];
         let mut two = one.clone();
         let mut three = one.clone();
         let mut times = [Vec::new(), Vec::new(), Vec::new()];
@@ -297,7 +312,7 @@ impl Bench {
             times[0].push(seconds(|| {
                 library::reconcile(
                     black_box(&master),
-                    MOST,
+                    MANY,
                     &state,
                     &date,
                     &mut one,
@@ -306,16 +321,16 @@ impl Bench {
             }));
             let mut written = Err(0);
             times[1].push(seconds(|| {
-                written = reference::reconcile(black_box(&master), MOST, &state, &date, &mut two);
+                written = reference::reconcile(black_box(&master), MANY, &state, &date, &mut two);
             }));
             assert!(written == Ok(records) && one == two, "reconcile differs");
             times[2].push(seconds(|| {
-                written = speed::reconcile(black_box(&master), MOST, &state, &date, &mut three);
+                written = speed::reconcile(black_box(&master), MANY, &state, &date, &mut three);
             }));
             assert!(written == Ok(records) && one == three, "reconcile differs");
         }
         Line {
-            name: format!("reconcile, {MOST} records"),
+            name: format!("reconcile, {MANY} records"),
             times: times.map(|times| Some(median(&times))),
         }
     }

@@ -5,12 +5,12 @@ use std::cell::RefCell;
 use generator::bulk;
 
 use crate::beside::{head, line, times};
-use crate::input::{MOST, STATE};
+use crate::input::{MANY, STATE};
 use crate::once::measured_call;
 
 /// Keys of rows, spread over all of them.
 fn keys(count: usize) -> Vec<u8> {
-    let places = (0..count).map(|at| at * MOST / count);
+    let places = (0..count).map(|at| at * MANY / count);
     places
         .flat_map(|place| bulk::key(STATE, 2 * place))
         .collect()
@@ -18,14 +18,14 @@ fn keys(count: usize) -> Vec<u8> {
 
 fn library(master: &[u8], keys: &[u8], places: &mut [u32]) -> u64 {
     let mut comparisons = 0;
-    let answer = library::find_many(master, MOST, keys, places, &mut comparisons);
+    let answer = library::find_many(master, MANY, keys, places, &mut comparisons);
     assert_eq!(answer, 0, "find_many was refused");
     comparisons
 }
 
 /// One call for its instructions.
 pub fn once(count: usize) {
-    let (master, keys) = (bulk::rows(STATE, MOST, 2), keys(count));
+    let (master, keys) = (bulk::rows(STATE, MANY, 2), keys(count));
     let mut places = vec![0; count];
     measured_call(&mut || {
         library(&master, &keys, &mut places);
@@ -33,9 +33,9 @@ pub fn once(count: usize) {
 }
 
 pub fn measured(repetitions: usize) -> Vec<String> {
-    let master = bulk::rows(STATE, MOST, 2);
+    let master = bulk::rows(STATE, MANY, 2);
     let mut lines = vec![head("65535 rows", "the master")];
-    for count in [10, 1000, MOST] {
+    for count in [10, 1000, MANY] {
         let keys = keys(count);
         let (one, two) = (RefCell::new(vec![0; count]), RefCell::new(vec![1; count]));
         let times = times(
@@ -45,7 +45,7 @@ pub fn measured(repetitions: usize) -> Vec<String> {
                 library(&master, &keys, &mut one.borrow_mut());
             },
             || {
-                let done = reference::find_many(&master, MOST, &keys, &mut two.borrow_mut());
+                let done = reference::find_many(&master, MANY, &keys, &mut two.borrow_mut());
                 assert!(done.is_ok());
             },
         );

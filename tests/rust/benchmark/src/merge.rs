@@ -7,7 +7,7 @@ use generator::records::{batch, Record, RECORD};
 use generator::rng::Rng;
 
 use crate::beside::{head, line, times};
-use crate::input::{MOST, STATE};
+use crate::input::{MANY, STATE};
 use crate::once::measured_call;
 
 /// Two batches that have so many details together.
@@ -28,14 +28,14 @@ fn library([first, second]: &[Vec<u8>; 2], out: &mut [u8]) {
 
 /// One call for its instructions.
 pub fn once() {
-    let inputs = two(MOST);
-    let mut out = vec![0; (MOST + 1) * RECORD];
+    let inputs = two(MANY);
+    let mut out = vec![0; (MANY + 1) * RECORD];
     measured_call(&mut || library(&inputs, &mut out));
 }
 
 pub fn measured(repetitions: usize) -> Vec<String> {
     let mut lines = vec![head("two batches into one", "the result")];
-    for count in [1000, MOST] {
+    for count in [1000, MANY] {
         let inputs = two(count);
         let length = (count + 1) * RECORD;
         let (one, two) = (RefCell::new(vec![0; length]), RefCell::new(vec![1; length]));

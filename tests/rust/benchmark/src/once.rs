@@ -9,7 +9,7 @@ use generator::rng::Rng;
 
 use crate::cases::{coded, half_known, in_order, rename};
 use crate::convert::BYTES;
-use crate::input::{adds, changes, falling, lookup, renames, scattered, Input, MOST, STATE};
+use crate::input::{adds, changes, falling, lookup, renames, scattered, Input, MANY, STATE};
 use crate::journal;
 use crate::many;
 use crate::merge;
@@ -39,35 +39,35 @@ pub fn once(case: &str, engine: &str) {
         "find-10-names" => find(10, speed),
         "find-100-names" => find(100, speed),
         "reconcile" => reconcile(speed),
-        "post" => post(scattered(&mut Rng::new(23), MOST), speed),
-        "post-in-order" => post((0..MOST).collect(), speed),
-        "post-one-row" => post(vec![MOST / 2; MOST], speed),
+        "post" => post(scattered(&mut Rng::new(23), MANY), speed),
+        "post-in-order" => post((0..MANY).collect(), speed),
+        "post-one-row" => post(vec![MANY / 2; MANY], speed),
         "contacts" => contacts(speed),
         "to-ebcdic" => convert(Direction::ToEbcdic, speed),
         "to-ascii" => convert(Direction::ToAscii, speed),
-        "journaled-100-changes" => journal::once_apply(&changes(case, MOST, 100)),
-        "journaled-65535-changes" => journal::once_apply(&changes(case, MOST, MOST)),
-        "journaled-65535-adds" => journal::once_apply(&falling(case, MOST)),
-        "take-back-100-changes" => journal::once_take_back(&changes(case, MOST, 100)),
-        "take-back-65535-changes" => journal::once_take_back(&changes(case, MOST, MOST)),
+        "journaled-100-changes" => journal::once_apply(&changes(case, MANY, 100)),
+        "journaled-65535-changes" => journal::once_apply(&changes(case, MANY, MANY)),
+        "journaled-65535-adds" => journal::once_apply(&falling(case, MANY)),
+        "take-back-100-changes" => journal::once_take_back(&changes(case, MANY, 100)),
+        "take-back-65535-changes" => journal::once_take_back(&changes(case, MANY, MANY)),
         "take-back-19660-adds" => journal::once_take_back(&adds(case, 45_875, 19_660, false)),
         "find-10-keys" => many::once(10),
-        "find-65535-keys" => many::once(MOST),
+        "find-65535-keys" => many::once(MANY),
         "merge" => merge::once(),
         "pages" => pages::once(),
         "totals" => totals::once(),
-        "100-changes" => apply(&changes(case, MOST, 100), speed),
-        "65535-changes" => apply(&changes(case, MOST, MOST), speed),
+        "100-changes" => apply(&changes(case, MANY, 100), speed),
+        "65535-changes" => apply(&changes(case, MANY, MANY), speed),
         "32768-changes" => apply(&changes(case, 32_768, 32_768), speed),
         "16384-changes" => apply(&changes(case, 16_384, 16_384), speed),
         "8192-changes" => apply(&changes(case, 8192, 8192), speed),
         "in-order-changes" => apply(&in_order(case), speed),
         "half-known-adds" => apply(&half_known(case), speed),
         "1000-codes" => apply(&coded(case), speed),
-        "65535-adds" => apply(&falling(case, MOST), speed),
+        "65535-adds" => apply(&falling(case, MANY), speed),
         "19660-adds" => apply(&adds(case, 45_875, 19_660, false), speed),
         "mixed" => apply(&adds(case, 45_875, 19_660, true), speed),
-        "one-key" => apply(&renames(case, MOST, MOST, true), speed),
+        "one-key" => apply(&renames(case, MANY, MANY, true), speed),
         _ => panic!("no such case: {case}"),
     }
 }
@@ -84,9 +84,9 @@ fn find(share: usize, speed: bool) {
     let mut place = 0;
     measured_call(&mut || {
         if speed {
-            place = speed::find(&master, MOST, &keys[0]).expect("there is such a row");
+            place = speed::find(&master, MANY, &keys[0]).expect("there is such a row");
         } else {
-            assert_eq!(library::find(&master, MOST, &keys[0], &mut place), 0);
+            assert_eq!(library::find(&master, MANY, &keys[0], &mut place), 0);
         }
     });
 }
@@ -94,14 +94,14 @@ fn find(share: usize, speed: bool) {
 fn reconcile(speed: bool) {
     let (master, _, state) = lookup(0);
     let date = generator::text::text("20261115");
-    let mut out = vec![1; 245 * (MOST + 1)];
+    let mut out = vec![1; 245 * (MANY + 1)];
     let mut records = 0;
     measured_call(&mut || {
         if speed {
-            let done = speed::reconcile(&master, MOST, &state, &date, &mut out);
+            let done = speed::reconcile(&master, MANY, &state, &date, &mut out);
             records = done.expect("there is room");
         } else {
-            let answer = library::reconcile(&master, MOST, &state, &date, &mut out, &mut records);
+            let answer = library::reconcile(&master, MANY, &state, &date, &mut out, &mut records);
             assert_eq!(answer, 0);
         }
     });
@@ -109,7 +109,7 @@ fn reconcile(speed: bool) {
 
 /// Lines on the rows given by their places.
 fn post(places: Vec<usize>, speed: bool) {
-    let mut master = bulk::rows(STATE, MOST, 2);
+    let mut master = bulk::rows(STATE, MANY, 2);
     let mut rng = Rng::new(19);
     let lines: Vec<Collection> = places
         .iter()
@@ -117,13 +117,13 @@ fn post(places: Vec<usize>, speed: bool) {
         .collect();
     let mut file = lines.concat();
     file.extend_from_slice(&total(&lines));
-    let (mut list, mut listed) = (vec![0; MOST], 0);
+    let (mut list, mut listed) = (vec![0; MANY], 0);
     measured_call(&mut || {
         if speed {
-            let done = speed::post(&mut master, MOST, &file, &mut list);
+            let done = speed::post(&mut master, MANY, &file, &mut list);
             listed = done.expect("the file is right");
         } else {
-            let answer = library::post(&mut master, MOST, &file, &mut list, &mut listed);
+            let answer = library::post(&mut master, MANY, &file, &mut list, &mut listed);
             assert_eq!(answer, 0);
         }
     });

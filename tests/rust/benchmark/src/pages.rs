@@ -6,7 +6,7 @@ use generator::bulk;
 use generator::pages::enough;
 
 use crate::beside::{head, line, times};
-use crate::input::{MOST, STATE};
+use crate::input::{MANY, STATE};
 use crate::once::measured_call;
 
 fn library(master: &[u8], out: &mut [u8]) {
@@ -17,14 +17,14 @@ fn library(master: &[u8], out: &mut [u8]) {
 
 /// One call for its instructions.
 pub fn once() {
-    let master = bulk::rows(STATE, MOST, 2);
-    let mut out = vec![0; enough(MOST)];
+    let master = bulk::rows(STATE, MANY, 2);
+    let mut out = vec![0; enough(MANY)];
     measured_call(&mut || library(&master, &mut out));
 }
 
 pub fn measured(repetitions: usize) -> Vec<String> {
     let mut lines = vec![head("case pages", "the master")];
-    for rows in [1000, MOST] {
+    for rows in [1000, MANY] {
         let master = bulk::rows(STATE, rows, 2);
         let length = enough(rows);
         let (one, two) = (RefCell::new(vec![0; length]), RefCell::new(vec![1; length]));

@@ -7,7 +7,7 @@ use generator::posting::{numbered, total, Line as Collection};
 use generator::rng::Rng;
 
 use crate::clock::seconds;
-use crate::input::MOST;
+use crate::input::MANY;
 use crate::{median, print_beside, print_lines, Line, ENGINES};
 
 const STATE: [u8; 2] = [0xD6, 0xC8];
@@ -38,16 +38,16 @@ pub fn posting(repetitions: usize) -> Postings {
     let mut time = |name: String, rows: usize, places: &[usize]| {
         line(name, rows, &lines(places), repetitions, &mut copies)
     };
-    let rising: Vec<usize> = (0..MOST).collect();
+    let rising: Vec<usize> = (0..MANY).collect();
     let orders = [
         ("rising", rising),
-        ("scattered", scattered(MOST)),
-        ("all on one row", vec![MOST / 2; MOST]),
+        ("scattered", scattered(MANY)),
+        ("all on one row", vec![MANY / 2; MANY]),
     ]
     .into_iter()
-    .map(|(order, places)| time(format!("{MOST} rows, {MOST} lines, {order}"), MOST, &places))
+    .map(|(order, places)| time(format!("{MANY} rows, {MANY} lines, {order}"), MANY, &places))
     .collect();
-    let doubled = [8192, 16_384, 32_768, MOST]
+    let doubled = [8192, 16_384, 32_768, MANY]
         .into_iter()
         .map(|count| time(format!("{count}"), count, &scattered(count)))
         .collect();
@@ -76,7 +76,7 @@ fn line(
     let mut times: [Vec<f64>; ENGINES] = Default::default();
     for _ in 0..repetitions {
         let copy = seconds(|| black_box(&mut one[..]).copy_from_slice(black_box(&master)));
-        if rows == MOST {
+        if rows == MANY {
             copies.push(copy);
         }
         two.copy_from_slice(&master);
@@ -117,7 +117,7 @@ impl Postings {
     pub fn print(&self) {
         println!(
             "one memcpy of {} bytes: {:.2} ms; below, x counts such copies",
-            MOST * 200,
+            MANY * 200,
             self.copy * 1e3
         );
         print_lines("posting", &self.orders, self.copy);

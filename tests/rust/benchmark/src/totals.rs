@@ -7,7 +7,7 @@ use generator::records::{batch, Record};
 use generator::rng::Rng;
 
 use crate::beside::{head, line, times};
-use crate::input::{MOST, STATE};
+use crate::input::{MANY, STATE};
 use crate::once::measured_call;
 
 fn input(details: usize) -> Vec<u8> {
@@ -27,7 +27,7 @@ fn library(batch: &[u8]) -> [u64; 4] {
 
 /// One call for its instructions.
 pub fn once() {
-    let batch = input(MOST);
+    let batch = input(MANY);
     measured_call(&mut || {
         library(&batch);
     });
@@ -35,7 +35,7 @@ pub fn once() {
 
 pub fn measured(repetitions: usize) -> Vec<String> {
     let mut lines = vec![head("totals", "the batch")];
-    for count in [1000, MOST] {
+    for count in [1000, MANY] {
         let batch = input(count);
         let (one, two) = (Cell::new([0; 4]), Cell::new(Err(0)));
         let times = times(

@@ -10,12 +10,17 @@ use crate::world::Key;
 pub const SIXTEEN_BITS: usize = 65_536;
 
 /// The SSN and case type of a key number (below some 160 million).
-fn numbered(number: usize) -> (Vec<u8>, u8) {
+fn numbered(number: usize) -> ([u8; 9], u8) {
     let place = number / 2;
     let serial = place % 9999 + 1;
     let group = place / 9999 % 99 + 1;
     let area = place / (9999 * 99) + 100;
-    let ssn = digits((area * 1_000_000 + group * 10_000 + serial) as u64, 9);
+    let mut rest = area * 1_000_000 + group * 10_000 + serial;
+    let mut ssn = [0xF0; 9];
+    for digit in ssn.iter_mut().rev() {
+        *digit += (rest % 10) as u8;
+        rest /= 10;
+    }
     (ssn, if number.is_multiple_of(2) { 0xC1 } else { 0xD5 })
 }
 
@@ -30,7 +35,18 @@ pub fn key(state: [u8; 2], number: usize) -> Key {
 
 /// `count` live rows with the key numbers 0, `step`, 2 × `step` and on.
 pub fn rows(state: [u8; 2], count: usize, step: usize) -> Vec<u8> {
-    let mut master = Vec::with_capacity(count * ROW);
+    let mut master = vec![0; count * ROW];
+    write_rows(&mut master, state, step);
+    master
+}
+
+/// The same into a master, as many as it has places.
+pub fn write_rows(master: &mut [u8], state: [u8; 2], step: usize) {
+    write_rows_from(master, state, 0, step);
+}
+
+/// The same from the row of a place on.
+pub fn write_rows_from(master: &mut [u8], state: [u8; 2], first: usize, step: usize) {
     let mut row = [SPACE; ROW];
     put(&mut row, 1, &state);
     put_text(&mut row, 13, "001CASE");
@@ -44,13 +60,12 @@ pub fn rows(state: [u8; 2], count: usize, step: usize) -> Vec<u8> {
     put_text(&mut row, 187, "20070131");
     row[194] = 0;
     put_text(&mut row, 197, "50");
-    for at in 0..count {
+    for (at, place) in (first..).zip(master.chunks_exact_mut(ROW)) {
         let (ssn, case_type) = numbered(at * step);
         put(&mut row, 3, &ssn);
         row[11] = case_type;
-        master.extend_from_slice(&row);
+        place.copy_from_slice(&row);
     }
-    master
 }
 
 fn start(state: [u8; 2], number: usize, kind: u8) -> Record {

@@ -1,4 +1,4 @@
-//! Files at the library's limits, written into a folder.
+//! Large files, written into a folder.
 
 use std::fs;
 use std::path::Path;
@@ -11,6 +11,7 @@ use generator::rng::Rng;
 use generator::rows::ROW;
 use generator::text::{put_text, text, SPACE};
 
+/// The most rows, details, lines and contact records that a file here has; the library takes more.
 pub const MOST: usize = 65_535;
 pub const STATE: [u8; 2] = [0xD6, 0xC8];
 const TYPES: &[u8] = b"MCBLRZST";

@@ -1,4 +1,4 @@
-//! Files at the library's limits (65,535 rows, details, lines and contact records) through every command of the program. What a
+//! Large files (65,535 rows, details, lines and contact records) through every command of the program. What a
 //! command writes is compared with what the library's call gives over the same bytes; its time with that call's and with reading
 //! and writing the files; its memory with the sizes of the files.
 //!

@@ -4,6 +4,7 @@
 mod batches;
 mod carried_out;
 mod files;
+mod full;
 mod journal;
 mod lengths;
 mod masters;
@@ -22,7 +23,7 @@ const MOST: usize = 16_777_215;
 /// The memory that all of this may take, in MB.
 const MOST_MEMORY: u64 = 2048;
 
-const CASES: [(&str, fn()); 16] = [
+const CASES: [(&str, fn()); 18] = [
     ("3: rows of every call over a master", masters::rows),
     ("5: records of a batch", batches::records),
     ("9: rows and A records", batches::rows_and_adds),
@@ -44,6 +45,8 @@ const CASES: [(&str, fn()); 16] = [
         lengths::refused,
     ),
     ("four billion bytes converted", lengths::converted),
+    ("a full master read", full::read),
+    ("3 and 9 over a full master", full::refused),
     ("places of four groups in a journal", journal::four_groups),
 ];
 

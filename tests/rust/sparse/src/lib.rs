@@ -1,5 +1,9 @@
 //! Gigabytes to lend that take little memory: zeros whose pages are there once they are written, and
-//! records over and over, all on the same pages. Linux alone.
+//! records over and over, all on the same pages; and bytes made as they are read. Linux alone.
+
+mod made;
+
+pub use made::{Made, Make};
 
 use std::ffi::c_void;
 use std::ops::{Deref, DerefMut};
@@ -63,14 +67,20 @@ pub struct Mapping {
 impl Mapping {
     /// Zeros. A page takes memory once it is written.
     pub fn zeros(length: usize) -> Mapping {
+        let mapping = Mapping::small_pages(length);
+        // Reading is faster with huge pages; it doesn't matter where they aren't granted.
+        // SAFETY: the mapping just made.
+        unsafe { madvise(mapping.start.cast(), mapping.mapped, HUGE_PAGES) };
+        mapping
+    }
+
+    /// Zeros on pages of the usual size.
+    pub fn small_pages(length: usize) -> Mapping {
         let mapped = length.next_multiple_of(PAGE).max(PAGE);
         let flags = PRIVATE | ANONYMOUS | NO_RESERVE;
         // SAFETY: a fresh mapping that nothing else uses.
         let start = unsafe { mmap(ptr::null_mut(), mapped, READ_AND_WRITE, flags, -1, 0) };
         assert!(start as isize != -1, "no {length} bytes to map");
-        // Reading is faster so; it doesn't matter where this isn't granted.
-        // SAFETY: the mapping just made.
-        unsafe { madvise(start, mapped, HUGE_PAGES) };
         Mapping {
             start: start.cast(),
             length,
@@ -100,16 +110,27 @@ impl Mapping {
         mapping
     }
 
+    /// The bytes as numbers of 64 bits; some at the end may be left over.
+    pub fn numbers(&mut self) -> &mut [u64] {
+        // SAFETY: a page's start is aligned, and all bytes are numbers.
+        unsafe { self.align_to_mut::<u64>().1 }
+    }
+
+    /// The bytes as numbers of 32 bits; some at the end may be left over.
+    pub fn short_numbers(&mut self) -> &mut [u32] {
+        // SAFETY: as above.
+        unsafe { self.align_to_mut::<u32>().1 }
+    }
+
     /// Puts the pages of one block in the place of so many blocks.
     fn share(&mut self, block: usize, blocks: usize) {
         if blocks == 0 {
             return;
         }
-        // SAFETY: the name ends with a zero; the places are inside this mapping, which alone they
-        // replace, and the file is as long as what is mapped of it.
+        let file = file_of(block);
+        // SAFETY: the places are inside this mapping, which alone they replace, and the file is as long
+        // as what is mapped of it.
         unsafe {
-            let file = memfd_create(c"records".as_ptr(), 0);
-            assert!(file >= 0 && ftruncate(file, block as c_long) == 0);
             for at in 0..blocks {
                 let place = self.start.add(at * block).cast();
                 let start = mmap(place, block, READ_AND_WRITE, SHARED | FIXED, file, 0);
@@ -119,6 +140,19 @@ impl Mapping {
         }
         self.shared = block;
         SHARED_BYTES.fetch_add(block, Ordering::Relaxed);
+    }
+}
+
+/// A file of zeros in memory.
+fn file_of(length: usize) -> c_int {
+    // SAFETY: the name ends with a zero.
+    unsafe {
+        let file = memfd_create(c"bytes".as_ptr(), 0);
+        assert!(
+            file >= 0 && ftruncate(file, length as c_long) == 0,
+            "no file of {length} bytes"
+        );
+        file
     }
 }
 
