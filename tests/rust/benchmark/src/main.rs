@@ -100,13 +100,19 @@ fn main() {
         }
     }
     let has = |option: &str| arguments.iter().any(|argument| argument == option);
-    if has("--scale") || has("--all") {
+    let behind = |option: &str| {
+        let at = arguments.iter().position(|argument| argument == option)?;
+        arguments.get(at + 1)
+    };
+    if ["--scale", "--all", "--size"].into_iter().any(has) {
+        let size = behind("--size");
         return scale::measure(&scale::Wanted {
             all: has("--all"),
             huge: has("--huge"),
+            size: size.map(|size| size.parse().expect("--size takes a number")),
             word: arguments
                 .iter()
-                .find(|word| !word.starts_with('-'))
+                .find(|word| !word.starts_with('-') && Some(*word) != size)
                 .cloned(),
         });
     }

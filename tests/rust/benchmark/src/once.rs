@@ -58,6 +58,8 @@ pub fn once(case: &str, engine: &str) {
         "totals" => totals::once(),
         "100-changes" => apply(&changes(case, MANY, 100), speed),
         "65535-changes" => apply(&changes(case, MANY, MANY), speed),
+        "1048576-changes" => apply(&changes(case, 1_048_576, 1_048_576), speed),
+        "262144-changes" => apply(&changes(case, 262_144, 262_144), speed),
         "32768-changes" => apply(&changes(case, 32_768, 32_768), speed),
         "16384-changes" => apply(&changes(case, 16_384, 16_384), speed),
         "8192-changes" => apply(&changes(case, 8192, 8192), speed),

@@ -1,6 +1,6 @@
 //! Every call at growing sizes: as many rows as details, the cost of each in nanoseconds, beside the speed engine and one memcpy of all
-//! that the call reads and writes. `--scale` measures this alone, `--all` with 16,777,215 too, which takes some 12 GB; `--huge` lends the
-//! buffers on huge pages.
+//! that the call reads and writes. `--scale` measures this alone, `--all` with 16,777,215 too, which takes some 12 GB, `--size N` another
+//! size alone; `--huge` lends the buffers on huge pages.
 
 mod applied;
 mod files;
@@ -19,8 +19,9 @@ const GROWTH: f64 = 1.6;
 type Call = fn(&Setting) -> Cost;
 
 /// What is measured, and what its cost is divided by.
-const CALLS: [(&str, &str, Call); 12] = [
+const CALLS: [(&str, &str, Call); 13] = [
     ("apply, changes", "detail", applied::changes),
+    ("apply, changes in key order", "detail", applied::in_order),
     ("apply, changes, journal", "detail", applied::journaled),
     ("apply, adds", "detail", applied::adds),
     ("apply, mixed", "detail", applied::mixed),
@@ -38,18 +39,29 @@ const CALLS: [(&str, &str, Call); 12] = [
 pub struct Wanted {
     pub all: bool,
     pub huge: bool,
+    /// This size alone.
+    pub size: Option<usize>,
     /// Only calls with this in their name.
     pub word: Option<String>,
+}
+
+impl Wanted {
+    fn sizes(&self) -> Vec<usize> {
+        match self.size {
+            Some(size) => vec![size],
+            None => SIZES.into_iter().chain(self.all.then_some(MOST)).collect(),
+        }
+    }
 }
 
 pub fn measure(wanted: &Wanted) {
     println!("machine: {}", crate::machine());
     println!("date: {}", crate::date());
     let pages = if wanted.huge { "huge" } else { "usual" };
-    println!("buffers on {pages} pages; nanoseconds of the thread's processor time, medians");
+    println!("buffers on {pages} pages; nanoseconds of the thread's processor time, the least of some runs");
     println!();
     println!(
-        "{:<26}{:>10}{:>8}{:>10}{:>10}{:>10}{:>11}{:>11}",
+        "{:<30}{:>10}{:>8}{:>10}{:>10}{:>10}{:>11}{:>11}",
         "call", "size", "per", "library", "speed", "memcpy", "lib/speed", "lib/memcpy"
     );
     for (name, unit, call) in CALLS {
@@ -60,8 +72,9 @@ pub fn measure(wanted: &Wanted) {
         {
             continue;
         }
-        let sizes = SIZES.into_iter().chain(wanted.all.then_some(MOST));
-        let costs: Vec<(usize, Cost)> = sizes
+        let costs: Vec<(usize, Cost)> = wanted
+            .sizes()
+            .into_iter()
             .map(|size| {
                 let cost = call(&Setting::new(size, wanted.huge));
                 print(name, unit, size, &cost);
@@ -81,7 +94,7 @@ fn print(name: &str, unit: &str, size: usize, cost: &Cost) {
         format!("{:.2}", cost.library / time)
     });
     println!(
-        "{name:<26}{size:>10}{unit:>8}{:>10.1}{speed:>10}{:>10.1}{beside:>11}{:>11.2}",
+        "{name:<30}{size:>10}{unit:>8}{:>10.1}{speed:>10}{:>10.1}{beside:>11}{:>11.2}",
         each(cost.library),
         each(cost.copy),
         cost.library / cost.copy
@@ -101,7 +114,7 @@ fn print_growth(costs: &[(usize, Cost)]) {
     let copy = growth(low.copy, high.copy);
     let above = if own > GROWTH { " (above 1.6)" } else { "" };
     println!(
-        "{:<26}growth {FROM} to {TO}: library {own:.2}{above}{speed}, memcpy {copy:.2}",
+        "{:<30}growth {FROM} to {TO}: library {own:.2}{above}{speed}, memcpy {copy:.2}",
         ""
     );
 }

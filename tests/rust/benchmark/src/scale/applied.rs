@@ -145,6 +145,17 @@ pub fn changes(setting: &Setting) -> Cost {
     cost(setting, lent, |_| {})
 }
 
+/// The same in key order.
+pub fn in_order(setting: &Setting) -> Cost {
+    let master = setting.master(setting.size, setting.size);
+    let batch = setting.batch((0..setting.size).map(|place| 2 * place));
+    cost(
+        setting,
+        Lent::new(setting, master, setting.size, batch),
+        |_| {},
+    )
+}
+
 /// No rows, and adds in falling order of key.
 pub fn adds(setting: &Setting) -> Cost {
     let batch = setting.batch((0..setting.size).rev().map(|number| 2 * number + 1));

@@ -9,13 +9,12 @@ use sparse::Mapping;
 
 use crate::clock::seconds;
 use crate::input::{scattered, STATE, TYPES};
-use crate::median;
 
 pub const ROW: usize = 200;
 /// Copies go to a buffer of this length over and over; it is larger than the caches.
 const TARGET: usize = 256 << 20;
 
-/// Medians in seconds, of the whole call.
+/// Seconds of the whole call, the least of some runs: other work on the machine only adds to it.
 pub struct Cost {
     pub library: f64,
     pub speed: Option<f64>,
@@ -88,7 +87,7 @@ impl Setting {
         self.batch(places.into_iter().map(|place| 2 * place))
     }
 
-    /// Calls in turn, each behind `restore`: the medians of the library, the speed engine and the copy.
+    /// Calls in turn, each behind `restore`: the least times of the library, the speed engine and the copy.
     pub fn cost<T>(
         &self,
         lent: &mut T,
@@ -109,8 +108,7 @@ impl Setting {
             let buffers = moved(lent);
             series[2].push(seconds(|| copy(&buffers, &mut target)));
         }
-        let [library, speed, copy] =
-            series.map(|times| (!times.is_empty()).then(|| median(&times)));
+        let [library, speed, copy] = series.map(|times| times.into_iter().min_by(f64::total_cmp));
         Cost {
             library: library.unwrap_or(0.0),
             speed,
