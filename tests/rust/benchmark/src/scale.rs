@@ -19,15 +19,21 @@ const GROWTH: f64 = 1.6;
 type Call = fn(&Setting) -> Cost;
 
 /// What is measured, and what its cost is divided by.
-const CALLS: [(&str, &str, Call); 13] = [
+const CALLS: [(&str, &str, Call); 15] = [
     ("apply, changes", "detail", applied::changes),
     ("apply, changes in key order", "detail", applied::in_order),
     ("apply, changes, journal", "detail", applied::journaled),
     ("apply, adds", "detail", applied::adds),
     ("apply, mixed", "detail", applied::mixed),
+    (
+        "apply, mixed in key order",
+        "detail",
+        applied::mixed_in_order,
+    ),
     ("find", "row", looked::find),
     ("reconcile", "row", looked::reconcile),
     ("post", "line", files::post),
+    ("post, in key order", "line", files::post_in_order),
     ("pages", "row", looked::pages),
     ("find_many", "key", looked::find_many),
     ("take_back", "detail", applied::take_back),

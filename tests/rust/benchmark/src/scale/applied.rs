@@ -165,6 +165,20 @@ pub fn adds(setting: &Setting) -> Cost {
 
 /// Rows of seven tenths, a change on each and adds between them, scattered.
 pub fn mixed(setting: &Setting) -> Cost {
+    let (rows, mut numbers, mut rng) = mixed_numbers(setting);
+    rng.shuffle(&mut numbers);
+    mixed_cost(setting, rows, numbers)
+}
+
+/// The same in key order.
+pub fn mixed_in_order(setting: &Setting) -> Cost {
+    let (rows, mut numbers, _) = mixed_numbers(setting);
+    numbers.sort_unstable();
+    mixed_cost(setting, rows, numbers)
+}
+
+/// The rows, and the key numbers of the details.
+fn mixed_numbers(setting: &Setting) -> (usize, Vec<usize>, Rng) {
     let rows = setting.size * 7 / 10;
     let mut rng = Rng::new(7);
     let mut numbers = scattered(&mut rng, rows);
@@ -173,7 +187,10 @@ pub fn mixed(setting: &Setting) -> Cost {
         *number = 2 * *number + 1;
     }
     numbers.extend((0..rows).map(|place| 2 * place));
-    rng.shuffle(&mut numbers);
+    (rows, numbers, rng)
+}
+
+fn mixed_cost(setting: &Setting, rows: usize, numbers: Vec<usize>) -> Cost {
     let master = setting.master(rows, setting.size);
     let lent = Lent::new(setting, master, rows, setting.batch(numbers.into_iter()));
     let restore = |lent: &mut Lent| bulk::write_rows(&mut lent.master[..rows * ROW], STATE, 2);

@@ -20,11 +20,19 @@ struct Posting {
 
 /// A line for every row, scattered.
 pub fn post(setting: &Setting) -> Cost {
+    posting(setting, scattered(&mut Rng::new(23), setting.size))
+}
+
+/// The same in key order.
+pub fn post_in_order(setting: &Setting) -> Cost {
+    posting(setting, (0..setting.size).collect())
+}
+
+fn posting(setting: &Setting, places: Vec<usize>) -> Cost {
     let mut rng = Rng::new(19);
     let mut file = setting.zeros((setting.size + 1) * LINE);
     let (records, _) = file.as_chunks_mut::<LINE>();
     if let Some((last, lines)) = records.split_last_mut() {
-        let places = scattered(&mut Rng::new(23), setting.size);
         for (line, place) in lines.iter_mut().zip(places) {
             *line = numbered(&mut rng, STATE, 2 * place);
         }
