@@ -78,7 +78,7 @@ fn posting(setting: &Setting, places: Vec<usize>) -> Cost {
     };
     let restore = |lent: &mut Posting| bulk::write_rows(&mut lent.master, STATE, 2);
     setting.cost(&mut lent, restore, library, Some(&speed), |lent| {
-        vec![&lent.master, &lent.file]
+        vec![&lent.master, &lent.file, &lent.list]
     })
 }
 
@@ -93,7 +93,16 @@ pub fn merge(setting: &Setting) -> Cost {
         let mut records = 0;
         assert_eq!(library::merge(&first, &second, out, &mut records), 0);
     };
-    setting.cost(&mut out, |_| {}, library, None, |out| vec![out])
+    setting.cost(
+        &mut out,
+        |_| {},
+        library,
+        None,
+        |out| {
+            // What is read comes to as many bytes as what is written.
+            vec![out, out]
+        },
+    )
 }
 
 pub fn totals(setting: &Setting) -> Cost {

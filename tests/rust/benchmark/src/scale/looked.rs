@@ -14,6 +14,7 @@ struct Lent {
     master: Mapping,
     rows: usize,
     out: Mapping,
+    keys: Mapping,
     /// What the call before wrote, in short.
     told: u64,
 }
@@ -24,6 +25,7 @@ impl Lent {
             master: setting.master(setting.size, setting.size),
             rows: setting.size,
             out: setting.filled(out),
+            keys: setting.zeros(0),
             told: 0,
         }
     }
@@ -35,7 +37,7 @@ impl Lent {
     }
 
     fn moved(&self) -> Vec<&[u8]> {
-        vec![&self.master, &self.out]
+        vec![&self.master, &self.keys, &self.out]
     }
 }
 
@@ -96,17 +98,20 @@ pub fn pages(setting: &Setting) -> Cost {
 /// The key of every row.
 pub fn find_many(setting: &Setting) -> Cost {
     let mut lent = Lent::new(setting, 4 * setting.size);
-    let mut keys = setting.filled(12 * setting.size);
-    for (number, key) in keys.chunks_exact_mut(12).enumerate() {
+    lent.keys = setting.filled(12 * setting.size);
+    for (number, key) in lent.keys.chunks_exact_mut(12).enumerate() {
         key.copy_from_slice(&bulk::key(STATE, 2 * number));
     }
     let library = |lent: &mut Lent| {
         let Lent {
-            master, rows, out, ..
+            master,
+            rows,
+            out,
+            keys,
+            ..
         } = lent;
-        let mut comparisons = 0;
-        let answer =
-            library::find_many(master, *rows, &keys, out.short_numbers(), &mut comparisons);
+        let (places, mut comparisons) = (out.short_numbers(), 0);
+        let answer = library::find_many(master, *rows, keys, places, &mut comparisons);
         assert_eq!(answer, 0);
         lent.tell(comparisons);
     };
