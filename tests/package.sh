@@ -55,10 +55,12 @@ listing() {
 
 expected() {
     [ ${#with[@]} -ne 0 ] || echo '755 bin/fantanolive'
-    printf '644 include/%s\n' fantanolive.h fantanolive_text.h
+    printf '644 include/%s\n' fantanolive.h fantanolive_layout.h fantanolive_text.h
     printf '%s\n' '644 lib/libfantanolive.a' "$soname lib/libfantanolive.so" "libfantanolive.so.$version lib/$soname" "755 lib/libfantanolive.so.$version"
     printf '644 lib/pkgconfig/%s.pc\n' fantanolive-static fantanolive
     printf '644 share/doc/fantanolive/%s\n' CHANGELOG.md MANUAL.md
+    echo '644 share/fantanolive/layouts.json'
+    for file in package/cobol/*.cpy; do echo "644 share/fantanolive/cobol/${file##*/}"; done
     for file in bindings/python/fantanolive/*.py; do echo "644 share/fantanolive/python/fantanolive/${file##*/}"; done
 }
 

@@ -5,6 +5,10 @@
 
 mod c;
 mod calls;
+mod code_page;
+mod fields;
+#[rustfmt::skip]
+pub mod layouts;
 mod refusal;
 mod sizes;
 mod texts;
@@ -15,6 +19,7 @@ pub use calls::{
     pages, post, reconcile, records_to, take_back, to_ascii, to_ebcdic, totals, ContactCounts,
     Counts, Totals,
 };
+pub use fields::{Field, Kind, Record, Unfit};
 pub use refusal::{NotConverted, Refusal};
 pub use sizes::{
     journal_size, pages_size, CONTACT, DATE, KEY, LINE, LOCAL_CODE, MAX_CONTACTS, MAX_RECORDS,
