@@ -1,6 +1,7 @@
 /* fantanolive.h: the C interface of the Fantanolive library, libfantanolive.a and libfantanolive.so.
  *
- * The library keeps a state's copy of the federal offset case master. It has sixteen calls:
+ * The library keeps a state's copy of the federal offset case master: the child support cases that the state has submitted,
+ * a row each. It has sixteen calls, and fantanolive_version:
  *
  *     fantanolive_apply            applies a submission batch to a master
  *     fantanolive_apply_journaled  the same, with a journal of what the batch changes
@@ -19,8 +20,21 @@
  *     fantanolive_contacts_codes   writes the local codes of a state in such a table
  *     fantanolive_records_to       writes the records that lead from a case's row to a wanted row
  *
- * What the words here mean (row, record, detail, key, sound, code, faulty) and which columns the fields have is said in
- * the manual, MANUAL.md, and in documents 01 and 02 and their charts. Columns count from 1: column 1 is byte 0.
+ * Words. A master is rows one behind the other, without line ends; so are the records of a batch and of every other file.
+ * Columns count from 1: column 1 is byte 0. fantanolive_layout.h has the fields of each row and record with their columns,
+ * and the manual, MANUAL.md, what they hold.
+ *   state      one of the table of 54: AK AL AR AZ CA CO CT DC DE FL GA GU HI IA ID IL IN KS KY LA MA MD ME MI MN MO MS
+ *              MT NC ND NE NH NJ NM NV NY OH OK OR PA PR RI SC SD TN TX UT VA VI VT WA WI WV WY
+ *   key        a case's state, SSN and case type (A or N), twelve bytes. It is sound where the state is in the table, the
+ *              SSN nine digits that may have been issued (code 02 in fantanolive_text.h) and the case type A or N
+ *   row        what a master holds of a case. Rows stand in strictly rising byte order of key. A row is deleted where its
+ *              status (column 196) is D, else live; a deleted one keeps its place. It is sound where its key is, columns
+ *              13-15, 66-73, 79-90 and 197-198 are digits, 31-34 letters or hyphens with only spaces behind and at least
+ *              one letter, 196 is D exactly where dollars and cents are zero and else a space, and 199-200 are spaces
+ *   detail     a record of a batch but the last, which is the control record
+ *   code       what a detail gets for a fault: errors 1 to 18, by which it is rejected and changes nothing, and warnings 51
+ *              and 52, with which it is accepted
+ *   faulty     a contact record that breaks a rule of fantanolive_contacts_update
  *
  * Bytes. All text is EBCDIC: letters C1-C9, D1-D9, E2-E9, digits F0-F9, space 40, hyphen 60, comma 6B (hexadecimal).
  * A batch typed in ASCII is turned into EBCDIC by fantanolive_to_ebcdic first; the other calls convert nothing.
@@ -70,7 +84,7 @@ extern "C" {
 #endif
 
 /* The version of the library that this header goes with, as text and as numbers. CHANGELOG.md says how versions are
- * counted. */
+ * counted; fantanolive_version tells that of the library which is there at run time. */
 #define FANTANOLIVE_VERSION "2.0.0"
 #define FANTANOLIVE_VERSION_MAJOR 2
 #define FANTANOLIVE_VERSION_MINOR 0
@@ -80,7 +94,7 @@ extern "C" {
 #define FANTANOLIVE_ROW 200
 #define FANTANOLIVE_RECORD 245
 
-/* Size in bytes of a contact record (Chart A-3), in a file and in a table. */
+/* Size in bytes of a contact record, in a file and in a table. */
 #define FANTANOLIVE_CONTACT 220
 
 /* Size in bytes of a record of a collection file. */
@@ -201,18 +215,18 @@ extern "C" {
 
 /* fantanolive_apply: applies a batch to a master.
  *
- * The one-case machine of document 01, as document 02 changes it, runs on each detail in turn. Accepted details change
- * the rows, or add one; every detail gets its verdict, and every detail with a code its record in the reject file. The
- * name (columns 30-33) of a detail of a type other than A and B matches that of the row, or that of a B record of the
- * same key, wherever it stands in the batch, that has none of errors 01 to 06 and 18. Where all differ, and none of 01
- * to 05 and 09 holds, the detail gets error 17 and its reject record the four characters stored. Where the exclusion
- * field of an A or R names ADM, the set stored has RET, VEN and SAL as well; a set that is stored stays as it is.
+ * Each detail is judged in turn against the row of its key as the details before it left it. Accepted details change the
+ * row by their type (column 73), or add one; every detail gets its verdict, and every detail with a code its record in the
+ * reject file. The manual says what each type does, and fantanolive_text.h what each code means. The name (columns 30-33) of
+ * a detail of a type other than A and B matches that of the row, or that of a B record of the same key, wherever it stands
+ * in the batch, that has none of errors 01 to 06 and 18. Where all differ, and none of 01 to 05 and 09 holds, the detail
+ * gets error 17 and its reject record the four characters stored. Where the exclusion field of an A or R names ADM, the set
+ * stored has RET, VEN and SAL as well; a set that is stored stays as it is.
  *
  * master, master_length   The rows, 200 bytes each, and the space for new ones. The length is in bytes and a multiple of
  *                         200. Bytes behind the last row may hold anything.
  * rows                    How many rows the master has at entry, deleted ones included; 0 for an empty master.
- * batch, batch_length     The records, 245 bytes each: the details, then the control record (Chart A-2). The length is in
- *                         bytes. A batch of a control record alone is carried out.
+ * batch, batch_length     The records, 245 bytes each: the details, then the control record. The length is in bytes. A batch of a control record alone is carried out.
  * locals, locals_length   The list of local codes: three digits each, strictly rising, nothing between them. The length is
  *                         in bytes; 0 for an empty list.
  * year                    The process year, 1900 to 9999.
@@ -240,8 +254,8 @@ extern "C" {
  *   0   FANTANOLIVE_DONE            carried out
  *
  * Written when carried out: the rows, result[FANTANOLIVE_ROWS] of them, in rising order of key, with new rows put in at
- * their place; a verdict per detail in batch order; a reject record (Chart 0-1) per detail whose verdict is not 0, in
- * batch order, and behind them the control record of Chart 0-2; the five numbers of result.
+ * their place; a verdict per detail in batch order; a reject record per detail whose verdict is not 0, in batch
+ * order, and behind them the control record of the reject file; the five numbers of result.
  * Kept: the bytes of master behind the last row, of verdicts behind the last verdict and of rejects behind the control
  * record; batch and locals. */
 uint64_t fantanolive_apply(
@@ -315,8 +329,7 @@ uint64_t fantanolive_take_back(
  *
  * They are the totals that refusals 7 and 8 of fantanolive_apply hold against the control record: with them written into
  * its columns 6-14, 15-23, 24-34 and 35-45 (9, 9, 11 and 11 digits) a control record has none of the two, where each amount
- * has at most eleven digits; a larger one no control record can state. All records but the last are details. Documents 01
- * and 02 have no such call.
+ * has at most eleven digits; a larger one no control record can state. All records but the last are details.
  *
  * batch, batch_length     The records, 245 bytes each: the details, then a last record, which may be anything. The length is
  *                         in bytes.
@@ -435,8 +448,8 @@ uint64_t fantanolive_find_many(
  *   11  FANTANOLIVE_SHORT_OUTPUT    out_length below 245 x (records + 1)
  *   0   FANTANOLIVE_DONE            carried out
  *
- * Written when carried out: a REC record (Chart 0-6) per live row of the state, in order of key, and behind them the RCT
- * record (Chart 0-7); *records, the number of REC records, which may be 0.
+ * Written when carried out: a REC record per live row of the state, in order of key, and behind them the RCT record;
+ * *records, the number of REC records, which may be 0.
  * Kept: the bytes of out behind the RCT record; all else. */
 uint64_t fantanolive_reconcile(
     const uint8_t *master, size_t master_length, size_t rows,
@@ -490,7 +503,7 @@ uint64_t fantanolive_add_cents(uint8_t *master, size_t master_length, size_t row
 
 /* fantanolive_post: posts a weekly collection file to a master, line by line in file order.
  *
- * A line (Chart 0-4) goes to the row with the key of its columns 1-2, 6-14 and 107. Its collection (76-86) lowers the
+ * A line goes to the row with the key of its columns 1-2, 6-14 and 107. Its collection (76-86) lowers the
  * row's balance, never below zero; its adjustment (87-97) raises it. A balance of zero deletes the case. An amount is ten
  * digits and a last digit F0-F9 or C0-C9, in cents; else it is bad. A line is listed, and changes nothing, where an amount
  * is bad, both are above zero, the key has no live row at the line's turn, or the balance would pass 99,999,999.99.
@@ -498,7 +511,7 @@ uint64_t fantanolive_add_cents(uint8_t *master, size_t master_length, size_t row
  * master, master_length   The rows, 200 bytes each. The length is in bytes and a multiple of 200. Bytes behind the last row
  *                         may hold anything.
  * rows                    How many rows the master has, deleted ones included. No row is added.
- * file, file_length       The lines, 240 bytes each, then the last record (Chart 0-5). The length is in bytes. A last record
+ * file, file_length       The lines, 240 bytes each, then the last record. The length is in bytes. A last record
  *                         alone is carried out.
  * lines, lines_length     Where the numbers of the listed lines go, the first line being 1. The length counts numbers, not
  *                         bytes; at least one per line, however few are listed.
@@ -559,7 +572,7 @@ uint64_t fantanolive_to_ascii(
  *
  * The records of the file act in file order. A good one replaces whole the table's record of its state and code (columns
  * 1-5), or else is put in at its place; of several good ones of a key the last stays. A faulty one is skipped, and its
- * number goes to the list. Code 000 is the state's own. A record is good by Chart A-3 where its state is in the table of
+ * number goes to the list. Code 000 is the state's own. A record is good where its state is in the table of
  * 54, its code three digits, telephone 1 of the form (301) 555-1212, telephone 2 of this form or blank, each extension
  * digits with only spaces behind or blank, CHILD SUPPORT or FAMILY SUPPORT in the agency name, neither IRS nor FMS a
  * whole run of letters in the name or an address line, one of lines 1 to 3 and line 4 not blank, and the filler blank.
@@ -655,6 +668,10 @@ uint64_t fantanolive_records_to(
     const uint8_t *locals, size_t locals_length,
     uint8_t *out, size_t out_length,
     uint64_t *records);
+
+/* The version of the library that the program was linked with or has loaded, such as "2.0.0". The text is
+ * constant, ends with a NUL, and stays valid as long as the library is loaded. */
+const char *fantanolive_version(void);
 
 #ifdef __cplusplus
 }

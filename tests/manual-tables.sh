@@ -134,6 +134,8 @@ compare 'names of definitions and theorems' "$cited" "$(comm -12 <(echo "$cited"
 table=$(sed -n '/^stateTable =/,/^$/p' crates/layout/specs/States.antt | grep -oE '\([^)]*\)' | while read -r state; do tr -cd '[:upper:]' <<<"$state" && echo; done)
 shown=$(section '## Words' | tr '\n' ' ' | sed -n 's/.*\*\*State\.\*\* One of the table of 54: \([A-Z ]*\)\..*/\1/p' | tr ' ' '\n')
 compare 'state table' "$shown" "$table"
+shown=$(sed -n '/^ \*   state  /,/^ \*   key  /p' include/fantanolive.h | grep -oE '\b[A-Z]{2}\b' | grep -v '^A$')
+compare 'state table of the header' "$shown" "$table"
 compare version "$(sed -n 's/^Version \([0-9.]*\)\. .*/\1/p' "$manual")" "$(bin/version)"
 
 [ -z "$failed" ] || exit 1

@@ -36,7 +36,7 @@ fi
 
 # --- The libraries.
 
-declared=$(sed -n 's/^uint64_t \(fantanolive_[a-z_]*\)(.*/\1/p' include/fantanolive.h | sort)
+declared=$(sed -n 's/^\(uint64_t \|const char \*\)\(fantanolive_[a-z_]*\)(.*/\2/p' include/fantanolive.h | sort)
 want 'names that the archive shows' "$(nm -g --defined-only target/staticlib/libfantanolive.a | awk 'NF == 3 { print $3 }' | sort)" "$declared"
 want 'names that the library shows' "$(nm -D --defined-only "$library" | awk '{ print $3 }' | sort)" "$declared"
 needed=$(nm -D --undefined-only "$library" | awk '$1 == "U" { sub("@.*", "", $2); print $2 }' | tr '\n' ' ')
@@ -57,6 +57,7 @@ expected() {
     [ ${#with[@]} -ne 0 ] || echo '755 bin/fantanolive'
     printf '644 include/%s\n' fantanolive.h fantanolive_layout.h fantanolive_text.h
     printf '%s\n' '644 lib/libfantanolive.a' "$soname lib/libfantanolive.so" "libfantanolive.so.$version lib/$soname" "755 lib/libfantanolive.so.$version"
+    printf '644 lib/cmake/fantanolive/%s.cmake\n' fantanolive-config-version fantanolive-config
     printf '644 lib/pkgconfig/%s.pc\n' fantanolive-static fantanolive
     printf '644 share/doc/fantanolive/%s\n' CHANGELOG.md MANUAL.md
     echo '644 share/fantanolive/layouts.json'
@@ -148,6 +149,42 @@ if command -v pkg-config >/dev/null; then
     try_example 'under DESTDIR'
 else
     echo 'skipped: pkg-config is not installed'
+fi
+
+# --- The commands of the manual, as they are pasted: the package in a folder fantanolive of the home folder.
+
+# pasted HEADING N: the Nth block of indented lines below a heading of the manual
+pasted() {
+    awk -v heading="$1" -v wanted="$2" '/^#/ { inside = $0 == heading } !inside { next } /^    / { if (!block) found++; block = 1; if (found == wanted) print substr($0, 5); next } { block = 0 }' docs/MANUAL.md
+}
+
+home=$work/home
+mkdir -p "$home"
+bin/install "${with[@]}" "$home/fantanolive" >/dev/null
+cp examples/c/apply.c "$home/program.c"
+# in_home COMMANDS: runs them in the home folder, with nothing but it
+in_home() {
+    (cd -- "$home" && env -i HOME="$home" PATH="$PATH" bash -euc "$1") 2>&1
+}
+if command -v pkg-config >/dev/null; then
+    want 'the C commands of the manual' "$(in_home "$(pasted '### C' 1)" | diff examples/c/expected.txt - && echo same)" same
+    want 'without an rpath' "$(in_home "$(pasted '### C' 1 | sed 's/ -Wl,-rpath[^ ]*//')" | grep -c "$soname: cannot open shared object file")" 1
+    want 'with LD_LIBRARY_PATH' "$(in_home 'LD_LIBRARY_PATH=$HOME/fantanolive/lib ./program' | diff examples/c/expected.txt - && echo same)" same
+    want 'the archive, by the manual' \
+        "$(in_home "export PKG_CONFIG_PATH=$home/fantanolive/lib/pkgconfig; $(pasted '### C' 2); ./program" | diff examples/c/expected.txt - && echo same)" same
+fi
+printf '#include <stdio.h>\n#include <fantanolive.h>\nint main(void) { return puts(fantanolive_version()) == EOF; }\n' >"$home/version.c"
+want 'fantanolive_version' "$(in_home 'cc -Ifantanolive/include -o version version.c fantanolive/lib/libfantanolive.a; ./version')" "$version"
+if command -v cmake >/dev/null; then
+    mkdir "$home/project"
+    { printf 'cmake_minimum_required(VERSION 3.10)\nproject(program C)\nadd_executable(program ../program.c)\n' && pasted '### C' 3
+        printf 'add_executable(archive ../program.c)\ntarget_link_libraries(archive PRIVATE fantanolive::static)\n'
+        printf 'find_package(fantanolive 1 QUIET)\nif(fantanolive_FOUND)\n message(FATAL_ERROR "version 1 found")\nendif()\n'; } >"$home/project/CMakeLists.txt"
+    in_home 'cmake -S project -B project/build -DCMAKE_PREFIX_PATH=$HOME/fantanolive && cmake --build project/build' >"$work/out" || cat "$work/out"
+    want 'CMake, shared' "$(in_home project/build/program | diff examples/c/expected.txt - && readelf -dW "$home/project/build/program" | grep -c "NEEDED.*$soname")" 1
+    want 'CMake, archive' "$(in_home project/build/archive | diff examples/c/expected.txt - && readelf -dW "$home/project/build/archive" | grep -c "NEEDED.*$soname")" 0
+else
+    echo 'skipped: CMake is not installed'
 fi
 
 # --- The Python module and the program, where they are installed.

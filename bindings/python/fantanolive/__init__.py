@@ -6,8 +6,8 @@ words. FANTANOLIVE_LIBRARY may name the library's path."""
 from . import calls
 from ._header import CONTACT, KEY, LINE, LOCAL_CODE, MAX_CONTACTS, MAX_RECORDS, MAX_ROWS, NO_PLACE, RECORD, ROW
 from ._header import VERSION as __version__
-from .calls import ContactCounts, Counts, JournaledCounts
-from .calls import ContactCounts, Counts, Totals, totals
+from ._library import version as library_version
+from .calls import ContactCounts, Counts, JournaledCounts, Totals, totals
 from .forms import (
     Applied,
     FoundMany,
@@ -36,6 +36,6 @@ __all__ = [
     "Applied", "CONTACT", "ContactCounts", "Counts", "FoundMany", "Journaled", "JournaledCounts", "KEY", "LINE", "LOCAL_CODE",
     "MAX_CONTACTS", "MAX_RECORDS", "MAX_ROWS", "NO_PLACE", "Posted", "RECORD", "ROW", "Refused", "Text", "Totals", "Updated",
     "__version__", "add_cents", "apply", "apply_journaled", "calls", "code_text", "codes_of", "contacts_codes",
-    "contacts_update", "find", "find_many", "merge", "pages", "post", "reconcile", "records_to", "refusal_text", "take_back",
+    "contacts_update", "find", "find_many", "library_version", "merge", "pages", "post", "reconcile", "records_to", "refusal_text", "take_back",
     "to_ascii", "to_ebcdic", "totals",
 ]

@@ -48,8 +48,8 @@ def path():
 
 
 @functools.lru_cache(maxsize=1)
-def functions():
-    """The C functions by their names without fantanolive_; the library is loaded at the first call."""
+def _loaded():
+    """The library, and its path or name."""
     place = path()
     try:
         library = ctypes.CDLL(place)
@@ -57,6 +57,29 @@ def functions():
         raise OSError(
             f"the library can't be loaded: {error}; FANTANOLIVE_LIBRARY may name the path of {SONAME}"
         ) from None
+    return library, place
+
+
+@functools.lru_cache(maxsize=1)
+def version():
+    """The version of the library that is loaded; one with another first number than this module's is no library of it."""
+    library, place = _loaded()
+    try:
+        function = library["fantanolive_version"]
+    except AttributeError:
+        raise OSError(f"{place} has no call fantanolive_version: it is older than this module") from None
+    function.restype = ctypes.c_char_p
+    found = function().decode("ascii")
+    if found.split(".")[0] != str(_header.VERSION_MAJOR):
+        raise OSError(f"{place} is version {found}, and this module is of {_header.VERSION}")
+    return found
+
+
+@functools.lru_cache(maxsize=1)
+def functions():
+    """The C functions by their names without fantanolive_; the library is loaded at the first call."""
+    version()
+    library, place = _loaded()
     found = {}
     for name, arguments in CALLS.items():
         try:

@@ -42,7 +42,7 @@ class Words(unittest.TestCase):
         self.assertEqual((again.number, again.place, str(again)), (16, 2, str(refused)))
 
     def test_version(self):
-        self.assertEqual(fantanolive.__version__, _header.VERSION)
+        self.assertEqual((fantanolive.__version__, fantanolive.library_version()), (_header.VERSION, _header.VERSION))
         self.assertEqual(_library.SONAME, "libfantanolive.so.%d" % _header.VERSION_MAJOR)
 
 
@@ -60,7 +60,7 @@ class Library(unittest.TestCase):
         self.assertIn("FANTANOLIVE_LIBRARY", said)
 
     def test_another_library(self):
-        self.assertIn("has no call fantanolive_apply", run({"FANTANOLIVE_LIBRARY": "libc.so.6"}).stderr)
+        self.assertIn("has no call fantanolive_version", run({"FANTANOLIVE_LIBRARY": "libc.so.6"}).stderr)
 
     def test_words_without_the_library(self):
         code = "import fantanolive; print(fantanolive.code_text(17).wrong)"

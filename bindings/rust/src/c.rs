@@ -1,6 +1,10 @@
 //! The C functions, as `fantanolive.h` declares them.
 
+use std::ffi::c_char;
+
 extern "C" {
+    pub fn fantanolive_version() -> *const c_char;
+
     pub fn fantanolive_apply(
         master: *mut u8,
         master_length: usize,

@@ -25,5 +25,5 @@ pub use sizes::{
     journal_size, pages_size, CONTACT, DATE, KEY, LINE, LOCAL_CODE, MAX_CONTACTS, MAX_RECORDS,
     MAX_ROWS, NO_PLACE, PAGE_CASES, PAGE_LINE, RECORD, RECORDS, ROW, STATE,
 };
-pub use texts::{code_text, refusal_text, Text, VERSION};
+pub use texts::{code_text, library_version, refusal_text, Text, VERSION};
 pub use verdict::{codes, has_code, ERRORS, WARNINGS};

@@ -1,6 +1,10 @@
 //! The refusals and codes in words. They stand in `include/fantanolive_text.h`; the build script reads them from there, and the
 //! version from `include/fantanolive.h`.
 
+use std::ffi::CStr;
+
+use crate::c;
+
 /// A refusal or a code in words for people.
 #[derive(Clone, Copy, Debug, PartialEq, Eq)]
 pub struct Text {
@@ -18,6 +22,13 @@ include!(concat!(env!("OUT_DIR"), "/texts.rs"));
 
 /// The version of the library that this wrapper goes with.
 pub const VERSION: &str = VERSION_TEXT;
+
+/// The version of the library that is there at run time.
+pub fn library_version() -> &'static str {
+    // SAFETY: the library answers a constant text that a NUL ends.
+    let text = unsafe { CStr::from_ptr(c::fantanolive_version()) };
+    text.to_str().unwrap_or_default()
+}
 
 fn text_in(texts: &'static [Text], number: u64) -> Option<&'static Text> {
     texts.iter().find(|text| u64::from(text.number) == number)

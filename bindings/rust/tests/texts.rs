@@ -3,7 +3,9 @@
 use std::fs;
 use std::path::Path;
 
-use fantanolive::{code_text, codes, has_code, refusal_text, Refusal, ERRORS, VERSION, WARNINGS};
+use fantanolive::{
+    code_text, codes, has_code, library_version, refusal_text, Refusal, ERRORS, VERSION, WARNINGS,
+};
 
 fn header(name: &str) -> String {
     let path = Path::new(env!("CARGO_MANIFEST_DIR"))
@@ -67,6 +69,7 @@ fn every_string_of_the_header_is_taken() {
 #[test]
 fn version_of_the_header() {
     assert!(header("fantanolive.h").contains(&format!("FANTANOLIVE_VERSION \"{VERSION}\"")));
+    assert_eq!(library_version(), VERSION);
 }
 
 #[test]
