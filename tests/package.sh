@@ -62,6 +62,8 @@ expected() {
     printf '644 share/doc/fantanolive/%s\n' CHANGELOG.md MANUAL.md
     echo '644 share/fantanolive/layouts.json'
     for file in package/cobol/*.cpy; do echo "644 share/fantanolive/cobol/${file##*/}"; done
+    printf '644 share/fantanolive/rust/%s\n' Cargo.toml README.md build.rs examples/judge.rs
+    for file in bindings/rust/src/*.rs; do echo "644 share/fantanolive/rust/src/${file##*/}"; done
     for file in bindings/python/fantanolive/*.py; do echo "644 share/fantanolive/python/fantanolive/${file##*/}"; done
 }
 

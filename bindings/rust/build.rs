@@ -1,19 +1,60 @@
-//! Says where libfantanolive.a is: the folder in FANTANOLIVE_LIB_DIR, else target/staticlib of the repository. Takes the
-//! version and the texts of refusals and codes from the C headers: those in FANTANOLIVE_INCLUDE_DIR, else in include/.
+//! Says where libfantanolive.a is: the folder in FANTANOLIVE_LIB_DIR, else target/staticlib of the repository where the crate is
+//! in it, else what pkg-config says, else lib of the package where the crate is in that. Takes the version and the texts of
+//! refusals and codes from the C headers: those in FANTANOLIVE_INCLUDE_DIR, else beside the library.
 
 use std::env;
 use std::fs;
 use std::path::{Path, PathBuf};
+use std::process::Command;
 
-/// The folder that a variable names, else one beside this crate.
-fn folder(variable: &str, usual: &str) -> PathBuf {
-    println!("cargo:rerun-if-env-changed={variable}");
-    match env::var_os(variable) {
-        Some(folder) => PathBuf::from(folder),
-        None => {
-            PathBuf::from(env::var_os("CARGO_MANIFEST_DIR").expect("cargo sets it")).join(usual)
-        }
+/// The folders of the archive and of the headers.
+struct Found {
+    library: PathBuf,
+    include: PathBuf,
+}
+
+/// What pkg-config says of a variable of the library.
+fn asked(variable: &str) -> Option<PathBuf> {
+    let mut command = Command::new(env::var_os("PKG_CONFIG").unwrap_or("pkg-config".into()));
+    command.args([&format!("--variable={variable}"), "fantanolive"]);
+    let said = command.output().ok().filter(|said| said.status.success())?;
+    let text = String::from_utf8(said.stdout).ok()?;
+    Some(PathBuf::from(text.trim_end())).filter(|folder| folder.is_absolute())
+}
+
+/// A folder with the headers in include and the archive in another.
+fn beside(folder: PathBuf, library: &str) -> Option<Found> {
+    let include = folder.join("include");
+    include.join("fantanolive.h").exists().then(|| Found {
+        library: folder.join(library),
+        include,
+    })
+}
+
+fn found() -> Found {
+    for name in ["PKG_CONFIG", "PKG_CONFIG_PATH", "PKG_CONFIG_LIBDIR"] {
+        println!("cargo:rerun-if-env-changed={name}");
     }
+    let own = PathBuf::from(env::var_os("CARGO_MANIFEST_DIR").expect("cargo sets it"));
+    let by_pkg_config = || {
+        Some(Found {
+            library: asked("libdir")?,
+            include: asked("includedir")?,
+        })
+    };
+    beside(own.join("../.."), "target/staticlib")
+        .or_else(by_pkg_config)
+        .or_else(|| beside(own.join("../../.."), "lib"))
+        .expect(
+            "the Fantanolive library is not found: set PKG_CONFIG_PATH to the folder lib/pkgconfig of its package, or \
+             FANTANOLIVE_LIB_DIR and FANTANOLIVE_INCLUDE_DIR to its folders lib and include",
+        )
+}
+
+/// The folder that an environment variable names.
+fn named(variable: &str) -> Option<PathBuf> {
+    println!("cargo:rerun-if-env-changed={variable}");
+    env::var_os(variable).map(PathBuf::from)
 }
 
 fn read(path: &Path) -> String {
@@ -62,13 +103,14 @@ fn table(header: &str, name: &str) -> String {
 }
 
 fn main() {
-    let library = folder("FANTANOLIVE_LIB_DIR", "../../target/staticlib");
+    let named_library = named("FANTANOLIVE_LIB_DIR");
+    let include = named("FANTANOLIVE_INCLUDE_DIR").unwrap_or_else(|| found().include);
+    let library = named_library.unwrap_or_else(|| found().library);
     let archive = library.join("libfantanolive.a");
     println!("cargo:rerun-if-changed={}", archive.display());
     println!("cargo:rustc-link-search=native={}", library.display());
     println!("cargo:rustc-link-lib=static=fantanolive");
 
-    let include = folder("FANTANOLIVE_INCLUDE_DIR", "../../include");
     let header = read(&include.join("fantanolive.h"));
     let texts = read(&include.join("fantanolive_text.h"));
     let source = format!(

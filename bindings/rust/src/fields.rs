@@ -191,11 +191,7 @@ fn masked_run(run: &str) -> String {
 }
 
 /// Shows a record for people who debug: its fields that aren't blank, without SSNs.
-pub(crate) fn debug<R: Record>(
-    record: &R,
-    name: &str,
-    f: &mut fmt::Formatter<'_>,
-) -> fmt::Result {
+pub(crate) fn debug<R: Record>(record: &R, name: &str, f: &mut fmt::Formatter<'_>) -> fmt::Result {
     let mut shown = f.debug_struct(name);
     for (field, text) in R::FIELDS.iter().zip(record.texts()) {
         let text = match field.kind {

@@ -1,7 +1,24 @@
-//! A safe wrapper of libfantanolive.a. Each function takes slices and answers a `Result`; a refusal writes nothing.
+//! The Fantanolive library in Rust: a state's copy of the federal offset case master.
 //!
-//! Bytes are EBCDIC, as in document 01; only [`to_ebcdic`] and [`to_ascii`] convert. What the calls do, and every refusal, is
-//! said at length in `include/fantanolive.h`; the words of [`Text`] are those of `include/fantanolive_text.h`.
+//! Two forms of each call. The functions here take slices that the caller lends, and write into them; those of [`owned`] take
+//! whole files and give vectors. Both answer a `Result`: a refusal is a [`Refusal`], with its words, and then nothing was
+//! written. [`layouts`] has rows and records as structs. Nothing panics.
+//!
+//! Files are in EBCDIC; [`to_ebcdic`] and [`to_ascii`] convert, and [`layouts`] reads and writes texts. What the calls do, and
+//! every refusal, is said at length in `fantanolive.h` and in the manual.
+//!
+//! ```
+//! use fantanolive::{find, owned, Refusal};
+//!
+//! let key = owned::to_ebcdic(b"OH123456789N").expect("letters and digits");
+//! assert_eq!(find(&[], 0, &key), Err(Refusal::NoSuchRow));
+//! println!("{}", Refusal::NoSuchRow.text().mend);
+//! ```
+//!
+//! The build script links the archive `libfantanolive.a`. It looks for it in the folder that `FANTANOLIVE_LIB_DIR` names (and
+//! for the headers in that of `FANTANOLIVE_INCLUDE_DIR`), in the repository that the crate is part of, and then asks
+//! `pkg-config`.
+#![warn(missing_docs)]
 
 mod c;
 mod calls;
@@ -9,6 +26,7 @@ mod code_page;
 mod fields;
 #[rustfmt::skip]
 pub mod layouts;
+pub mod owned;
 mod refusal;
 mod sizes;
 mod texts;

@@ -75,10 +75,20 @@ pub enum Refusal {
     CannotMerge = 32,
     /// Output shorter than the merged batch.
     ShortBatch = 33,
+    /// A number that this version of the crate doesn't know; a library of another version may answer it.
+    Unknown = 0,
 }
 
+/// The words of [`Refusal::Unknown`].
+static UNKNOWN: Text = Text {
+    number: 0,
+    wrong: "a refusal that this version of the crate doesn't know",
+    location: "the library",
+    mend: "use the crate and the library of one version",
+};
+
 impl Refusal {
-    /// Every refusal, in rising order of number.
+    /// Every refusal but [`Refusal::Unknown`], in rising order of number.
     pub const ALL: [Refusal; 33] = [
         Refusal::WrongYear,
         Refusal::WrongLocals,
@@ -115,7 +125,7 @@ impl Refusal {
         Refusal::ShortBatch,
     ];
 
-    /// The refusal's number in documents 01 and 02.
+    /// The refusal's number.
     pub fn number(self) -> u64 {
         self as u64
     }
@@ -129,7 +139,7 @@ impl Refusal {
 
     /// The refusal in words: what is wrong, where, and how to mend it.
     pub fn text(self) -> &'static Text {
-        refusal_text(self.number()).expect("every refusal has its words")
+        refusal_text(self.number()).unwrap_or(&UNKNOWN)
     }
 }
 
@@ -144,8 +154,11 @@ impl Error for Refusal {}
 /// Why a file was not converted.
 #[derive(Clone, Copy, Debug, PartialEq, Eq, Hash)]
 pub enum NotConverted {
-    /// Refusal 16: the byte at this place has no counterpart; it is the first, and the first byte of the input is at 0.
-    NoCounterpart { place: u64 },
+    /// Refusal 16: a byte has no counterpart.
+    NoCounterpart {
+        /// The place of the first such byte, the first byte of the input being 0.
+        place: u64,
+    },
     /// Refusal 17: output shorter than the input.
     ShortFile,
 }
@@ -175,6 +188,6 @@ impl Error for NotConverted {}
 pub(crate) fn done(answer: u64) -> Result<(), Refusal> {
     match answer {
         0 => Ok(()),
-        number => Err(Refusal::of_number(number).expect("an answer is 0 or a refusal")),
+        number => Err(Refusal::of_number(number).unwrap_or(Refusal::Unknown)),
     }
 }

@@ -61,8 +61,14 @@ fn the_papers_batch() {
     );
     assert_eq!(counts.map(|counts| counts.rows), Ok(1));
     let row = Row::read(&master).expect("a row");
-    assert_eq!((&row.last_name[..], row.arrearage_number()), ("SMITH", Some(25)));
-    assert_eq!((&row.cents[..], row.exclusions, &row.status[..]), ("00", 0, ""));
+    assert_eq!(
+        (&row.last_name[..], row.arrearage_number()),
+        ("SMITH", Some(25))
+    );
+    assert_eq!(
+        (&row.cents[..], row.exclusions, &row.status[..]),
+        ("00", 0, "")
+    );
     assert_eq!(row.write(), Ok(master.to_vec()));
 }
 
