@@ -64,7 +64,7 @@ expected() {
     for file in package/cobol/*.cpy; do echo "644 share/fantanolive/cobol/${file##*/}"; done
     printf '644 share/fantanolive/rust/%s\n' Cargo.toml README.md build.rs examples/judge.rs
     for file in bindings/rust/src/*.rs; do echo "644 share/fantanolive/rust/src/${file##*/}"; done
-    for file in bindings/python/fantanolive/*.py; do echo "644 share/fantanolive/python/fantanolive/${file##*/}"; done
+    for file in bindings/python/fantanolive/*.py bindings/python/fantanolive/py.typed; do echo "644 share/fantanolive/python/fantanolive/${file##*/}"; done
 }
 
 prefix="$work/a prefix, with spaces"

@@ -1,4 +1,6 @@
 """What the C headers say: the version, the numbers and the words. Written by ../generate; not to be edited."""
+import enum
+from typing import Dict, Tuple
 
 VERSION = '2.0.0'
 
@@ -73,7 +75,7 @@ CANNOT_MERGE = 32
 SHORT_BATCH = 33
 
 # A number's words: what is wrong, where, how to mend it.
-REFUSAL_TEXTS = {
+REFUSAL_TEXTS: Dict[int, Tuple[str, str, str]] = {
     1: (
         'year outside 1900 to 9999',
         'apply: the year',
@@ -241,7 +243,7 @@ REFUSAL_TEXTS = {
     ),
 }
 
-CODE_TEXTS = {
+CODE_TEXTS: Dict[int, Tuple[str, str, str]] = {
     1: (
         "state not in the table of 54, or not the control record's",
         'columns 1-2 (state), all types',
@@ -343,3 +345,75 @@ CODE_TEXTS = {
         'the record is accepted; check that the SSN is the right one: if it is not, this case took the names, amount and exclusions of another, and an A with its own is to be sent',
     ),
 }
+
+
+
+class Refusal(enum.IntEnum):
+    """Why a call was refused."""
+
+    # year outside 1900 to 9999
+    WRONG_YEAR = 1
+    # list of local codes not made of three-digit codes, three bytes each, strictly rising
+    WRONG_LOCALS = 2
+    # master length no multiple of 200, or row count above length / 200 or above 16,777,215
+    WRONG_MASTER = 3
+    # a row that is not sound, or rows not in strictly rising order of key
+    UNSOUND_ROW = 4
+    # batch empty, its length no multiple of 245, or over 16,777,216 records
+    WRONG_BATCH = 5
+    # CTL is missing in the last record
+    NO_CTL = 6
+    # a record count of the control record differs from the details
+    WRONG_COUNT = 7
+    # an amount of the control record differs from the details
+    WRONG_AMOUNT = 8
+    # no room for new rows: rows plus details of type A whose key has no row exceed master length / 200 or 16,777,215
+    NO_ROOM = 9
+    # verdict list shorter than the details
+    SHORT_VERDICTS = 10
+    # output too short
+    SHORT_OUTPUT = 11
+    # state not in the table of 54
+    WRONG_STATE = 12
+    # not a calendar date CCYYMMDD of 1900 to 9999
+    WRONG_DATE = 13
+    # key not of twelve bytes, or its state, SSN or case type wrong
+    UNSOUND_KEY = 14
+    # no row has this key
+    NO_SUCH_ROW = 15
+    # a byte without a counterpart in the other character set
+    NO_COUNTERPART = 16
+    # output shorter than the input
+    SHORT_FILE = 17
+    # contact file or table of a wrong length or count, or a table with a faulty record or not in strictly rising order
+    WRONG_CONTACTS = 18
+    # no space for contact records, or a list or output too short
+    SHORT_CONTACTS = 19
+    # state of the control record not in the table of 54
+    CONTROL_STATE = 20
+    # a total of the control record is not digits, or its filler is not spaces
+    CONTROL_FORM = 21
+    # collection file empty, its length no multiple of 240, or over 16,777,216 records
+    WRONG_FILE = 22
+    # last record of the collection file is not TOTAL, or its counts differ from the lines
+    WRONG_TOTAL = 23
+    # line list shorter than the lines
+    SHORT_LINES = 24
+    # journal buffer below 12 + 205 x details
+    SHORT_JOURNAL = 25
+    # not a journal, one that does not fit the master, or the rows that it would leave are not sound or not in order
+    WRONG_JOURNAL = 26
+    # list of keys of a length no multiple of 12, with a key that is not sound, or not in strictly rising order
+    WRONG_KEYS = 27
+    # answer list shorter than the keys
+    SHORT_PLACES = 28
+    # no list of C, L, R and M records leads from the row to the wanted row
+    NO_RECORDS = 29
+    # output for the records below 980 bytes
+    SHORT_RECORDS = 30
+    # buffer too short for the pages
+    SHORT_PAGES = 31
+    # batches that can't be merged: two states, over 16,777,215 details together, or an amount total above eleven digits
+    CANNOT_MERGE = 32
+    # output shorter than the merged batch
+    SHORT_BATCH = 33

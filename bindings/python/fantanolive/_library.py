@@ -3,18 +3,20 @@ import ctypes
 import functools
 import os
 import pathlib
+from typing import Any, Dict, List, Tuple
 
 from . import _header
 
 SONAME = f"libfantanolive.so.{_header.VERSION_MAJOR}"
 
-# Where PREFIX/lib is from this file, PREFIX/share/fantanolive/python/fantanolive/_library.py.
-BESIDE = pathlib.Path(__file__).resolve().parents[4] / "lib" / SONAME
+# Where a wheel has the library, and where PREFIX/lib is from this file, PREFIX/share/fantanolive/python/fantanolive/_library.py.
+_HERE = pathlib.Path(__file__).resolve()
+BESIDE = [_HERE.parent / SONAME] + [_HERE.parents[4] / "lib" / SONAME for _ in range(len(_HERE.parents) > 4)]
 
-BUFFER = [ctypes.c_void_p, ctypes.c_size_t]
-COUNT = [ctypes.c_size_t]
-YEAR = [ctypes.c_uint64]
-RESULT = [ctypes.POINTER(ctypes.c_uint64)]
+BUFFER: List[Any] = [ctypes.c_void_p, ctypes.c_size_t]
+COUNT: List[Any] = [ctypes.c_size_t]
+YEAR: List[Any] = [ctypes.c_uint64]
+RESULT: List[Any] = [ctypes.POINTER(ctypes.c_uint64)]
 
 # The arguments of each call, in the order of fantanolive.h.
 CALLS = {
@@ -37,18 +39,16 @@ CALLS = {
 }
 
 
-def path():
-    """The library's path or name: FANTANOLIVE_LIBRARY, else beside the installation, else left to the system's search."""
+def path() -> str:
+    """The library's path or name: FANTANOLIVE_LIBRARY, else in the module or beside it, else left to the system's search."""
     named = os.environ.get("FANTANOLIVE_LIBRARY")
     if named:
         return named
-    if BESIDE.exists():
-        return str(BESIDE)
-    return SONAME
+    return str(next((place for place in BESIDE if place.exists()), SONAME))
 
 
 @functools.lru_cache(maxsize=1)
-def _loaded():
+def _loaded() -> Tuple[ctypes.CDLL, str]:
     """The library, and its path or name."""
     place = path()
     try:
@@ -61,7 +61,7 @@ def _loaded():
 
 
 @functools.lru_cache(maxsize=1)
-def version():
+def version() -> str:
     """The version of the library that is loaded; one with another first number than this module's is no library of it."""
     library, place = _loaded()
     try:
@@ -69,18 +69,18 @@ def version():
     except AttributeError:
         raise OSError(f"{place} has no call fantanolive_version: it is older than this module") from None
     function.restype = ctypes.c_char_p
-    found = function().decode("ascii")
+    found: str = function().decode("ascii")
     if found.split(".")[0] != str(_header.VERSION_MAJOR):
         raise OSError(f"{place} is version {found}, and this module is of {_header.VERSION}")
     return found
 
 
 @functools.lru_cache(maxsize=1)
-def functions():
+def functions() -> Dict[str, Any]:
     """The C functions by their names without fantanolive_; the library is loaded at the first call."""
     version()
     library, place = _loaded()
-    found = {}
+    found: Dict[str, Any] = {}
     for name, arguments in CALLS.items():
         try:
             function = library["fantanolive_" + name]

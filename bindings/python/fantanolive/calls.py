@@ -4,26 +4,54 @@ Arguments stand in the order of the header, without the lengths: a buffer has it
 that argument must be a writable buffer (bytearray, array, a writable mmap or memoryview); the others may be any bytes-like
 object. Buffers must be contiguous, and one that is written must not overlap another. Numbers of the result are returned; a
 refusal is raised as Refused. While a call runs its buffers can't be resized, and other threads go on."""
-import collections
 import ctypes
+from typing import NamedTuple
 
 from . import _header
 from ._lending import NUMBERS_32, NUMBERS_64, Call, number
-
-# The result of apply. Accepted includes warned; rows are those of the master afterwards.
-Counts = collections.namedtuple("Counts", "accepted rejected warned neither rows")
-
-# The result of apply_journaled: that of apply, and the journal's bytes.
-JournaledCounts = collections.namedtuple("JournaledCounts", Counts._fields + ("journal",))
-
-# The result of totals: the numbers of details, and their amounts.
-Totals = collections.namedtuple("Totals", "tanf_count non_tanf_count tanf_amount non_tanf_amount")
-
-# The result of contacts_update: the records of the table afterwards, and how many faulty ones are listed.
-ContactCounts = collections.namedtuple("ContactCounts", "contacts faulty")
+from ._types import Numbers, Readable, Writable
 
 
-def apply(master, rows, batch, locals, year, verdicts, rejects):
+class Counts(NamedTuple):
+    """The result of apply. Accepted includes warned; rows are those of the master afterwards."""
+
+    accepted: int
+    rejected: int
+    warned: int
+    neither: int
+    rows: int
+
+
+class JournaledCounts(NamedTuple):
+    """The result of apply_journaled: that of apply, and the journal's bytes."""
+
+    accepted: int
+    rejected: int
+    warned: int
+    neither: int
+    rows: int
+    journal: int
+
+
+class Totals(NamedTuple):
+    """The result of totals: the numbers of details, and their amounts."""
+
+    tanf_count: int
+    non_tanf_count: int
+    tanf_amount: int
+    non_tanf_amount: int
+
+
+class ContactCounts(NamedTuple):
+    """The result of contacts_update: the records of the table afterwards, and how many faulty ones are listed."""
+
+    contacts: int
+    faulty: int
+
+
+def apply(
+    master: Writable, rows: int, batch: Readable, locals: Readable, year: int, verdicts: Numbers, rejects: Writable
+) -> Counts:
     """Applies a batch to a master. verdicts has 64-bit numbers: array('Q', ..). Returns Counts."""
     result = (ctypes.c_uint64 * _header.RESULTS)()
     with Call("apply") as call:
@@ -34,7 +62,10 @@ def apply(master, rows, batch, locals, year, verdicts, rejects):
     return Counts(*result)
 
 
-def apply_journaled(master, rows, batch, locals, year, verdicts, rejects, journal):
+def apply_journaled(
+    master: Writable, rows: int, batch: Readable, locals: Readable, year: int, verdicts: Numbers, rejects: Writable,
+    journal: Writable,
+) -> JournaledCounts:
     """Applies a batch as apply does, and writes a journal for take_back into journal. Returns JournaledCounts."""
     result = (ctypes.c_uint64 * _header.JOURNALED_RESULTS)()
     with Call("apply_journaled") as call:
@@ -46,7 +77,7 @@ def apply_journaled(master, rows, batch, locals, year, verdicts, rejects, journa
     return JournaledCounts(*result)
 
 
-def take_back(master, rows, journal):
+def take_back(master: Writable, rows: int, journal: Readable) -> int:
     """Takes a batch back with its journal, exactly its bytes. Returns how many rows the master has then."""
     rows_after = ctypes.c_uint64()
     with Call("take_back") as call:
@@ -54,7 +85,7 @@ def take_back(master, rows, journal):
     return rows_after.value
 
 
-def totals(batch):
+def totals(batch: Readable) -> Totals:
     """Adds up the totals of a batch's details, whatever its last record says. Returns Totals."""
     result = (ctypes.c_uint64 * _header.TOTALS)()
     with Call("totals") as call:
@@ -62,7 +93,7 @@ def totals(batch):
     return Totals(*result)
 
 
-def merge(first, second, out):
+def merge(first: Readable, second: Readable, out: Writable) -> int:
     """Merges two batches of one state into one. Returns how many records it has."""
     records = ctypes.c_uint64()
     with Call("merge") as call:
@@ -70,7 +101,7 @@ def merge(first, second, out):
     return records.value
 
 
-def find(master, rows, key):
+def find(master: Readable, rows: int, key: Readable) -> int:
     """Finds the row of a key. Returns its place, the first being 0."""
     place = ctypes.c_uint64()
     with Call("find") as call:
@@ -78,7 +109,7 @@ def find(master, rows, key):
     return place.value
 
 
-def find_many(master, rows, keys, places):
+def find_many(master: Readable, rows: int, keys: Readable, places: Numbers) -> int:
     """Finds the rows of many keys, strictly rising. places has 32-bit numbers: array('I', ..); a key without a row gets NO_PLACE.
     Returns how many comparisons of a key with a row were made."""
     comparisons = ctypes.c_uint64()
@@ -90,7 +121,7 @@ def find_many(master, rows, keys, places):
     return comparisons.value
 
 
-def reconcile(master, rows, state, date, out):
+def reconcile(master: Readable, rows: int, state: Readable, date: Readable, out: Writable) -> int:
     """Writes the reconciliation file of a state. Returns the number of REC records."""
     records = ctypes.c_uint64()
     with Call("reconcile") as call:
@@ -101,7 +132,7 @@ def reconcile(master, rows, state, date, out):
     return records.value
 
 
-def pages(master, rows, out):
+def pages(master: Readable, rows: int, out: Writable) -> int:
     """Prints the live rows of a master in key order. Returns the number of pages."""
     count = ctypes.c_uint64()
     with Call("pages") as call:
@@ -109,13 +140,13 @@ def pages(master, rows, out):
     return count.value
 
 
-def add_cents(master, rows):
+def add_cents(master: Writable, rows: int) -> None:
     """Gives the rows of a master that have no cents yet 00 cents."""
     with Call("add_cents") as call:
         call.run(*call.write("master", master), number("rows", rows))
 
 
-def post(master, rows, file, lines):
+def post(master: Writable, rows: int, file: Readable, lines: Numbers) -> int:
     """Posts a weekly collection file. lines has 32-bit numbers: array('I', ..). Returns how many lines are listed there."""
     listed = ctypes.c_uint64()
     with Call("post") as call:
@@ -126,17 +157,17 @@ def post(master, rows, file, lines):
     return listed.value
 
 
-def to_ebcdic(file, out):
+def to_ebcdic(file: Readable, out: Writable) -> None:
     """Turns a file from ASCII into EBCDIC. Refused has the place of the first byte without a counterpart."""
     _convert("to_ebcdic", file, out)
 
 
-def to_ascii(file, out):
+def to_ascii(file: Readable, out: Writable) -> None:
     """Turns a file from EBCDIC into ASCII. Refused has the place of the first byte without a counterpart."""
     _convert("to_ascii", file, out)
 
 
-def contacts_update(table, count, file, faulty):
+def contacts_update(table: Writable, count: int, file: Readable, faulty: Numbers) -> ContactCounts:
     """Reads a contact file into a table. faulty has 32-bit numbers: array('I', ..). Returns ContactCounts."""
     result = (ctypes.c_uint64 * _header.CONTACT_RESULTS)()
     with Call("contacts_update") as call:
@@ -147,7 +178,7 @@ def contacts_update(table, count, file, faulty):
     return ContactCounts(*result)
 
 
-def contacts_codes(table, count, state, out):
+def contacts_codes(table: Readable, count: int, state: Readable, out: Writable) -> int:
     """Writes the local codes of a state, all but 000. Returns how many they are."""
     codes = ctypes.c_uint64()
     with Call("contacts_codes") as call:
@@ -158,7 +189,7 @@ def contacts_codes(table, count, state, out):
     return codes.value
 
 
-def records_to(row, wanted, locals, out):
+def records_to(row: Readable, wanted: Readable, locals: Readable, out: Writable) -> int:
     """Writes the C, L, R and M records that lead from a row to a wanted row. Returns how many they are."""
     records = ctypes.c_uint64()
     with Call("records_to") as call:
@@ -169,7 +200,7 @@ def records_to(row, wanted, locals, out):
     return records.value
 
 
-def _convert(name, file, out):
+def _convert(name: str, file: Readable, out: Writable) -> None:
     place = ctypes.c_uint64()
     with Call(name) as call:
         call.run(*call.read("file", file), *call.write("out", out), ctypes.byref(place), place=place)

@@ -5,8 +5,8 @@ def ebcdic(text):
     return text.encode("cp037")
 
 
-def detail(name, dollars, kind, first="", ssn="123456789", case_type="N"):
-    return ebcdic(f"OH   {ssn}{'':15}{name:20}{first:15}{dollars:08d}{kind}{case_type}{'':171}")
+def detail(name, dollars, kind, first="", ssn="123456789", case_type="N", local="   "):
+    return ebcdic(f"OH{local}{ssn}{'':15}{name:20}{first:15}{dollars:08d}{kind}{case_type}{'':171}")
 
 
 def control(count, amount, state="OH", mark="CTL"):

@@ -1,8 +1,9 @@
 """The forms that return new bytes: the same as the calls in place, and arguments that stay as they are."""
+import datetime
 import unittest
 
 import fantanolive
-from fantanolive import Refused
+from fantanolive import Refused, layouts
 from sample import PAPER_BATCH, contact, control, detail, ebcdic, line, row, total
 
 
@@ -103,9 +104,41 @@ class Forms(unittest.TestCase):
         self.assertEqual(self.refusal(fantanolive.records_to, row(), row("123456780"), b""), 29)
 
     def test_other_than_bytes_like(self):
-        for wrong in ("OH123456789N", 12, None, [1, 2]):
+        for wrong in (12, None, [1, 2]):
             self.assertRaises(TypeError, fantanolive.find, row(), wrong)
+        for wrong in ("OH123456789N", 12, None, [1, 2]):
             self.assertRaises(TypeError, fantanolive.apply, wrong, PAPER_BATCH, b"", 2007)
+
+    def test_ordinary_strings(self):
+        master = row("123456780") + row()
+        self.assertEqual(fantanolive.find(master, "OH123456789N"), 1)
+        self.assertEqual(list(fantanolive.find_many(master, ["OH123456780N", "OH123456789N"]).places), [0, 1])
+        file = fantanolive.reconcile(master, ebcdic("OH"), ebcdic("20070102"))
+        self.assertEqual(fantanolive.reconcile(master, "OH", "20070102"), file)
+        self.assertEqual(fantanolive.reconcile(master, "OH", datetime.date(2007, 1, 2)), file)
+        table = fantanolive.contacts_update(b"", contact("001") + contact("025")).table
+        self.assertEqual(fantanolive.contacts_codes(table, "OH"), ebcdic("001025"))
+        listed = detail("SMITH", 30, "A", "JOHN", local="025") + control(1, 30)
+        self.assertEqual([fantanolive.apply(b"", listed, codes, 2007).verdicts[0] for codes in ("001025", "001")], [0, 1 << 51])
+        for number, wrong in [(14, ("OH", "oh123456789n", "")), (15, ("OH123456789A",))]:
+            for key in wrong:
+                self.assertEqual(self.refusal(fantanolive.find, master, key), number)
+        self.assertEqual(self.refusal(fantanolive.reconcile, master, "XX", "20070102"), 12)
+        self.assertEqual(self.refusal(fantanolive.reconcile, master, "OH", "20070229"), 13)
+        with self.assertRaisesRegex(ValueError, "key has a character that EBCDIC has not"):
+            fantanolive.find(master, "OH12345678\u0660N")
+
+    def test_no_ssn_in_a_repr(self):
+        left = fantanolive.apply_journaled(row(), PAPER_BATCH, b"", 2007)
+        shown = [left, fantanolive.apply(row(), PAPER_BATCH, b"", 2007), fantanolive.post(row(), total(0, 0))]
+        for result in shown + [fantanolive.contacts_update(b"", contact("001"))]:
+            self.assertNotIn("\\x", repr(result))
+            self.assertRegex(repr(result), r"^\w+\((master|table)=<\d+ bytes>, ")
+
+    def test_made_batch(self):
+        details = [layouts.Detail.read(PAPER_BATCH[start : start + 245]) for start in (0, 245)]
+        self.assertEqual(fantanolive.make_batch("OH", details), PAPER_BATCH)
+        self.assertEqual(fantanolive.make_batch("OH", []), control(0, 0))
 
 
 if __name__ == "__main__":

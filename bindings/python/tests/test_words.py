@@ -36,6 +36,9 @@ class Words(unittest.TestCase):
             fantanolive.to_ebcdic(b"AB\n")
         refused = caught.exception
         self.assertEqual((refused.call, refused.number, refused.place), ("to_ebcdic", 16, 2))
+        self.assertIs(refused.refusal, fantanolive.Refusal.NO_COUNTERPART)
+        self.assertEqual([int(refusal) for refusal in fantanolive.Refusal], list(range(1, 34)))
+        self.assertIsNone(Refused("find", 99).refusal)
         self.assertIn("refusal 16: a byte without a counterpart in the other character set (at byte 2)", str(refused))
         self.assertIn(refused.mend, str(refused))
         again = pickle.loads(pickle.dumps(refused))
