@@ -13,9 +13,10 @@ if ! bin/build-library $only >"$log" 2>&1; then
     exit 1
 fi
 
-# the file with what it must print, and the program
+# the file with what it must print, and the program, which runs in a folder with the paper's batch
+cp crates/apply_batch/data/batch.bin target/examples/batch.bin
 compare() {
-    if target/examples/"$2" >target/examples/"$2".out && diff "$1" target/examples/"$2".out; then
+    if (cd target/examples && ./"$2" >"$2".out) && diff "$1" target/examples/"$2".out; then
         echo "$1: passed"
     else
         echo "$1 $2: failed"
@@ -29,6 +30,7 @@ compare examples/c/post.txt post-c
 if command -v cobc >/dev/null; then
     compare examples/cobol/expected.txt apply-cobol
     compare examples/cobol/post.txt post-cobol
+    compare examples/cobol/rejects.txt rejects-cobol
 else
     echo "skipped: GnuCOBOL is not installed"
 fi

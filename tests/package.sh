@@ -60,6 +60,7 @@ expected() {
     printf '644 lib/cmake/fantanolive/%s.cmake\n' fantanolive-config-version fantanolive-config
     printf '644 lib/pkgconfig/%s.pc\n' fantanolive-static fantanolive
     printf '644 share/doc/fantanolive/%s\n' CHANGELOG.md MANUAL.md
+    for file in examples/c/*.c examples/cobol/*.cob bindings/python/examples/*.py bindings/rust/examples/judge.rs; do echo "644 share/doc/fantanolive/examples/${file##*/}"; done
     echo '644 share/fantanolive/layouts.json'
     for file in package/cobol/*.cpy; do echo "644 share/fantanolive/cobol/${file##*/}"; done
     printf '644 share/fantanolive/rust/%s\n' Cargo.toml README.md build.rs examples/judge.rs
@@ -85,7 +86,7 @@ for arguments in '' --without-program --unknown '-x somewhere' 'one two'; do
 done
 
 mkdir "$work/unbuilt"
-cp -r bin bindings docs include package CHANGELOG.md "$work/unbuilt"
+cp -r bin bindings docs examples include package CHANGELOG.md "$work/unbuilt"
 "$work/unbuilt/bin/install" "$work/nothing" >"$work/out" 2>"$work/err"
 want 'status of install before anything is built' "$?" 2
 want 'what it says' "$(sed 's/ is not built: .*//' "$work/err" | tr '\n' ' ')" \
@@ -174,6 +175,14 @@ if command -v pkg-config >/dev/null; then
     want 'with LD_LIBRARY_PATH' "$(in_home 'LD_LIBRARY_PATH=$HOME/fantanolive/lib ./program' | diff examples/c/expected.txt - && echo same)" same
     want 'the archive, by the manual' \
         "$(in_home "export PKG_CONFIG_PATH=$home/fantanolive/lib/pkgconfig; $(pasted '### C' 2); ./program" | diff examples/c/expected.txt - && echo same)" same
+fi
+if command -v cobc >/dev/null; then
+    cp examples/cobol/rejects.cob "$home/program.cob" && cp crates/apply_batch/data/batch.bin "$home"
+    want 'the COBOL commands of the manual' "$(in_home "$(pasted '### COBOL' 1)" | diff examples/cobol/rejects.txt - && echo same)" same
+    cp examples/cobol/apply.cob "$home/program.cob"
+    want 'the same with CALL STATIC' "$(in_home "$(pasted '### COBOL' 1 | sed 's/ -fstatic-call//')" | diff examples/cobol/expected.txt - && echo same)" same
+else
+    echo 'skipped: GnuCOBOL is not installed'
 fi
 printf '#include <stdio.h>\n#include <fantanolive.h>\nint main(void) { return puts(fantanolive_version()) == EOF; }\n' >"$home/version.c"
 want 'fantanolive_version' "$(in_home 'cc -Ifantanolive/include -o version version.c fantanolive/lib/libfantanolive.a; ./version')" "$version"
