@@ -55,12 +55,13 @@ listing() {
 
 expected() {
     [ ${#with[@]} -ne 0 ] || echo '755 bin/fantanolive'
+    [ ! -f "target/java/fantanolive-$version.jar" ] || echo "644 share/java/fantanolive-$version.jar"
     printf '644 include/%s\n' fantanolive.h fantanolive_layout.h fantanolive_text.h
     printf '%s\n' '644 lib/libfantanolive.a' "$soname lib/libfantanolive.so" "libfantanolive.so.$version lib/$soname" "755 lib/libfantanolive.so.$version"
     printf '644 lib/cmake/fantanolive/%s.cmake\n' fantanolive-config-version fantanolive-config
     printf '644 lib/pkgconfig/%s.pc\n' fantanolive-static fantanolive
     printf '644 share/doc/fantanolive/%s\n' CHANGELOG.md MANUAL.md
-    for file in examples/c/*.c examples/cobol/*.cob bindings/python/examples/*.py bindings/rust/examples/judge.rs; do echo "644 share/doc/fantanolive/examples/${file##*/}"; done
+    for file in examples/c/*.c examples/cobol/*.cob bindings/python/examples/*.py bindings/rust/examples/judge.rs bindings/java/examples/*.java; do echo "644 share/doc/fantanolive/examples/${file##*/}"; done
     echo '644 share/fantanolive/layouts.json'
     for file in package/cobol/*.cpy; do echo "644 share/fantanolive/cobol/${file##*/}"; done
     printf '644 share/fantanolive/rust/%s\n' Cargo.toml README.md build.rs examples/judge.rs
