@@ -54,7 +54,13 @@ listing() {
 }
 
 expected() {
-    [ ${#with[@]} -ne 0 ] || echo '755 bin/fantanolive'
+    if [ ${#with[@]} -eq 0 ]; then
+        echo '755 bin/fantanolive'
+        for file in target/docs/man/man1/*; do echo "644 share/man/man1/${file##*/}"; done
+        printf '644 share/%s\n' bash-completion/completions/fantanolive zsh/site-functions/_fantanolive fish/vendor_completions.d/fantanolive.fish
+    fi
+    [ ! -d target/docs/man/man3 ] || for file in target/docs/man/man3/*; do echo "644 share/man/man3/${file##*/}"; done
+    echo '644 share/fantanolive/installed.txt'
     [ ! -f "target/java/fantanolive-$version.jar" ] || echo "644 share/java/fantanolive-$version.jar"
     printf '644 include/%s\n' fantanolive.h fantanolive_layout.h fantanolive_text.h
     printf '%s\n' '644 lib/libfantanolive.a' "$soname lib/libfantanolive.so" "libfantanolive.so.$version lib/$soname" "755 lib/libfantanolive.so.$version"
@@ -80,11 +86,34 @@ want 'a relative prefix' "$(listing "$work/relative prefix")" "$before"
 DESTDIR="$work/stage" bin/install "${with[@]}" /usr >/dev/null
 want 'under DESTDIR' "$(listing "$work/stage/usr")" "$before"
 
-for arguments in '' --without-program --unknown '-x somewhere' 'one two'; do
+for arguments in '' --without-program --uninstall --unknown '-x somewhere' 'one two'; do
     # shellcheck disable=SC2086
     bin/install $arguments >"$work/out" 2>"$work/err"
-    want "status of install $arguments" "$? $(cat "$work/err")" '2 usage: install [--without-program] PREFIX'
+    want "status of install $arguments" "$? $(cat "$work/err")" '2 usage: install [--without-program] PREFIX
+       install --uninstall PREFIX'
 done
+want 'install --help' "$(bin/install --help | head -n 1)" 'usage: install [--without-program] PREFIX'
+
+# --- What is taken away: what was installed, and nothing else.
+
+mkdir -p "$work/place in use/lib"
+echo own >"$work/place in use/lib/own.txt"
+bin/install "${with[@]}" "$work/place in use" >/dev/null
+want 'what was there, in another list' "$(grep -c own.txt "$work/place in use/share/fantanolive/installed.txt")" 0
+echo 'lib/libfantanolive.so.0.9.9' >>"$work/place in use/share/fantanolive/installed.txt"
+echo '../outside.txt' >>"$work/place in use/share/fantanolive/installed.txt"
+touch "$work/place in use/lib/libfantanolive.so.0.9.9" "$work/outside.txt"
+bin/install "${with[@]}" "$work/place in use" >/dev/null
+want 'a file of a version before' "$([ -e "$work/place in use/lib/libfantanolive.so.0.9.9" ] && echo there)" ''
+want 'uninstall' "$(bin/install --uninstall "$work/place in use")" "install: taken away from $work/place in use"
+want 'what is left' "$(cd -- "$work/place in use" && find . | sort)" '.
+./lib
+./lib/own.txt'
+want 'outside' "$([ -e "$work/outside.txt" ] && echo there)" there
+bin/install --uninstall "$work/place in use" >"$work/out" 2>"$work/err"
+want 'uninstall twice' "$? $(cat "$work/err")" "2 install: there is no package in $work/place in use"
+(cd -- "$work" && "$root/bin/install" --uninstall 'relative prefix') >/dev/null
+want 'a prefix that is empty then' "$([ -e "$work/relative prefix" ] && echo there)" ''
 
 mkdir "$work/unbuilt"
 cp -r bin bindings docs examples include package CHANGELOG.md "$work/unbuilt"
