@@ -1,6 +1,6 @@
 #!/usr/bin/env bash
 # Holds every copy of the version against include/fantanolive.h: the numbers there, the newest entry of CHANGELOG.md, the Python module, the Cargo files
-# of the Rust crate and of the program, the soname and the names of packages in the manual. Prints each that differs, and then status 1.
+# of the Rust crate and of the program, the soname and the names of packages in README.md and the manual. Prints each that differs, and then status 1.
 set -u
 cd -- "$(dirname -- "$(readlink -f -- "$0")")/.." || exit 2
 version=$(bin/version)
@@ -30,7 +30,7 @@ if [ "$(grep -o 'libfantanolive\.so\.[0-9]*' docs/MANUAL.md | sort -u)" != "libf
     echo "version: docs/MANUAL.md doesn't name the soname libfantanolive.so.$(part MAJOR) alone"
     failed=yes
 fi
-holds "docs/MANUAL.md, names of packages," "$(grep -oE 'fantanolive[-_][0-9]+\.[0-9]+\.[0-9]+' docs/MANUAL.md | sed 's/.*[-_]//' | sort -u)"
+holds "README.md and docs/MANUAL.md, names of packages," "$(grep -ohE 'fantanolive[-_][0-9]+\.[0-9]+\.[0-9]+' README.md docs/MANUAL.md | sed 's/.*[-_]//' | sort -u)"
 holds bindings/python "$(sed -n "s/^VERSION = '\(.*\)'\$/\1/p" bindings/python/fantanolive/_header.py)"
 [ -z "$failed" ] || exit 1
 echo "version: $version everywhere"
