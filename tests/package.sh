@@ -68,6 +68,7 @@ expected() {
     printf '644 lib/pkgconfig/%s.pc\n' fantanolive-static fantanolive
     printf '644 share/doc/fantanolive/%s\n' CHANGELOG.md MANUAL.md
     for file in examples/c/*.c examples/cobol/*.cob bindings/python/examples/*.py bindings/rust/examples/judge.rs bindings/java/examples/*.java; do echo "644 share/doc/fantanolive/examples/${file##*/}"; done
+    for file in examples/dask/*; do echo "644 share/doc/fantanolive/examples/dask/${file##*/}"; done
     echo '644 share/fantanolive/layouts.json'
     for file in package/cobol/*.cpy; do echo "644 share/fantanolive/cobol/${file##*/}"; done
     printf '644 share/fantanolive/rust/%s\n' Cargo.toml README.md build.rs examples/judge.rs
