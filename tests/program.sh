@@ -447,7 +447,7 @@ terminals() {
     choose apply
     begin 'lines on a terminal'
     fresh
-    on_terminal "TERM=xterm $work/fantanolive check ${arguments[*]:1}"
+    on_terminal "TERM=xterm $work/fantanolive check ${arguments[*]:1} --all"
     want colours "$(grep -c "$escape\[31mrecord" "$out")" 30
     want 'longest line' "$(sed -e "s/$escape\[[0-9]*m//g" -e 's/\r$//' "$out" | wc -L)" 50
     end

@@ -96,6 +96,10 @@ const WAIT: Opt = optional(
     "wait so long while another run is at work",
 );
 const DRY_RUN: Opt = flag("--dry-run", "say what would be done, and write nothing");
+const LIMIT: Opt = optional("--limit", "N", "list at most N records in place of ten");
+const ALL: Opt = flag("--all", "list all records");
+const BY_OFFICE: Opt = flag("--by-office", "count and list records by their local codes");
+const QUIET: Opt = flag("--quiet", "print the verdict alone");
 const AGAIN: Opt = flag("--again", "do it although the log has it as done before");
 
 /// What commands that write end with.
@@ -136,6 +140,10 @@ pub const COMMANDS: &[Command] = &[
             MODE,
             WAIT,
             ASCII,
+            LIMIT,
+            ALL,
+            BY_OFFICE,
+            QUIET,
             JSON,
             FULL,
         ],
@@ -143,8 +151,10 @@ pub const COMMANDS: &[Command] = &[
         made: &["--rejects", "--journal"],
         help: "\
 Judges each record of BATCH, applies the accepted ones to MASTER and writes the
-reject file. Prints the counts, then each record with an error or a warning.
-With --journal it also writes what `take-back` needs to give the old MASTER.
+reject file. Prints the counts, the dollars, the codes by how often they stand,
+and the first ten records with an error or a warning; --limit and --all list
+others. With --journal it also writes what `take-back` needs to give the old
+MASTER.
 
 The reject file, the journal, a line of MASTER.log, then MASTER are put in place
 whole: each is written under its name with .tmp behind it, then renamed. A run
@@ -170,14 +180,19 @@ was applied to MASTER before is not applied again without --again.",
             optional("--journal", "FILE", "the same"),
             NEW,
             ASCII,
+            LIMIT,
+            ALL,
+            BY_OFFICE,
+            QUIET,
             JSON,
             FULL,
         ],
         read: &["--locals"],
         made: &[],
         help: "\
-Says what `apply` would do with BATCH: whether it is refused, and what is to be
-mended in which record. No file is written or locked.",
+Says what `apply` would do with BATCH: whether it is ready to be sent, and what
+is to be fixed in which record, the first ten of them. No file is written or
+locked.",
         statuses: &[
             Status::Done,
             Status::Rejects,
@@ -444,6 +459,9 @@ hold SSNs whole, so standard output can't be a terminal without --full.",
             AGAIN,
             WAIT,
             flag("--ascii", "FILE is in ASCII"),
+            LIMIT,
+            ALL,
+            QUIET,
             JSON,
             FULL,
         ],
@@ -497,6 +515,9 @@ it is unknown.",
             MODE,
             WAIT,
             flag("--ascii", "FILE is in ASCII"),
+            LIMIT,
+            ALL,
+            QUIET,
             JSON,
         ],
         read: &[],

@@ -160,7 +160,7 @@ fn dry_runs_write_nothing() {
     assert_eq!(dry.status, 1);
     assert!(dry
         .out
-        .starts_with("post: would be carried out; nothing is written\n"));
+        .starts_with("post: would be carried out, 1 line not posted; nothing is written\n"));
     assert_eq!(folder.read("two.bin"), two_rows("00"));
     assert_eq!(folder.names(), names);
     let wet = folder.run(&POST);

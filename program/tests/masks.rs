@@ -332,7 +332,7 @@ fn wrong_ssns_are_told_by_their_kind() {
         let check = with(&["check", "master.bin", "wrong.bin"], &LISTS);
         let ran = folder.run(&check);
         assert_eq!(ran.status, 1, "{ran:?}");
-        let line = format!("is never issued ({kind})\n");
+        let line = format!(", {kind}\n");
         assert!(ran.out.contains(&line), "{}", ran.out);
         assert!(!ran.out.contains(&ssn[..6]), "{}", ran.out);
         let ran = folder.run(&with(&check, &["--json"]));

@@ -171,14 +171,14 @@ fn statuses_of_a_batch() {
     folder.write("batch.bin", &batch(&[warned], control(0, 1, 0, 100)));
     let ran = folder.run(&CHECK);
     assert_eq!(ran.status, 0);
-    assert!(ran.out.contains("1 record accepted with a warning\nrecord 1  OH*****6789N  type A  SMITH, JOHN\n    51 warning"));
+    assert!(ran.out.contains("1 record accepted with a warning\nrecord 1  OH*****6789N  type A  SMITH, JOHN  office 001\n    51 warning"));
     // a record of neither case type counts as rejected
     let neither = record(&[(1, "OH"), (6, "123456789"), (30, "SMITH"), (73, "MX")]);
     folder.write("batch.bin", &batch(&[neither], control(0, 0, 0, 0)));
     let ran = folder.run(&CHECK);
     assert_eq!(ran.status, 1);
     assert!(ran.out.contains("    of which neither   1\n"));
-    assert!(ran.out.contains("1 record with errors\n"));
+    assert!(ran.out.contains("1 record to fix\n"));
     assert!(ran.out.contains("    04 ") && ran.out.contains("    07 "));
 }
 

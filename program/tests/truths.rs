@@ -35,7 +35,7 @@ fn counts_add_up() {
     let sum = part("accepted") + part("rejected") + part("neither");
     assert_eq!(count(&report, "details"), sum);
     assert_eq!((sum, part("warned"), part("neither")), (3, 1, 1));
-    assert!(report.contains("\n2 records with errors\n"), "{report}");
+    assert!(report.contains("\n2 records to fix\n"), "{report}");
     assert!(report.contains("\n1 record accepted with a warning\n"));
     folder.write("two.bin", &two_rows("00"));
     folder.write("weekly.bin", &weekly());

@@ -19,9 +19,10 @@ use crate::progress::Progress;
 use crate::records::columns::control;
 use crate::records::field::{Form, Placeholder};
 use crate::records::kinds::{BATCH, LOCALS};
+use crate::report::listing::Listing;
 use crate::report::summary::Summary;
 use crate::report::verdicts::Verdicts;
-use crate::report::{batch_notes, notes};
+use crate::report::{batch_notes, dollars, notes, verdicts_json, verdicts_text};
 
 /// A batch that was carried out in memory.
 struct Judged {
@@ -96,6 +97,7 @@ struct Files {
 impl Files {
     fn read(arguments: &Arguments, progress: &Progress) -> Result<Files, Failure> {
         arguments.number("--year")?;
+        Listing::of(arguments)?;
         let charset = Charset::of_flag(arguments.flag("--ascii"));
         let locals_path = Path::new(arguments.needed("--locals"));
         let batch = read(arguments.path(1), &BATCH, charset, progress)?.into_ebcdic()?;
@@ -221,18 +223,43 @@ fn notes_of(
     }
 }
 
+/// What a person wants to know first of a batch.
+fn verdict_of(command: &str, to_fix: u64, warned: u64) -> String {
+    let records = |count| counted(count, "record");
+    let words = match (command, to_fix) {
+        ("check", 0) => "ready to send".to_string(),
+        ("check", _) => format!("not ready: {} to fix", records(to_fix)),
+        (_, 0) => "carried out, no record rejected".to_string(),
+        _ => format!("carried out, {} rejected", records(to_fix)),
+    };
+    match warned {
+        0 => words,
+        _ => format!("{words}, {} with a warning", records(warned)),
+    }
+}
+
 impl Judged {
     fn summary(&self, command: &'static str) -> Summary {
-        let rejected = self.verdicts.iter().any(|verdict| verdict & ERRORS != 0);
+        let to_fix = self.verdicts.iter().filter(|&v| v & ERRORS != 0).count() as u64;
         let form = Form::new(Charset::Ebcdic, Placeholder::Dot, false);
         let last = self.batch.last().unwrap_or_default();
-        let summary = Summary::new(command, Status::of_rejects(rejected))
+        let mut summary = Summary::new(command, Status::of_rejects(to_fix > 0))
+            .verdict(verdict_of(command, to_fix, self.counts.warned))
             .text("state", form.field(&control::STATE, last))
             .number("details", self.verdicts.len() as u64)
             .of_which("accepted", self.counts.accepted)
             .of_those("warned", self.counts.warned)
             .of_which("rejected", self.counts.rejected)
-            .of_which("neither", self.counts.neither)
+            .of_which("neither", self.counts.neither);
+        for dollars in dollars::of_batch(&self.batch.bytes, &self.verdicts)
+            .iter()
+            .flatten()
+        {
+            let (accepted, rejected) = (dollars.accepted(), dollars.rejected);
+            let parts = [("accepted", accepted), ("rejected", rejected)];
+            summary = summary.sum(dollars.name, ("sent", dollars.sent), &parts);
+        }
+        let summary = summary
             .number("rows before", self.rows_before as u64)
             .number("rows", self.counts.rows);
         match &self.journal {
@@ -248,6 +275,7 @@ impl Judged {
         summary: &Summary,
         charset: Charset,
     ) -> Result<Status, Failure> {
+        let listing = Listing::of(arguments)?;
         let verdicts = Verdicts {
             batch: &self.batch.bytes,
             verdicts: &self.verdicts,
@@ -259,8 +287,8 @@ impl Judged {
             arguments,
             progress,
             summary,
-            |screen| verdicts.put_text(screen),
-            |json| verdicts.put_json(json),
+            |screen| verdicts_text::put_text(&verdicts, screen, &listing),
+            |json| verdicts_json::put_json(&verdicts, json, &listing),
         )
     }
 }

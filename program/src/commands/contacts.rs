@@ -12,13 +12,15 @@ use crate::files::read::{read, read_with_room, Input};
 use crate::memory::zeros;
 use crate::progress::Progress;
 use crate::records::columns::{contact, Field};
+use crate::records::contact_faults::wrong_fields;
 use crate::records::field::Form;
 use crate::records::kinds::{CONTACTS, TABLE};
 use crate::report::listed::Listed;
+use crate::report::listing::Listing;
 use crate::report::notes;
 use crate::report::summary::Summary;
 
-/// When a record is faulty; the library does not say which of these it is.
+/// When a record is faulty.
 const REASONS: &str = "A record is good where its state is in the table of 54, its code three digits, telephone 1 of the form \
 (301) 555-1212, telephone 2 of this form or blank, each extension digits with only spaces behind or blank, CHILD SUPPORT or \
 FAMILY SUPPORT in the agency name, neither IRS nor FMS a word of the name or an address line, one of address lines 1 to 3 and \
@@ -38,6 +40,7 @@ pub fn run(arguments: &Arguments, progress: &Progress) -> Result<Status, Failure
         inputs: &[arguments.path(1)],
     };
     let outputs = Outputs::open(arguments, &wanted)?;
+    let listing = Listing::of(arguments)?;
     let charset = Charset::of_flag(arguments.flag("--ascii"));
     let file = read(arguments.path(1), &CONTACTS, charset, progress)?.into_ebcdic()?;
     let sent = file.records();
@@ -55,19 +58,25 @@ pub fn run(arguments: &Arguments, progress: &Progress) -> Result<Status, Failure
     let staged = vec![outputs.stage_state(progress, records)?];
     let placed = outputs.put_in_place(staged)?;
     let summary = Summary::new("contacts", Status::of_rejects(counts.faulty > 0))
+        .verdict(match counts.faulty {
+            0 => "carried out, no record faulty".to_string(),
+            faulty => format!("carried out, {} faulty", counted(faulty, "record")),
+        })
         .number("records read", sent as u64)
         .of_which("good", sent as u64 - counts.faulty)
         .of_which("faulty", counts.faulty)
         .number("table before", before as u64)
         .number("table", counts.contacts)
         .placed(placed);
-    let listed = faulty(arguments, &list, &file);
+    let form = form_of(arguments, Charset::Ebcdic);
+    let reason = |_, record: &[u8]| reason_of(&form, record);
+    let listed = faulty(arguments, &list, &file, &reason);
     print(
         arguments,
         progress,
         &summary,
-        |screen| listed.put_text(screen),
-        |json| listed.put_json(json),
+        |screen| listed.put_text(screen, &listing),
+        |json| listed.put_json(json, &listing),
     )
 }
 
@@ -102,7 +111,12 @@ fn notes_of(refusal: Refusal, table: &Input, file: &Input) -> Vec<String> {
 }
 
 /// The faulty records.
-fn faulty<'a>(arguments: &Arguments, numbers: &'a [u32], file: &'a Input) -> Listed<'a> {
+fn faulty<'a>(
+    arguments: &Arguments,
+    numbers: &'a [u32],
+    file: &'a Input,
+    reason: &'a dyn Fn(usize, &[u8]) -> String,
+) -> Listed<'a> {
     let mut notes = length::of_file(file);
     notes.push(REASONS.to_string());
     Listed {
@@ -113,8 +127,19 @@ fn faulty<'a>(arguments: &Arguments, numbers: &'a [u32], file: &'a Input) -> Lis
         form: form_of(arguments, Charset::Ebcdic),
         put_line,
         fields: &FIELDS,
+        reason,
         notes,
     }
+}
+
+/// The fields that are wrong by themselves, with their values.
+fn reason_of(form: &Form, record: &[u8]) -> String {
+    let shown = |field: &Field| match form.field(field, record) {
+        value if value.is_empty() => format!("{} blank", field.name),
+        value => format!("{} '{value}'", field.name),
+    };
+    let wrong: Vec<String> = wrong_fields(record).iter().map(shown).collect();
+    format!("wrong: {}", wrong.join(", "))
 }
 
 /// `OH003  COUNTY CHILD SUPPORT AGENCY`.

@@ -14,7 +14,8 @@ use crate::report::json::Json;
 use crate::report::screen::{printable, report_output, Output, Screen};
 use crate::report::summary::Summary;
 
-/// Prints a summary and what goes with it, as text or as members of one JSON object. The answer is the summary's status.
+/// Prints a summary and what goes with it, as text or as members of one JSON object; with --quiet the text is the summary's
+/// heading alone. The answer is the summary's status.
 pub fn print(
     arguments: &Arguments,
     progress: &Progress,
@@ -23,6 +24,9 @@ pub fn print(
     members: impl FnOnce(&mut Json<&mut Output>) -> io::Result<()>,
 ) -> Result<Status, Failure> {
     let text = |screen: &mut Screen<Output>| {
+        if arguments.flag("--quiet") {
+            return summary.put_heading(screen);
+        }
         summary.put_text(screen)?;
         text(screen)
     };

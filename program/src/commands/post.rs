@@ -18,6 +18,7 @@ use crate::records::columns::{line, total, Field};
 use crate::records::field::Form;
 use crate::records::kinds::COLLECTIONS;
 use crate::report::listed::Listed;
+use crate::report::listing::Listing;
 use crate::report::notes;
 use crate::report::summary::Summary;
 
@@ -58,7 +59,7 @@ pub fn run(arguments: &Arguments, progress: &Progress) -> Result<Status, Failure
     let record = Record::begin("post", outputs.master(), &master, &[&file])?;
     record.see_not_taken(arguments, &file)?;
     let posted = Posted::of(master, file, arguments, progress)?;
-    let summary = posted.summary();
+    let summary = posted.summary(false);
     let log = record.finish(&summary, &posted.master.bytes);
     let staged = vec![
         outputs.stage_log(progress, &log)?,
@@ -75,7 +76,7 @@ fn dry_run(arguments: &Arguments, progress: &Progress) -> Result<Status, Failure
     let (master, file) = read_files(arguments, progress)?;
     let before = previous_run("post", &target, &master, &file)?;
     let posted = Posted::of(master, file, arguments, progress)?;
-    let mut summary = posted.summary().would_be();
+    let mut summary = posted.summary(true).would_be();
     if let Some(time) = before {
         summary = summary.text("posted before", time);
     }
@@ -83,6 +84,7 @@ fn dry_run(arguments: &Arguments, progress: &Progress) -> Result<Status, Failure
 }
 
 fn read_files(arguments: &Arguments, progress: &Progress) -> Result<(Input, Input), Failure> {
+    Listing::of(arguments)?;
     let charset = Charset::of_flag(arguments.flag("--ascii"));
     let file = read(arguments.path(1), &COLLECTIONS, charset, progress)?.into_ebcdic()?;
     Ok((read_master(arguments, 0, progress)?, file))
@@ -108,10 +110,12 @@ impl Posted {
         })
     }
 
-    fn summary(&self) -> Summary {
+    /// What was done, or would be: nothing is written then.
+    fn summary(&self, is_dry: bool) -> Summary {
         let lines = self.file.records().saturating_sub(1) as u64;
         let listed = self.listed.len() as u64;
         Summary::new("post", Status::of_rejects(listed > 0))
+            .verdict(verdict_of(listed, is_dry))
             .number("rows", self.master.records() as u64)
             .number("lines", lines)
             .of_which("posted", lines - listed)
@@ -124,6 +128,7 @@ impl Posted {
         progress: &Progress,
         summary: &Summary,
     ) -> Result<Status, Failure> {
+        let listing = Listing::of(arguments)?;
         let listed = Listed {
             heading: ("line not posted", "lines not posted"),
             member: "listed",
@@ -132,15 +137,28 @@ impl Posted {
             form: form_of(arguments, Charset::Ebcdic),
             put_line,
             fields: &FIELDS,
+            reason: &|_, _| String::new(),
             notes: vec![REASONS.to_string()],
         };
         print(
             arguments,
             progress,
             summary,
-            |screen| listed.put_text(screen),
-            |json| listed.put_json(json),
+            |screen| listed.put_text(screen, &listing),
+            |json| listed.put_json(json, &listing),
         )
+    }
+}
+
+/// What a person wants to know first of a posting.
+fn verdict_of(listed: u64, is_dry: bool) -> String {
+    let lines = match listed {
+        0 => "every line posted".to_string(),
+        listed => format!("{} not posted", counted(listed, "line")),
+    };
+    match is_dry {
+        false => format!("carried out, {lines}"),
+        true => format!("would be carried out, {lines}; nothing is written"),
     }
 }
 

@@ -105,33 +105,45 @@ pub mod detail {
     use super::*;
 
     pub const STATE: Field = text("Submitting State Code", 1, 2);
+    pub const LOCAL_CODE: Field = text("Local Code", 3, 5);
     pub const SSN: Field = ssn(6, 14);
+    pub const CASE_ID: Field = text("Case ID", 15, 29);
     pub const LAST_NAME: Field = text("Obligor Last Name", 30, 49);
     pub const FIRST_NAME: Field = text("Obligor First Name", 50, 64);
+    pub const ARREARAGE: Field = text("Arrearage Amount", 65, 72);
     pub const TYPE: Field = text("Transaction Type", 73, 73);
     pub const CASE_TYPE: Field = text("Case Type Indicator", 74, 74);
+    pub const TRANSFER_STATE: Field = text("Transfer State Code", 75, 76);
+    pub const PROCESS_YEAR: Field = text("Process Year", 80, 83);
+    pub const ADDRESS_1: Field = text("Obligor Address Line 1", 84, 113);
+    pub const ADDRESS_2: Field = text("Obligor Address Line 2", 114, 143);
+    pub const CITY: Field = text("Obligor City", 144, 168);
+    pub const ADDRESS_STATE: Field = text("Obligor State", 169, 170);
+    pub const ZIP: Field = text("Obligor Zip Code", 171, 179);
+    pub const DATE_ISSUED: Field = text("Date Issued", 180, 187);
     pub const EXCLUSIONS: Field = text("Exclusion Indicator(s)", 188, 227);
+    pub const FILLER: Field = filler(228, 244);
     pub const FIELDS: Layout = &[
         STATE,
-        text("Local Code", 3, 5),
+        LOCAL_CODE,
         SSN,
-        text("Case ID", 15, 29),
+        CASE_ID,
         LAST_NAME,
         FIRST_NAME,
-        text("Arrearage Amount", 65, 72),
+        ARREARAGE,
         TYPE,
         CASE_TYPE,
-        text("Transfer State Code", 75, 76),
+        TRANSFER_STATE,
         text("Transfer Local Code", 77, 79),
-        text("Process Year", 80, 83),
-        text("Obligor Address Line 1", 84, 113),
-        text("Obligor Address Line 2", 114, 143),
-        text("Obligor City", 144, 168),
-        text("Obligor State", 169, 170),
-        text("Obligor Zip Code", 171, 179),
-        text("Date Issued", 180, 187),
+        PROCESS_YEAR,
+        ADDRESS_1,
+        ADDRESS_2,
+        CITY,
+        ADDRESS_STATE,
+        ZIP,
+        DATE_ISSUED,
         EXCLUSIONS,
-        filler(228, 244),
+        FILLER,
         text("Request Code", 245, 245),
     ];
 }
@@ -164,24 +176,24 @@ pub mod reject {
     pub const STORED_NAME: Field = text("OCSE Last Name", 240, 243);
     pub const FIELDS: Layout = &[
         detail::STATE,
-        text("Local Code", 3, 5),
+        detail::LOCAL_CODE,
         detail::SSN,
-        text("Case ID", 15, 29),
+        detail::CASE_ID,
         detail::LAST_NAME,
         detail::FIRST_NAME,
-        text("Arrearage Amount", 65, 72),
+        detail::ARREARAGE,
         detail::TYPE,
         detail::CASE_TYPE,
-        text("Transfer State Code", 75, 76),
+        detail::TRANSFER_STATE,
         text("Transfer Local Code", 77, 79),
-        text("Process Year", 80, 83),
-        text("Obligor Address Line 1", 84, 113),
-        text("Obligor Address Line 2", 114, 143),
-        text("Obligor City", 144, 168),
-        text("Obligor State", 169, 170),
-        text("Obligor Zip Code", 171, 179),
-        text("Date Issued", 180, 187),
-        text("Exclusion Indicator(s)", 188, 227),
+        detail::PROCESS_YEAR,
+        detail::ADDRESS_1,
+        detail::ADDRESS_2,
+        detail::CITY,
+        detail::ADDRESS_STATE,
+        detail::ZIP,
+        detail::DATE_ISSUED,
+        detail::EXCLUSIONS,
         text("Rejected Error Codes", 228, 239),
         STORED_NAME,
         filler(244, 244),
@@ -326,20 +338,29 @@ pub mod contact {
 
     pub const STATE: Field = text("Submitting State Code", 1, 2);
     pub const LOCAL_CODE: Field = text("Local Code", 3, 5);
+    pub const TELEPHONE_1: Field = text("Telephone Number 1", 6, 19);
+    pub const EXTENSION_1: Field = text("Extension 1", 20, 23);
+    pub const TELEPHONE_2: Field = text("Telephone Number 2", 24, 37);
+    pub const EXTENSION_2: Field = text("Extension 2", 38, 41);
     pub const AGENCY: Field = text("State Agency Name", 42, 76);
+    pub const ADDRESS_1: Field = text("State Agency Address Line 1", 77, 111);
+    pub const ADDRESS_2: Field = text("State Agency Address Line 2", 112, 146);
+    pub const ADDRESS_3: Field = text("State Agency Address Line 3", 147, 181);
+    pub const ADDRESS_4: Field = text("State Agency Address Line 4", 182, 216);
+    pub const FILLER: Field = filler(217, 220);
     pub const FIELDS: Layout = &[
         STATE,
         LOCAL_CODE,
-        text("Telephone Number 1", 6, 19),
-        text("Extension 1", 20, 23),
-        text("Telephone Number 2", 24, 37),
-        text("Extension 2", 38, 41),
+        TELEPHONE_1,
+        EXTENSION_1,
+        TELEPHONE_2,
+        EXTENSION_2,
         AGENCY,
-        text("State Agency Address Line 1", 77, 111),
-        text("State Agency Address Line 2", 112, 146),
-        text("State Agency Address Line 3", 147, 181),
-        text("State Agency Address Line 4", 182, 216),
-        filler(217, 220),
+        ADDRESS_1,
+        ADDRESS_2,
+        ADDRESS_3,
+        ADDRESS_4,
+        FILLER,
     ];
 }
 

@@ -1,10 +1,13 @@
 //! Records: the columns of each kind, the kinds of files, and fields as text.
 
 pub mod case_change;
+pub mod code_fields;
 pub mod columns;
+pub mod contact_faults;
 pub mod control_record;
 pub mod cuts;
 pub mod exclusion_words;
 pub mod field;
 pub mod kinds;
+pub mod made_up_case;
 pub mod name_changes;

@@ -1,12 +1,12 @@
-//! Records of a file that a call listed by their numbers.
+//! Records of a file that a call listed by their numbers, each with the reason.
 
 use std::io::{self, Write};
 
-use crate::failure::headed;
 use crate::files::read::Input;
 use crate::records::columns::Field;
 use crate::records::field::Form;
 use crate::report::json::Json;
+use crate::report::listing::Listing;
 use crate::report::screen::{Screen, Style};
 
 pub struct Listed<'a> {
@@ -21,47 +21,55 @@ pub struct Listed<'a> {
     pub put_line: fn(&Form, &[u8], &mut String),
     /// The members of its JSON object behind its number.
     pub fields: &'a [(&'static str, Field)],
+    /// Why a record is listed, by its place in the list.
+    pub reason: &'a dyn Fn(usize, &[u8]) -> String,
     /// What is said below the list.
     pub notes: Vec<String>,
 }
 
 impl Listed<'_> {
-    /// The number of each record, with its bytes.
-    fn records(&self) -> impl Iterator<Item = (u32, &[u8])> {
-        let record = |&number: &u32| (number, self.file.record(number as usize - 1));
-        self.numbers.iter().map(record)
+    /// The number of each record, with its bytes and the reason.
+    fn records(&self) -> impl Iterator<Item = (u32, &[u8], String)> {
+        let record = |(place, &number): (usize, &u32)| {
+            let record = self.file.record(number as usize - 1);
+            (number, record, (self.reason)(place, record))
+        };
+        self.numbers.iter().enumerate().map(record)
     }
 
-    pub fn put_text<W: Write>(&self, screen: &mut Screen<W>) -> io::Result<()> {
+    pub fn put_text<W: Write>(&self, screen: &mut Screen<W>, listing: &Listing) -> io::Result<()> {
         if self.numbers.is_empty() {
             return Ok(());
         }
-        screen.plain("")?;
-        let heading = headed(self.numbers.len() as u64, self.heading);
-        screen.line(Style::Heading, &heading)?;
+        listing.put_heading(screen, self.numbers.len(), self.heading)?;
         let mut text = String::new();
-        for (number, record) in self.records() {
+        for (number, record, reason) in self.records().take(listing.most) {
             text.clear();
             text.push_str(&format!("{} {number}  ", self.file.kind.record));
             (self.put_line)(&self.form, record, &mut text);
             screen.line(Style::Error, &text)?;
+            if !reason.is_empty() {
+                screen.wrapped(Style::Plain, "    ", &reason, 4)?;
+            }
         }
-        screen.plain("")?;
+        listing.put_rest(screen, self.numbers.len())?;
         for note in &self.notes {
+            screen.plain("")?;
             screen.wrapped(Style::Plain, "", note, 0)?;
         }
         Ok(())
     }
 
-    pub fn put_json<W: Write>(&self, json: &mut Json<W>) -> io::Result<()> {
+    pub fn put_json<W: Write>(&self, json: &mut Json<W>, listing: &Listing) -> io::Result<()> {
         json.name(self.member)?;
         json.begin_array()?;
-        for (number, record) in self.records() {
+        for (number, record, reason) in self.records().take(listing.most_in_json) {
             json.begin_object()?;
             json.number_of(self.file.kind.record, u64::from(number))?;
             for (name, field) in self.fields {
                 json.text_of(name, &self.form.field(field, record))?;
             }
+            json.text_of("reason", &reason)?;
             json.end_object()?;
         }
         json.end_array()

@@ -1,5 +1,6 @@
 //! The front of every report: what was carried out, and its numbers.
 
+use std::borrow::Cow;
 use std::io::{self, Write};
 
 use fantanolive::VERSION;
@@ -18,6 +19,11 @@ enum Value {
     /// A number that counts from 1.
     Place(u64),
     Text(String),
+    /// A number that is the sum of others, with its own name and theirs in JSON.
+    Sum {
+        total: (&'static str, u64),
+        parts: Vec<(&'static str, u64)>,
+    },
 }
 
 struct Item {
@@ -32,8 +38,10 @@ pub struct Summary {
     command: &'static str,
     status: Status,
     /// What stands behind the command's name in the text, and the outcome in JSON.
-    heading: &'static str,
+    heading: Cow<'static, str>,
     outcome: &'static str,
+    /// What a person wants to know first, and what is added to it in the text.
+    verdict: Option<String>,
     items: Vec<Item>,
     written: Vec<String>,
     warning: Option<String>,
@@ -44,8 +52,9 @@ impl Summary {
         Summary {
             command,
             status,
-            heading: CARRIED_OUT,
+            heading: Cow::Borrowed(CARRIED_OUT),
             outcome: CARRIED_OUT,
+            verdict: None,
             items: Vec::new(),
             written: Vec::new(),
             warning: None,
@@ -53,13 +62,23 @@ impl Summary {
     }
 
     pub fn heading(mut self, words: &'static str) -> Summary {
-        self.heading = words;
+        self.heading = Cow::Borrowed(words);
+        self
+    }
+
+    /// What a person wants to know first: the heading, and a member in JSON.
+    pub fn verdict(mut self, words: impl Into<String>) -> Summary {
+        let words = words.into();
+        self.heading = Cow::Owned(words.clone());
+        self.verdict = Some(words);
         self
     }
 
     /// Of a run that writes nothing: what it would do.
     pub fn would_be(mut self) -> Summary {
-        self.heading = "would be carried out; nothing is written";
+        if self.verdict.is_none() {
+            self.heading = Cow::Borrowed("would be carried out; nothing is written");
+        }
         self.outcome = "would be carried out";
         self
     }
@@ -81,6 +100,17 @@ impl Summary {
     /// A number that is a part of a part.
     pub fn of_those(self, name: &'static str, number: u64) -> Summary {
         self.item(name, Value::Number(number), 2)
+    }
+
+    /// A number that is the sum of others.
+    pub fn sum(
+        self,
+        name: &'static str,
+        total: (&'static str, u64),
+        parts: &[(&'static str, u64)],
+    ) -> Summary {
+        let parts = parts.to_vec();
+        self.item(name, Value::Sum { total, parts }, 0)
     }
 
     /// The number of a record, the first being 1.
@@ -115,7 +145,7 @@ impl Summary {
     pub fn counts(&self) -> Vec<(String, u64)> {
         let count = |item: &Item| match item.value {
             Value::Number(number) => Some((member(item.name), number)),
-            Value::Place(_) | Value::Text(_) => None,
+            Value::Place(_) | Value::Text(_) | Value::Sum { .. } => None,
         };
         self.items.iter().filter_map(count).collect()
     }
@@ -132,25 +162,28 @@ impl Summary {
         self.warning.as_deref()
     }
 
-    pub fn put_text<W: Write>(&self, screen: &mut Screen<W>) -> io::Result<()> {
+    /// The names and values, and the files written.
+    pub fn lines(&self) -> Vec<(String, String)> {
+        let items = self.items.iter();
+        let items = items.map(|item| (item.shown(), item.value.shown()));
+        let written = self.written.iter();
+        let written = written.map(|path| ("written".to_string(), path.clone()));
+        items.chain(written).collect()
+    }
+
+    /// The line that comes first.
+    pub fn put_heading<W: Write>(&self, screen: &mut Screen<W>) -> io::Result<()> {
         let heading = format!("{}: {}", self.command, self.heading);
-        screen.line(Style::Heading, &heading)?;
-        let shown = |item: &Item| match item.level {
-            0 => item.name.to_string(),
-            level => format!("{}of which {}", "  ".repeat(level), item.name),
-        };
-        let names = self.items.iter().map(|item| shown(item).len());
+        screen.line(Style::Heading, &heading)
+    }
+
+    pub fn put_text<W: Write>(&self, screen: &mut Screen<W>) -> io::Result<()> {
+        self.put_heading(screen)?;
+        let lines = self.lines();
+        let names = lines.iter().map(|(name, _)| name.len());
         let width = names.chain(["written".len()]).max().unwrap_or(0);
-        for item in &self.items {
-            let value = match &item.value {
-                Value::Number(number) => grouped(*number),
-                Value::Place(number) => format!("{}, the first being 1", grouped(*number)),
-                Value::Text(text) => text.clone(),
-            };
-            screen.plain(&format!("  {:<width$}  {value}", shown(item)))?;
-        }
-        for path in &self.written {
-            screen.plain(&format!("  {:<width$}  {path}", "written"))?;
+        for (name, value) in lines {
+            screen.plain(&format!("  {name:<width$}  {value}"))?;
         }
         Ok(())
     }
@@ -161,12 +194,12 @@ impl Summary {
         json.text_of("version", VERSION)?;
         json.text_of("outcome", self.outcome)?;
         json.number_of("status", self.status as u64)?;
+        if let Some(verdict) = &self.verdict {
+            json.text_of("verdict", verdict)?;
+        }
         for item in &self.items {
             json.name(&member(item.name))?;
-            match &item.value {
-                Value::Number(number) | Value::Place(number) => json.number(*number)?,
-                Value::Text(text) => json.text(text)?,
-            }
+            item.value.put_json(json)?;
         }
         json.name("written")?;
         json.begin_array()?;
@@ -178,6 +211,44 @@ impl Summary {
             json.text_of("warning", warning)?;
         }
         Ok(())
+    }
+}
+
+impl Item {
+    fn shown(&self) -> String {
+        match self.level {
+            0 => self.name.to_string(),
+            level => format!("{}of which {}", "  ".repeat(level), self.name),
+        }
+    }
+}
+
+impl Value {
+    fn shown(&self) -> String {
+        match self {
+            Value::Number(number) => grouped(*number),
+            Value::Place(number) => format!("{}, the first being 1", grouped(*number)),
+            Value::Text(text) => text.clone(),
+            Value::Sum { total, parts } => {
+                let part = |(name, number): &(&str, u64)| format!("{} {name}", grouped(*number));
+                let parts: Vec<String> = parts.iter().map(part).collect();
+                format!("{} = {}", grouped(total.1), parts.join(" + "))
+            }
+        }
+    }
+
+    fn put_json<W: Write>(&self, json: &mut Json<W>) -> io::Result<()> {
+        match self {
+            Value::Number(number) | Value::Place(number) => json.number(*number),
+            Value::Text(text) => json.text(text),
+            Value::Sum { total, parts } => {
+                json.begin_object()?;
+                for (name, number) in [total].into_iter().chain(parts) {
+                    json.number_of(&member(name), *number)?;
+                }
+                json.end_object()
+            }
+        }
     }
 }
 

@@ -129,7 +129,7 @@ fn ascii(bytes: &[u8]) -> (f64, Vec<u8>) {
 
 const VERDICTS: u64 = 8 * MOST as u64;
 
-const LISTS: &str = "--locals locals.bin --year 2007";
+const LISTS: &str = "--locals locals.bin --year 2007 --all";
 
 fn batches(files: &Files, folder: &Path) -> Vec<Case> {
     let changes = apply(&files.master, &files.changes, &files.locals);
@@ -231,7 +231,7 @@ fn in_ascii(files: &Files, folder: &Path, applied: &Applied) -> Case {
     fs::write(folder.join("wrong.txt"), batch).expect("the folder takes files");
     fs::write(folder.join("locals.txt"), b"001002003").expect("the folder takes files");
     let words =
-        "apply master.bin wrong.txt --ascii --rejects rejects.txt --locals locals.txt --year 2007";
+        "apply master.bin wrong.txt --ascii --rejects rejects.txt --locals locals.txt --year 2007 --all";
     let mut case = Case::new("apply, in ASCII", words, 1);
     case.call = applied.seconds + there + back;
     case.changed = vec![("master.bin", Some(files.master.clone()))];
@@ -395,7 +395,7 @@ fn post(files: &Files, folder: &Path) -> Case {
     let (seconds, answer) =
         timed(|| library::post(&mut master, MOST, &files.weekly, &mut list, &mut listed));
     assert_eq!(answer, 0, "the collection file is refused");
-    let mut case = Case::new("post", "post master.bin weekly.bin", i32::from(listed > 0));
+    let mut case = Case::new("post", "post master.bin weekly.bin --all", i32::from(listed > 0));
     case.call = seconds;
     case.changed = vec![("master.bin", Some(files.master.clone()))];
     case.written = vec![("master.bin", master)];
@@ -412,7 +412,7 @@ fn over_contacts(files: &Files, folder: &Path) -> Vec<Case> {
     assert_eq!(answer, 0, "the contact file is refused");
     let [count, bad] = result.map(|number| number as usize);
     table.truncate(count * CONTACT);
-    let words = "contacts table.bin contacts.bin --new";
+    let words = "contacts table.bin contacts.bin --new --all";
     let mut contacts = Case::new("contacts", words, i32::from(bad > 0));
     contacts.call = seconds;
     contacts.changed = vec![("table.bin", None)];

@@ -1,0 +1,64 @@
+//! A case that is made up to ask the library about one record: a live row, and records with its key.
+
+use fantanolive::{apply, RECORD, ROW};
+
+use super::columns::{detail, row, Field};
+use super::control_record::batch_of;
+use super::field::text_in;
+
+const STATE: &str = "OH";
+const SSN: &str = "900000001";
+const CASE_TYPE: &str = "N";
+const NAME: &str = "A";
+
+/// A live row of 25 dollars.
+pub fn live_row() -> Vec<u8> {
+    let mut bytes = text_in(
+        ROW,
+        &[
+            (row::STATE, STATE),
+            (row::SSN, SSN),
+            (row::CASE_TYPE, CASE_TYPE),
+            (row::LOCAL_CODE, "000"),
+            (row::LAST_NAME, NAME),
+            (row::ARREARAGE, "00000025"),
+            (row::PAYMENT_YEAR, "0000"),
+            (row::PAYMENT, "00000000"),
+            (row::CENTS, "00"),
+        ],
+    );
+    row::EXCLUSIONS.set(&mut bytes, &[0]);
+    bytes
+}
+
+/// A record of its key and name, with texts in other fields.
+pub fn record_of(kind: &str, fields: &[(Field, &str)]) -> Vec<u8> {
+    let own = [
+        (detail::STATE, STATE),
+        (detail::SSN, SSN),
+        (detail::CASE_TYPE, CASE_TYPE),
+        (detail::TYPE, kind),
+        (detail::LAST_NAME, NAME),
+    ];
+    text_in(RECORD, &[&own[..], fields].concat())
+}
+
+/// The verdict on a record of its key alone, and the row that it leaves.
+pub fn judged(record: &[u8]) -> (u64, Vec<u8>) {
+    let mut master = live_row();
+    let (mut verdicts, mut rejects) = ([0], [0; 2 * RECORD]);
+    let state = detail::STATE.of(record);
+    let (batch, _) = batch_of(state, record).expect("one record is a batch");
+    let rows = 1;
+    apply(
+        &mut master,
+        rows,
+        &batch,
+        &[],
+        2000,
+        &mut verdicts,
+        &mut rejects,
+    )
+    .expect("the row is sound");
+    (verdicts[0], master)
+}
