@@ -499,6 +499,33 @@ else
     echo 'skipped: script is not installed'
 fi
 
+# --- A report in a browser, at the widths of a desk and of a phone, and printed.
+
+in_a_browser() {
+    local width
+    choose apply
+    begin 'a page in a browser'
+    fresh
+    run "$work/fantanolive" check "${arguments[@]:1}" --html page.html
+    want status "$status" 1
+    for width in 1280 390; do
+        (cd "$dir" && timeout 60 "$browser" --headless --no-sandbox --disable-gpu --window-size="$width,900" --user-data-dir="$work/browser" \
+            --screenshot="$dir/page$width.png" "file://$dir/page.html") >/dev/null 2>&1
+        want "a picture $width wide" "$(($(stat -c %s "$dir/page$width.png" 2>/dev/null || echo 0) > 5000))" 1
+    done
+    (cd "$dir" && timeout 60 "$browser" --headless --no-sandbox --disable-gpu --user-data-dir="$work/browser" --dump-dom "file://$dir/page.html") >"$out" 2>/dev/null
+    want heading "$(grep -c '<h1 class="bad">check: not ready: 30 records to fix</h1>' "$out")" 1
+    want records "$(grep -o '<td data-name="Record">' "$out" | wc -l)" 30
+    (cd "$dir" && timeout 60 "$browser" --headless --no-sandbox --disable-gpu --user-data-dir="$work/browser" --print-to-pdf="$dir/page.pdf" "file://$dir/page.html") >/dev/null 2>&1
+    want 'printed pages' "$(grep -ac '/Type /Page$' "$dir/page.pdf")" 2 3 4
+    end
+}
+if browser=$(command -v chromium || command -v chromium-browser); then
+    in_a_browser
+else
+    echo 'skipped: chromium is not installed'
+fi
+
 # --- System calls. A point is a call's name and its number among those of its name.
 
 calls='openat,read,write,fsync,fdatasync,?rename,renameat,renameat2,?unlink,unlinkat,flock,fchmod,fchown,statx,flistxattr,fgetxattr'

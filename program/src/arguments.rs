@@ -274,11 +274,16 @@ fn see_standard(arguments: &Arguments) -> Result<(), Failure> {
     let operands = arguments.operands.iter().enumerate().map(named);
     let options = arguments.options.iter().map(|(name, given)| (*name, given));
     let all = operands.clone().chain(options);
-    for (name, _) in all.filter(|(_, given)| is_standard(given)) {
+    for (name, _) in all.clone().filter(|(_, given)| is_standard(given)) {
         if command.kept.contains(&name) {
             let what = format!("{name} can't be -: it is no file to be read or written once");
             return Err(arguments.wrong(what));
         }
+    }
+    let made =
+        |(name, given): &(&str, &OsString)| command.made.contains(name) && *given == STANDARD;
+    if all.filter(made).count() > 1 {
+        return Err(arguments.wrong("- is standard output, and can be one of the files made alone"));
     }
     let of_operands = operands.map(|(_, given)| given);
     let reads = |(name, _): &&(&str, OsString)| command.read.contains(name);

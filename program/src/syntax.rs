@@ -99,6 +99,8 @@ const DRY_RUN: Opt = flag("--dry-run", "say what would be done, and write nothin
 const LIMIT: Opt = optional("--limit", "N", "list at most N records in place of ten");
 const ALL: Opt = flag("--all", "list all records");
 const BY_OFFICE: Opt = flag("--by-office", "count and list records by their local codes");
+const HTML: Opt = optional("--html", "FILE", "write the report as a page to be printed");
+const CSV: Opt = optional("--csv", "FILE", "write the listed records as CSV");
 const QUIET: Opt = flag("--quiet", "print the verdict alone");
 const AGAIN: Opt = flag("--again", "do it although the log has it as done before");
 
@@ -144,11 +146,13 @@ pub const COMMANDS: &[Command] = &[
             ALL,
             BY_OFFICE,
             QUIET,
+            HTML,
+            CSV,
             JSON,
             FULL,
         ],
         read: &["--locals"],
-        made: &["--rejects", "--journal"],
+        made: &["--rejects", "--journal", "--html", "--csv"],
         help: "\
 Judges each record of BATCH, applies the accepted ones to MASTER and writes the
 reject file. Prints the counts, the dollars, the codes by how often they stand,
@@ -179,26 +183,26 @@ was applied to MASTER before is not applied again without --again.",
             ),
             optional("--journal", "FILE", "the same"),
             NEW,
+            FORCE,
+            MODE,
+            WAIT,
             ASCII,
             LIMIT,
             ALL,
             BY_OFFICE,
             QUIET,
+            HTML,
+            CSV,
             JSON,
             FULL,
         ],
         read: &["--locals"],
-        made: &[],
+        made: &["--html", "--csv"],
         help: "\
 Says what `apply` would do with BATCH: whether it is ready to be sent, and what
 is to be fixed in which record, the first ten of them. No file is written or
-locked.",
-        statuses: &[
-            Status::Done,
-            Status::Rejects,
-            Status::Refused,
-            Status::Problem,
-        ],
+locked but those of --html and --csv.",
+        statuses: WRITES_WITH_REJECTS,
         run: commands::apply::check,
     },
     Command {
@@ -457,16 +461,20 @@ hold SSNs whole, so standard output can't be a terminal without --full.",
         options: &[
             DRY_RUN,
             AGAIN,
+            FORCE,
+            MODE,
             WAIT,
             flag("--ascii", "FILE is in ASCII"),
             LIMIT,
             ALL,
             QUIET,
+            HTML,
+            CSV,
             JSON,
             FULL,
         ],
         read: &[],
-        made: &[],
+        made: &["--html", "--csv"],
         help: "\
 Posts the lines of FILE to MASTER in file order, replaces MASTER whole with a
 line in MASTER.log, and lists the lines that are not posted. A file that was
@@ -512,16 +520,19 @@ it is unknown.",
         kept: &["TABLE"],
         options: &[
             flag("--new", "start from no file: TABLE is missing or empty"),
+            FORCE,
             MODE,
             WAIT,
             flag("--ascii", "FILE is in ASCII"),
             LIMIT,
             ALL,
             QUIET,
+            HTML,
+            CSV,
             JSON,
         ],
         read: &[],
-        made: &[],
+        made: &["--html", "--csv"],
         help: "\
 Puts the good records of FILE into TABLE, each in the place of the one of its
 state and code, replaces TABLE whole, and lists the faulty records.",

@@ -8,10 +8,12 @@ use crate::arguments::Arguments;
 use crate::code_page::{convert, Charset};
 use crate::commands::master::read_master;
 use crate::commands::output::{form_of, print};
-use crate::failure::{counted, Failure, Status};
+use crate::commands::report_files::{self, with_reports};
+use crate::failure::{counted, shown, Failure, Status};
 use crate::files::length;
 use crate::files::outputs::{expect, Outputs, Wanted};
 use crate::files::read::{read, Input};
+use crate::files::replace::Staged;
 use crate::files::target::Target;
 use crate::log::record::{previous_run, Record};
 use crate::memory::zeros;
@@ -19,9 +21,11 @@ use crate::progress::Progress;
 use crate::records::columns::control;
 use crate::records::field::{Form, Placeholder};
 use crate::records::kinds::{BATCH, LOCALS};
+use crate::report::html::Page;
 use crate::report::listing::Listing;
 use crate::report::summary::Summary;
 use crate::report::verdicts::Verdicts;
+use crate::report::verdicts_sheet::{chart_of, VerdictsSheet};
 use crate::report::{batch_notes, dollars, notes, verdicts_json, verdicts_text};
 
 /// A batch that was carried out in memory.
@@ -39,6 +43,13 @@ struct Judged {
 pub fn check(arguments: &Arguments, progress: &Progress) -> Result<Status, Failure> {
     let master = Target::of(arguments.path(0))?;
     expect(&master, arguments)?;
+    let locals = Path::new(arguments.needed("--locals"));
+    let wanted = Wanted {
+        state: false,
+        made: &with_reports(arguments, &[]),
+        inputs: &[arguments.path(0), arguments.path(1), locals],
+    };
+    let outputs = Outputs::open(arguments, &wanted)?;
     let files = Files::read(arguments, progress)?;
     let before = previous_run("apply", &master, &files.master, &files.batch)?;
     let judged = files.judge(arguments, progress)?;
@@ -46,16 +57,22 @@ pub fn check(arguments: &Arguments, progress: &Progress) -> Result<Status, Failu
     if let Some(time) = before {
         summary = summary.text("applied before", time);
     }
-    judged.report(arguments, progress, &summary, Charset::Ebcdic)
+    let verdicts = judged.verdicts(arguments, Charset::Ebcdic);
+    let staged = stage_reports(&outputs, arguments, progress, &summary, &verdicts)?;
+    let summary = summary.placed(outputs.put_in_place(staged)?);
+    report(arguments, progress, &summary, &verdicts)
 }
 
 pub fn apply(arguments: &Arguments, progress: &Progress) -> Result<Status, Failure> {
     let wanted = Wanted {
         state: true,
-        made: match arguments.flag("--journal") {
-            true => &["--rejects", "--journal"],
-            false => &["--rejects"],
-        },
+        made: &with_reports(
+            arguments,
+            match arguments.flag("--journal") {
+                true => &["--rejects", "--journal"],
+                false => &["--rejects"],
+            },
+        ),
         inputs: &[arguments.path(1), Path::new(arguments.needed("--locals"))],
     };
     let outputs = Outputs::open(arguments, &wanted)?;
@@ -80,11 +97,14 @@ pub fn apply(arguments: &Arguments, progress: &Progress) -> Result<Status, Failu
         let file = outputs.stage_bytes("--journal", progress, journal)?;
         staged.push(file.before_others());
     }
+    let verdicts = judged.verdicts(arguments, charset);
+    let reports = stage_reports(&outputs, arguments, progress, &summary, &verdicts)?;
+    staged.extend(reports);
     let log = record.finish(&summary, rows);
     staged.push(outputs.stage_log(progress, &log)?);
     staged.push(outputs.stage_state(progress, rows)?);
     let summary = summary.placed(outputs.put_in_place(staged)?);
-    judged.report(arguments, progress, &summary, charset)
+    report(arguments, progress, &summary, &verdicts)
 }
 
 /// What a batch is judged by.
@@ -268,27 +288,48 @@ impl Judged {
         }
     }
 
-    fn report(
-        &self,
-        arguments: &Arguments,
-        progress: &Progress,
-        summary: &Summary,
-        charset: Charset,
-    ) -> Result<Status, Failure> {
-        let listing = Listing::of(arguments)?;
-        let verdicts = Verdicts {
+    fn verdicts(&self, arguments: &Arguments, charset: Charset) -> Verdicts<'_> {
+        Verdicts {
             batch: &self.batch.bytes,
             verdicts: &self.verdicts,
             rejects: &self.rejects,
             of_details: form_of(arguments, Charset::Ebcdic),
             of_rejects: form_of(arguments, charset),
-        };
-        print(
-            arguments,
-            progress,
-            summary,
-            |screen| verdicts_text::put_text(&verdicts, screen, &listing),
-            |json| verdicts_json::put_json(&verdicts, json, &listing),
-        )
+        }
     }
+}
+
+/// Writes the reports that are asked for.
+fn stage_reports(
+    outputs: &Outputs,
+    arguments: &Arguments,
+    progress: &Progress,
+    summary: &Summary,
+    verdicts: &Verdicts,
+) -> Result<Vec<Staged<'static>>, Failure> {
+    let listing = &Listing::of(arguments)?;
+    let page = Page {
+        about: report_files::about(arguments, &shown(arguments.path(1))),
+        chart: ("Codes", chart_of(verdicts)),
+        notes: Vec::new(),
+        list: &VerdictsSheet { verdicts, listing },
+        full: arguments.flag("--full"),
+    };
+    report_files::stage(outputs, arguments, progress, summary, &page)
+}
+
+fn report(
+    arguments: &Arguments,
+    progress: &Progress,
+    summary: &Summary,
+    verdicts: &Verdicts,
+) -> Result<Status, Failure> {
+    let listing = Listing::of(arguments)?;
+    print(
+        arguments,
+        progress,
+        summary,
+        |screen| verdicts_text::put_text(verdicts, screen, &listing),
+        |json| verdicts_json::put_json(verdicts, json, &listing),
+    )
 }

@@ -5,6 +5,7 @@ use fantanolive::{Refusal, CONTACT};
 use crate::arguments::Arguments;
 use crate::code_page::Charset;
 use crate::commands::output::{form_of, print};
+use crate::commands::report_files::{self, with_reports};
 use crate::failure::{counted, Failure, Status};
 use crate::files::length;
 use crate::files::outputs::{Outputs, Wanted};
@@ -15,6 +16,7 @@ use crate::records::columns::{contact, Field};
 use crate::records::contact_faults::wrong_fields;
 use crate::records::field::Form;
 use crate::records::kinds::{CONTACTS, TABLE};
+use crate::report::html::Page;
 use crate::report::listed::Listed;
 use crate::report::listing::Listing;
 use crate::report::notes;
@@ -36,7 +38,7 @@ const FIELDS: [(&str, Field); 3] = [
 pub fn run(arguments: &Arguments, progress: &Progress) -> Result<Status, Failure> {
     let wanted = Wanted {
         state: true,
-        made: &[],
+        made: &with_reports(arguments, &[]),
         inputs: &[arguments.path(1)],
     };
     let outputs = Outputs::open(arguments, &wanted)?;
@@ -55,8 +57,6 @@ pub fn run(arguments: &Arguments, progress: &Progress) -> Result<Status, Failure
         .map_err(|refusal| notes::refused(refusal, notes_of(refusal, &table, &file)))?;
     list.truncate(counts.faulty as usize);
     let records = &table.bytes[..counts.contacts as usize * CONTACT];
-    let staged = vec![outputs.stage_state(progress, records)?];
-    let placed = outputs.put_in_place(staged)?;
     let summary = Summary::new("contacts", Status::of_rejects(counts.faulty > 0))
         .verdict(match counts.faulty {
             0 => "carried out, no record faulty".to_string(),
@@ -66,11 +66,23 @@ pub fn run(arguments: &Arguments, progress: &Progress) -> Result<Status, Failure
         .of_which("good", sent as u64 - counts.faulty)
         .of_which("faulty", counts.faulty)
         .number("table before", before as u64)
-        .number("table", counts.contacts)
-        .placed(placed);
+        .number("table", counts.contacts);
     let form = form_of(arguments, Charset::Ebcdic);
     let reason = |_, record: &[u8]| reason_of(&form, record);
-    let listed = faulty(arguments, &list, &file, &reason);
+    let listed = Listed {
+        most_in_files: listing.most_in_files,
+        ..faulty(arguments, &list, &file, &reason)
+    };
+    let page = Page {
+        about: report_files::about(arguments, &file.name()),
+        chart: ("Wrong fields", chart_of(&list, &file)),
+        notes: listed.notes.clone(),
+        list: &listed,
+        full: arguments.flag("--full"),
+    };
+    let mut staged = report_files::stage(&outputs, arguments, progress, &summary, &page)?;
+    staged.push(outputs.stage_state(progress, records)?);
+    let summary = summary.placed(outputs.put_in_place(staged)?);
     print(
         arguments,
         progress,
@@ -127,9 +139,29 @@ fn faulty<'a>(
         form: form_of(arguments, Charset::Ebcdic),
         put_line,
         fields: &FIELDS,
+        heads: &["Record", "State", "Local code", "Agency name", "Reason"],
+        most_in_files: usize::MAX,
         reason,
         notes,
     }
+}
+
+/// How many faulty records have each field wrong, for a chart.
+fn chart_of(numbers: &[u32], file: &Input) -> Vec<(String, u64, String)> {
+    let mut counts = vec![0; contact::FIELDS.len()];
+    for &number in numbers {
+        for wrong in wrong_fields(file.record(number as usize - 1)) {
+            let is_it = |field: &Field| field.first == wrong.first;
+            if let Some(place) = contact::FIELDS.iter().position(is_it) {
+                counts[place] += 1;
+            }
+        }
+    }
+    let fields = contact::FIELDS.iter().zip(counts);
+    let wrong = fields.filter(|(_, count)| *count > 0);
+    wrong
+        .map(|(field, count)| (field.name.to_string(), count, field.columns()))
+        .collect()
 }
 
 /// The fields that are wrong by themselves, with their values.

@@ -23,3 +23,4 @@ mod keys;
 mod list;
 mod master;
 mod output;
+mod report_files;

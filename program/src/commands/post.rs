@@ -6,10 +6,12 @@ use crate::arguments::Arguments;
 use crate::code_page::Charset;
 use crate::commands::master::{self, read_master};
 use crate::commands::output::{form_of, print};
+use crate::commands::report_files::{self, with_reports};
 use crate::failure::{counted, Failure, Status};
 use crate::files::length;
 use crate::files::outputs::{expect, Outputs, Wanted};
 use crate::files::read::{read, Input};
+use crate::files::replace::Staged;
 use crate::files::target::Target;
 use crate::log::record::{previous_run, Record};
 use crate::memory::zeros;
@@ -17,6 +19,7 @@ use crate::progress::Progress;
 use crate::records::columns::{line, total, Field};
 use crate::records::field::Form;
 use crate::records::kinds::COLLECTIONS;
+use crate::report::html::Page;
 use crate::report::listed::Listed;
 use crate::report::listing::Listing;
 use crate::report::notes;
@@ -37,6 +40,19 @@ const FIELDS: [(&str, Field); 7] = [
     ("adjustment", line::ADJUSTMENT),
 ];
 
+/// The names of its columns in files.
+const HEADS: [&str; 9] = [
+    "Line",
+    "State",
+    "SSN",
+    "Case type",
+    "Last name",
+    "First name",
+    "Collection",
+    "Adjustment",
+    "Reason",
+];
+
 /// A collection file that was posted in memory.
 struct Posted {
     master: Input,
@@ -51,7 +67,7 @@ pub fn run(arguments: &Arguments, progress: &Progress) -> Result<Status, Failure
     }
     let wanted = Wanted {
         state: true,
-        made: &[],
+        made: &with_reports(arguments, &[]),
         inputs: &[arguments.path(1)],
     };
     let outputs = Outputs::open(arguments, &wanted)?;
@@ -61,10 +77,9 @@ pub fn run(arguments: &Arguments, progress: &Progress) -> Result<Status, Failure
     let posted = Posted::of(master, file, arguments, progress)?;
     let summary = posted.summary(false);
     let log = record.finish(&summary, &posted.master.bytes);
-    let staged = vec![
-        outputs.stage_log(progress, &log)?,
-        outputs.stage_state(progress, &posted.master.bytes)?,
-    ];
+    let mut staged = posted.stage_reports(&outputs, arguments, progress, &summary)?;
+    staged.push(outputs.stage_log(progress, &log)?);
+    staged.push(outputs.stage_state(progress, &posted.master.bytes)?);
     let summary = summary.placed(outputs.put_in_place(staged)?);
     posted.report(arguments, progress, &summary)
 }
@@ -73,6 +88,12 @@ pub fn run(arguments: &Arguments, progress: &Progress) -> Result<Status, Failure
 fn dry_run(arguments: &Arguments, progress: &Progress) -> Result<Status, Failure> {
     let target = Target::of(arguments.path(0))?;
     expect(&target, arguments)?;
+    let wanted = Wanted {
+        state: false,
+        made: &with_reports(arguments, &[]),
+        inputs: &[arguments.path(0), arguments.path(1)],
+    };
+    let outputs = Outputs::open(arguments, &wanted)?;
     let (master, file) = read_files(arguments, progress)?;
     let before = previous_run("post", &target, &master, &file)?;
     let posted = Posted::of(master, file, arguments, progress)?;
@@ -80,6 +101,8 @@ fn dry_run(arguments: &Arguments, progress: &Progress) -> Result<Status, Failure
     if let Some(time) = before {
         summary = summary.text("posted before", time);
     }
+    let staged = posted.stage_reports(&outputs, arguments, progress, &summary)?;
+    let summary = summary.placed(outputs.put_in_place(staged)?);
     posted.report(arguments, progress, &summary)
 }
 
@@ -122,14 +145,14 @@ impl Posted {
             .of_which("not posted", listed)
     }
 
-    fn report(
-        &self,
+    /// The lines that are not posted.
+    fn listed<'a>(
+        &'a self,
         arguments: &Arguments,
-        progress: &Progress,
-        summary: &Summary,
-    ) -> Result<Status, Failure> {
-        let listing = Listing::of(arguments)?;
-        let listed = Listed {
+        listing: &Listing,
+        reason: &'a dyn Fn(usize, &[u8]) -> String,
+    ) -> Listed<'a> {
+        Listed {
             heading: ("line not posted", "lines not posted"),
             member: "listed",
             numbers: &self.listed,
@@ -137,9 +160,42 @@ impl Posted {
             form: form_of(arguments, Charset::Ebcdic),
             put_line,
             fields: &FIELDS,
-            reason: &|_, _| String::new(),
+            heads: &HEADS,
+            most_in_files: listing.most_in_files,
+            reason,
             notes: vec![REASONS.to_string()],
+        }
+    }
+
+    /// Writes the reports that are asked for.
+    fn stage_reports(
+        &self,
+        outputs: &Outputs,
+        arguments: &Arguments,
+        progress: &Progress,
+        summary: &Summary,
+    ) -> Result<Vec<Staged<'static>>, Failure> {
+        let reason = |_, _: &[u8]| String::new();
+        let listed = self.listed(arguments, &Listing::of(arguments)?, &reason);
+        let page = Page {
+            about: report_files::about(arguments, &self.file.name()),
+            chart: ("Reasons", Vec::new()),
+            notes: listed.notes.clone(),
+            list: &listed,
+            full: arguments.flag("--full"),
         };
+        report_files::stage(outputs, arguments, progress, summary, &page)
+    }
+
+    fn report(
+        &self,
+        arguments: &Arguments,
+        progress: &Progress,
+        summary: &Summary,
+    ) -> Result<Status, Failure> {
+        let listing = Listing::of(arguments)?;
+        let reason = |_, _: &[u8]| String::new();
+        let listed = self.listed(arguments, &listing, &reason);
         print(
             arguments,
             progress,

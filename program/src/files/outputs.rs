@@ -40,7 +40,7 @@ pub struct Wanted<'a> {
     /// Whether the first operand is replaced.
     pub state: bool,
     /// The options that name files to be made.
-    pub made: &'static [&'static str],
+    pub made: &'a [&'static str],
     pub inputs: &'a [&'a Path],
 }
 

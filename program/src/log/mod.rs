@@ -10,5 +10,5 @@ pub mod record;
 pub mod sha256;
 
 mod sha256_x86;
-mod time;
+pub mod time;
 mod value;

@@ -2,12 +2,14 @@
 
 use std::io::{self, Write};
 
+use crate::failure::headed;
 use crate::files::read::Input;
 use crate::records::columns::Field;
 use crate::records::field::Form;
 use crate::report::json::Json;
 use crate::report::listing::Listing;
 use crate::report::screen::{Screen, Style};
+use crate::report::sheet::{Put, Sheet};
 
 pub struct Listed<'a> {
     /// What one record is and what several are, and the name of their JSON array.
@@ -21,6 +23,9 @@ pub struct Listed<'a> {
     pub put_line: fn(&Form, &[u8], &mut String),
     /// The members of its JSON object behind its number.
     pub fields: &'a [(&'static str, Field)],
+    /// The names of its columns in files: its number, these fields, and the reason.
+    pub heads: &'static [&'static str],
+    pub most_in_files: usize,
     /// Why a record is listed, by its place in the list.
     pub reason: &'a dyn Fn(usize, &[u8]) -> String,
     /// What is said below the list.
@@ -63,7 +68,7 @@ impl Listed<'_> {
     pub fn put_json<W: Write>(&self, json: &mut Json<W>, listing: &Listing) -> io::Result<()> {
         json.name(self.member)?;
         json.begin_array()?;
-        for (number, record, reason) in self.records().take(listing.most_in_json) {
+        for (number, record, reason) in self.records().take(listing.most_in_files) {
             json.begin_object()?;
             json.number_of(self.file.kind.record, u64::from(number))?;
             for (name, field) in self.fields {
@@ -73,5 +78,27 @@ impl Listed<'_> {
             json.end_object()?;
         }
         json.end_array()
+    }
+}
+
+impl Sheet for Listed<'_> {
+    fn caption(&self) -> String {
+        headed(self.numbers.len() as u64, self.heading)
+    }
+
+    fn heads(&self) -> &'static [&'static str] {
+        self.heads
+    }
+
+    fn put_lines(&self, put: &mut Put) -> io::Result<()> {
+        for (number, record, reason) in self.records().take(self.most_in_files) {
+            let values = self.fields.iter();
+            let values = values.map(|(_, field)| self.form.field(field, record));
+            let cells = [number.to_string()].into_iter().chain(values);
+            let cells: Vec<String> = cells.chain([reason]).collect();
+            let cells: Vec<&str> = cells.iter().map(String::as_str).collect();
+            put(&cells)?;
+        }
+        Ok(())
     }
 }

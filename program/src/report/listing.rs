@@ -10,9 +10,9 @@ use crate::report::screen::{Screen, Style};
 const USUAL: usize = 10;
 
 pub struct Listing {
-    /// The most records of a list, in text and in JSON, which has all unless --limit is given.
+    /// The most records of a list, in text; and in JSON and files, which have all unless --limit is given.
     pub most: usize,
-    pub most_in_json: usize,
+    pub most_in_files: usize,
     /// Whether the records of an office stand together.
     pub by_office: bool,
 }
@@ -28,7 +28,7 @@ impl Listing {
         let usual = if all { usize::MAX } else { USUAL };
         Ok(Listing {
             most: limit.unwrap_or(usual),
-            most_in_json: limit.unwrap_or(usize::MAX),
+            most_in_files: limit.unwrap_or(usize::MAX),
             by_office: arguments.flag("--by-office"),
         })
     }

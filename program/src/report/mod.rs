@@ -2,9 +2,11 @@
 
 pub mod batch_notes;
 pub mod case_notes;
+pub mod csv;
 pub mod differences;
 pub mod dollars;
 pub mod fields;
+pub mod html;
 pub mod journal_note;
 pub mod json;
 pub mod listed;
@@ -12,9 +14,11 @@ pub mod listing;
 pub mod notes;
 pub mod problem;
 pub mod screen;
+pub mod sheet;
 pub mod ssn_fault;
 pub mod summary;
 pub mod verdicts;
 pub mod verdicts_json;
+pub mod verdicts_sheet;
 pub mod verdicts_text;
 pub mod wrap;

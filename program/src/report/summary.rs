@@ -162,6 +162,11 @@ impl Summary {
         self.warning.as_deref()
     }
 
+    /// What stands behind the command's name.
+    pub fn words(&self) -> &str {
+        &self.heading
+    }
+
     /// The names and values, and the files written.
     pub fn lines(&self) -> Vec<(String, String)> {
         let items = self.items.iter();

@@ -45,7 +45,7 @@ pub fn put_json<W: Write>(
     json.name("records")?;
     json.begin_array()?;
     let coded = verdicts.coded(ERRORS | WARNINGS);
-    for coded in coded.take(listing.most_in_json) {
+    for coded in coded.take(listing.most_in_files) {
         put_record(verdicts, json, &coded)?;
     }
     json.end_array()

@@ -1,0 +1,95 @@
+//! A judged batch as a table: a line for each code of each record.
+
+use std::io;
+
+use fantanolive::{code_text, codes, ERRORS, WARNINGS};
+
+use crate::failure::headed;
+use crate::records::columns::detail;
+use crate::report::listing::Listing;
+use crate::report::sheet::{Put, Sheet};
+use crate::report::verdicts::{wrong_of, Coded, Verdicts};
+
+pub struct VerdictsSheet<'a> {
+    pub verdicts: &'a Verdicts<'a>,
+    pub listing: &'a Listing,
+}
+
+const HEADS: [&str; 11] = [
+    "Record",
+    "Key",
+    "Transaction type",
+    "Last name",
+    "First name",
+    "Case ID",
+    "Local code",
+    "Severity",
+    "Code",
+    "What is wrong",
+    "Sent",
+];
+
+impl VerdictsSheet<'_> {
+    fn put_record(&self, coded: &Coded, put: &mut Put) -> io::Result<()> {
+        let form = &self.verdicts.of_details;
+        let number = (coded.number + 1).to_string();
+        let key = self.verdicts.key(coded);
+        let fields = [
+            detail::TYPE,
+            detail::LAST_NAME,
+            detail::FIRST_NAME,
+            detail::CASE_ID,
+            detail::LOCAL_CODE,
+        ];
+        let fields = fields.map(|field| form.field(&field, coded.detail));
+        for code in codes(coded.verdict) {
+            let severity = match codes(WARNINGS).any(|warning| warning == code) {
+                true => "warning",
+                false => "error",
+            };
+            let (shown, sent) = (format!("{code:02}"), self.verdicts.sent_words(code, coded));
+            let [kind, last, first, case, office] = fields.each_ref().map(String::as_str);
+            let wrong = wrong_of(code);
+            put(&[
+                &number, &key, kind, last, first, case, office, severity, &shown, wrong, &sent,
+            ])?;
+        }
+        Ok(())
+    }
+}
+
+impl Sheet for VerdictsSheet<'_> {
+    fn caption(&self) -> String {
+        let count = self.verdicts.count(ERRORS | WARNINGS) as u64;
+        headed(count, ("record with a code", "records with a code"))
+    }
+
+    fn heads(&self) -> &'static [&'static str] {
+        &HEADS
+    }
+
+    fn put_lines(&self, put: &mut Put) -> io::Result<()> {
+        let (set, most) = (ERRORS | WARNINGS, self.listing.most_in_files);
+        if self.listing.by_office {
+            let list = self.verdicts.coded_by_office(set);
+            let mut first = list.iter().take(most);
+            return first.try_for_each(|coded| self.put_record(coded, put));
+        }
+        let mut first = self.verdicts.coded(set).take(most);
+        first.try_for_each(|coded| self.put_record(&coded, put))
+    }
+}
+
+/// The codes with how often they stand, and what to do, for a chart.
+pub fn chart_of(verdicts: &Verdicts) -> Vec<(String, u64, String)> {
+    let counts = verdicts.counts().into_iter();
+    let bar = |(code, count)| {
+        let fix = code_text(code).map_or("", |text| text.mend);
+        (
+            format!("{code:02} {}", wrong_of(code)),
+            count,
+            fix.to_string(),
+        )
+    };
+    counts.map(bar).collect()
+}
