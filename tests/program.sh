@@ -486,7 +486,7 @@ terminals() {
     # a file of holes that takes longer than the run is given
     begin 'how much is done'
     fresh
-    truncate -s 16G "$dir/large.bin"
+    truncate -s 15G "$dir/large.bin"
     on_terminal "timeout 6 $work/fantanolive log large.bin"
     want 'how much is read' "$(($(grep -o "reading large.bin: [0-9]* %" "$out" | sort -u | wc -l) > 1))" 1
     (cd "$dir" && timeout 2 "$work/fantanolive" log large.bin) >"$out" 2>"$err"

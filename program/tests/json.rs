@@ -14,7 +14,11 @@ fn value(text: &str) -> &str {
         _ => {
             let rest = text.trim_start_matches(|c: char| c.is_ascii_digit());
             assert!(rest.len() < text.len(), "no value: {text}");
-            rest
+            // cents
+            match rest.strip_prefix('.') {
+                Some(cents) => cents.trim_start_matches(|c: char| c.is_ascii_digit()),
+                None => rest,
+            }
         }
     }
 }

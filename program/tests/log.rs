@@ -52,7 +52,7 @@ fn a_line_for_each_run() {
     };
     assert!(first.contains("\"command\":\"add-cents\",\"status\":0,\"inputs\":[]"));
     assert!(second.contains("\"command\":\"post\",\"status\":1,\"inputs\":[{\"kind\":\"collections\",\"name\":\"weekly.bin\""));
-    let counts = "\"counts\":{\"rows\":2,\"lines\":4,\"posted\":3,\"not_posted\":1}}";
+    let counts = "\"counts\":{\"rows\":2,\"lines\":4,\"posted\":3,\"not_posted\":1,\"cases_closed\":1,\"cases_with_excess\":1}}";
     assert!(second.ends_with(counts), "{second}");
     assert!(second.contains(&format!("\"version\":\"{}\"", fantanolive::VERSION)));
     let prints = [

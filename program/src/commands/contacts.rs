@@ -17,7 +17,7 @@ use crate::records::contact_faults::wrong_fields;
 use crate::records::field::Form;
 use crate::records::kinds::{CONTACTS, TABLE};
 use crate::report::html::Page;
-use crate::report::listed::Listed;
+use crate::report::listed::{Listed, Why};
 use crate::report::listing::Listing;
 use crate::report::notes;
 use crate::report::summary::Summary;
@@ -127,10 +127,12 @@ fn faulty<'a>(
     arguments: &Arguments,
     numbers: &'a [u32],
     file: &'a Input,
-    reason: &'a dyn Fn(usize, &[u8]) -> String,
+    reason: &'a dyn Fn(usize, &[u8]) -> Why,
 ) -> Listed<'a> {
     let mut notes = length::of_file(file);
-    notes.push(REASONS.to_string());
+    if !numbers.is_empty() {
+        notes.push(REASONS.to_string());
+    }
     Listed {
         heading: ("faulty record", "faulty records"),
         member: "faulty_records",
@@ -165,13 +167,16 @@ fn chart_of(numbers: &[u32], file: &Input) -> Vec<(String, u64, String)> {
 }
 
 /// The fields that are wrong by themselves, with their values.
-fn reason_of(form: &Form, record: &[u8]) -> String {
+fn reason_of(form: &Form, record: &[u8]) -> Why {
     let shown = |field: &Field| match form.field(field, record) {
         value if value.is_empty() => format!("{} blank", field.name),
         value => format!("{} '{value}'", field.name),
     };
     let wrong: Vec<String> = wrong_fields(record).iter().map(shown).collect();
-    format!("wrong: {}", wrong.join(", "))
+    Why {
+        name: "wrong fields",
+        words: format!("wrong: {}", wrong.join(", ")),
+    }
 }
 
 /// `OH003  COUNTY CHILD SUPPORT AGENCY`.

@@ -1,6 +1,6 @@
 //! post: a weekly collection file posted to a master.
 
-use fantanolive::Refusal;
+use fantanolive::{Refusal, LINE, ROW};
 
 use crate::arguments::Arguments;
 use crate::code_page::Charset;
@@ -17,17 +17,15 @@ use crate::log::record::{previous_run, Record};
 use crate::memory::zeros;
 use crate::progress::Progress;
 use crate::records::columns::{line, total, Field};
-use crate::records::field::Form;
+use crate::records::field::{Form, Placeholder};
 use crate::records::kinds::COLLECTIONS;
+use crate::records::line_reasons::{self, Reason};
+use crate::records::money::{total_notes, Money};
 use crate::report::html::Page;
-use crate::report::listed::Listed;
+use crate::report::listed::{Listed, Why};
 use crate::report::listing::Listing;
 use crate::report::notes;
 use crate::report::summary::Summary;
-
-/// Why lines are listed; the library does not say which of these it is.
-const REASONS: &str = "A line is not posted where an amount is not eleven digits (the last one may carry a positive sign), \
-both amounts are above zero, no live case has its key at its turn, or the balance would pass 99,999,999.99.";
 
 /// The members of a listed line in JSON.
 const FIELDS: [(&str, Field); 7] = [
@@ -57,8 +55,10 @@ const HEADS: [&str; 9] = [
 struct Posted {
     master: Input,
     file: Input,
-    /// The numbers of the lines that are not posted.
+    /// The numbers of the lines that are not posted, and why.
     listed: Vec<u32>,
+    reasons: Vec<Reason>,
+    money: Money,
 }
 
 pub fn run(arguments: &Arguments, progress: &Progress) -> Result<Status, Failure> {
@@ -126,23 +126,74 @@ impl Posted {
         let listed = fantanolive::post(&mut master.bytes, rows, &file.bytes, &mut list)
             .map_err(|refusal| refused(refusal, &mut master, &file, arguments.flag("--full")))?;
         list.truncate(listed as usize);
+        progress.now("adding up the money");
+        let posted = line_reasons::Posted {
+            lines: &file.bytes[..lines * LINE],
+            listed: &list,
+            rows: &master.bytes,
+            read: &|row, bytes| master.read_again(row * ROW, bytes),
+        };
+        let (reasons, money) = (posted.reasons()?, Money::of(&posted)?);
         Ok(Posted {
+            listed: list,
+            reasons,
+            money,
             master,
             file,
-            listed: list,
         })
+    }
+
+    /// What is noted of the last record.
+    fn notes(&self) -> Vec<String> {
+        let lines = self.file.records().saturating_sub(1);
+        let last = self.file.last().unwrap_or_default();
+        total_notes(&self.file.bytes[..lines * LINE], last)
+    }
+
+    /// How many lines have each reason, for a chart.
+    fn chart(&self) -> Vec<(String, u64, String)> {
+        let mut counts: Vec<(String, u64, String)> = Vec::new();
+        for reason in &self.reasons {
+            let name = reason.name();
+            match counts.iter_mut().find(|(other, ..)| other == name) {
+                Some((_, count, _)) => *count += 1,
+                None => counts.push((name.to_string(), 1, String::new())),
+            }
+        }
+        counts.sort_by_key(|(_, count, _)| std::cmp::Reverse(*count));
+        counts
+    }
+
+    fn why(&self, form: &Form, place: usize, record: &[u8]) -> Why {
+        let reason = &self.reasons[place];
+        Why {
+            name: reason.name(),
+            words: reason.words(form, record),
+        }
     }
 
     /// What was done, or would be: nothing is written then.
     fn summary(&self, is_dry: bool) -> Summary {
         let lines = self.file.records().saturating_sub(1) as u64;
         let listed = self.listed.len() as u64;
+        let money = &self.money;
         Summary::new("post", Status::of_rejects(listed > 0))
             .verdict(verdict_of(listed, is_dry))
             .number("rows", self.master.records() as u64)
             .number("lines", lines)
             .of_which("posted", lines - listed)
             .of_which("not posted", listed)
+            .money_sum(
+                "collections",
+                ("collected", money.collected),
+                &[("applied", money.applied()), ("excess", money.excess())],
+            )
+            .money("adjusted", money.adjusted)
+            .money("balances before", money.before)
+            .money("balances after", money.after)
+            .text("equation", money.equation())
+            .number("cases closed", money.closed)
+            .number("cases with excess", money.with_excess)
     }
 
     /// The lines that are not posted.
@@ -150,7 +201,7 @@ impl Posted {
         &'a self,
         arguments: &Arguments,
         listing: &Listing,
-        reason: &'a dyn Fn(usize, &[u8]) -> String,
+        reason: &'a dyn Fn(usize, &[u8]) -> Why,
     ) -> Listed<'a> {
         Listed {
             heading: ("line not posted", "lines not posted"),
@@ -163,7 +214,7 @@ impl Posted {
             heads: &HEADS,
             most_in_files: listing.most_in_files,
             reason,
-            notes: vec![REASONS.to_string()],
+            notes: self.notes(),
         }
     }
 
@@ -175,11 +226,12 @@ impl Posted {
         progress: &Progress,
         summary: &Summary,
     ) -> Result<Vec<Staged<'static>>, Failure> {
-        let reason = |_, _: &[u8]| String::new();
-        let listed = self.listed(arguments, &Listing::of(arguments)?, &reason);
+        let form = Form::new(Charset::Ebcdic, Placeholder::Dot, arguments.flag("--full"));
+        let why = |place, record: &[u8]| self.why(&form, place, record);
+        let listed = self.listed(arguments, &Listing::of(arguments)?, &why);
         let page = Page {
             about: report_files::about(arguments, &self.file.name()),
-            chart: ("Reasons", Vec::new()),
+            chart: ("Lines not posted", self.chart()),
             notes: listed.notes.clone(),
             list: &listed,
             full: arguments.flag("--full"),
@@ -194,8 +246,9 @@ impl Posted {
         summary: &Summary,
     ) -> Result<Status, Failure> {
         let listing = Listing::of(arguments)?;
-        let reason = |_, _: &[u8]| String::new();
-        let listed = self.listed(arguments, &listing, &reason);
+        let form = form_of(arguments, Charset::Ebcdic);
+        let why = |place, record: &[u8]| self.why(&form, place, record);
+        let listed = self.listed(arguments, &listing, &why);
         print(
             arguments,
             progress,

@@ -17,7 +17,7 @@ pub enum Kind {
     Filler,
 }
 
-#[derive(Clone, Copy, Debug)]
+#[derive(Clone, Copy, Debug, PartialEq, Eq)]
 pub struct Field {
     pub name: &'static str,
     pub first: usize,
@@ -227,6 +227,7 @@ pub mod line {
     pub const SSN: Field = ssn(6, 14);
     pub const LAST_NAME: Field = text("Obligor Last Name", 30, 49);
     pub const FIRST_NAME: Field = text("Obligor First Name", 50, 64);
+    pub const ARREARAGE: Field = amount("Certified Arrearage Amount", 65, 75);
     pub const COLLECTION: Field = amount("Collection Amount", 76, 86);
     pub const ADJUSTMENT: Field = amount("Adjustment Amount", 87, 97);
     pub const CASE_TYPE: Field = text("Case Type Indicator", 107, 107);
@@ -237,7 +238,7 @@ pub mod line {
         text("Case ID", 15, 29),
         LAST_NAME,
         FIRST_NAME,
-        amount("Certified Arrearage Amount", 65, 75),
+        ARREARAGE,
         COLLECTION,
         ADJUSTMENT,
         text("Adjustment Year", 98, 101),
@@ -266,6 +267,10 @@ pub mod total {
     pub const MARK: Field = text("Total Control", 6, 14);
     pub const ADJUSTMENTS: Field = number("Total Adjustments", 35, 49);
     pub const COLLECTIONS: Field = number("Total Collections", 50, 64);
+    pub const ARREARAGES: Field = amount("Total Certified Arrearage Amount", 65, 75);
+    pub const COLLECTED: Field = amount("Total Collection Amount", 76, 86);
+    pub const ADJUSTED: Field = amount("Total Adjustment Amount", 87, 97);
+    pub const NET: Field = amount("Total Net Amount", 98, 108);
     pub const FIELDS: Layout = &[
         text("Submitting State Code", 1, 2),
         filler(3, 5),
@@ -273,10 +278,10 @@ pub mod total {
         filler(15, 34),
         ADJUSTMENTS,
         COLLECTIONS,
-        amount("Total Certified Arrearage Amount", 65, 75),
-        amount("Total Collection Amount", 76, 86),
-        amount("Total Adjustment Amount", 87, 97),
-        amount("Total Net Amount", 98, 108),
+        ARREARAGES,
+        COLLECTED,
+        ADJUSTED,
+        NET,
         filler(109, 240),
     ];
 }

@@ -6,9 +6,9 @@ use super::columns::{detail, row, Field};
 use super::control_record::batch_of;
 use super::field::text_in;
 
-const STATE: &str = "OH";
-const SSN: &str = "900000001";
-const CASE_TYPE: &str = "N";
+pub const STATE: &str = "OH";
+pub const SSN: &str = "900000001";
+pub const CASE_TYPE: &str = "N";
 const NAME: &str = "A";
 
 /// A live row of 25 dollars.

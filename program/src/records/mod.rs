@@ -1,5 +1,6 @@
 //! Records: the columns of each kind, the kinds of files, and fields as text.
 
+pub mod amounts;
 pub mod case_change;
 pub mod code_fields;
 pub mod columns;
@@ -9,5 +10,8 @@ pub mod cuts;
 pub mod exclusion_words;
 pub mod field;
 pub mod kinds;
+pub mod line_reasons;
 pub mod made_up_case;
+pub mod money;
 pub mod name_changes;
+pub mod posting;

@@ -95,6 +95,12 @@ impl<W: Write> Json<W> {
         write!(self.out, "{number}")
     }
 
+    /// An amount in cents, as dollars with two decimal places.
+    pub fn cents(&mut self, cents: u64) -> io::Result<()> {
+        self.separate()?;
+        write!(self.out, "{}.{:02}", cents / 100, cents % 100)
+    }
+
     pub fn null(&mut self) -> io::Result<()> {
         self.separate()?;
         self.out.write_all(b"null")

@@ -27,14 +27,20 @@ pub struct Listed<'a> {
     pub heads: &'static [&'static str],
     pub most_in_files: usize,
     /// Why a record is listed, by its place in the list.
-    pub reason: &'a dyn Fn(usize, &[u8]) -> String,
+    pub reason: &'a dyn Fn(usize, &[u8]) -> Why,
     /// What is said below the list.
     pub notes: Vec<String>,
 }
 
+/// Why a record is listed: the name of the reason, and what is to be known of it.
+pub struct Why {
+    pub name: &'static str,
+    pub words: String,
+}
+
 impl Listed<'_> {
     /// The number of each record, with its bytes and the reason.
-    fn records(&self) -> impl Iterator<Item = (u32, &[u8], String)> {
+    fn records(&self) -> impl Iterator<Item = (u32, &[u8], Why)> {
         let record = |(place, &number): (usize, &u32)| {
             let record = self.file.record(number as usize - 1);
             (number, record, (self.reason)(place, record))
@@ -44,7 +50,7 @@ impl Listed<'_> {
 
     pub fn put_text<W: Write>(&self, screen: &mut Screen<W>, listing: &Listing) -> io::Result<()> {
         if self.numbers.is_empty() {
-            return Ok(());
+            return self.put_notes(screen);
         }
         listing.put_heading(screen, self.numbers.len(), self.heading)?;
         let mut text = String::new();
@@ -53,11 +59,13 @@ impl Listed<'_> {
             text.push_str(&format!("{} {number}  ", self.file.kind.record));
             (self.put_line)(&self.form, record, &mut text);
             screen.line(Style::Error, &text)?;
-            if !reason.is_empty() {
-                screen.wrapped(Style::Plain, "    ", &reason, 4)?;
-            }
+            screen.wrapped(Style::Plain, "    ", &reason.words, 4)?;
         }
         listing.put_rest(screen, self.numbers.len())?;
+        self.put_notes(screen)
+    }
+
+    fn put_notes<W: Write>(&self, screen: &mut Screen<W>) -> io::Result<()> {
         for note in &self.notes {
             screen.plain("")?;
             screen.wrapped(Style::Plain, "", note, 0)?;
@@ -74,8 +82,15 @@ impl Listed<'_> {
             for (name, field) in self.fields {
                 json.text_of(name, &self.form.field(field, record))?;
             }
-            json.text_of("reason", &reason)?;
+            json.text_of("reason", reason.name)?;
+            json.text_of("reason_words", &reason.words)?;
             json.end_object()?;
+        }
+        json.end_array()?;
+        json.name("notes")?;
+        json.begin_array()?;
+        for note in &self.notes {
+            json.text(note)?;
         }
         json.end_array()
     }
@@ -95,7 +110,7 @@ impl Sheet for Listed<'_> {
             let values = self.fields.iter();
             let values = values.map(|(_, field)| self.form.field(field, record));
             let cells = [number.to_string()].into_iter().chain(values);
-            let cells: Vec<String> = cells.chain([reason]).collect();
+            let cells: Vec<String> = cells.chain([reason.words]).collect();
             let cells: Vec<&str> = cells.iter().map(String::as_str).collect();
             put(&cells)?;
         }

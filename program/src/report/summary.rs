@@ -8,6 +8,7 @@ use fantanolive::VERSION;
 use crate::failure::{grouped, Status};
 use crate::files::outputs::names;
 use crate::files::replace::Placed;
+use crate::records::amounts::money;
 use crate::report::json::Json;
 use crate::report::screen::{Screen, Style};
 
@@ -19,6 +20,13 @@ enum Value {
     /// A number that counts from 1.
     Place(u64),
     Text(String),
+    /// Cents.
+    Money(u64),
+    /// Cents that are the sum of others, with its own name and theirs in JSON.
+    MoneySum {
+        total: (&'static str, u64),
+        parts: Vec<(&'static str, u64)>,
+    },
     /// A number that is the sum of others, with its own name and theirs in JSON.
     Sum {
         total: (&'static str, u64),
@@ -113,6 +121,22 @@ impl Summary {
         self.item(name, Value::Sum { total, parts }, 0)
     }
 
+    /// An amount in cents.
+    pub fn money(self, name: &'static str, cents: u64) -> Summary {
+        self.item(name, Value::Money(cents), 0)
+    }
+
+    /// An amount in cents that is the sum of others.
+    pub fn money_sum(
+        self,
+        name: &'static str,
+        total: (&'static str, u64),
+        parts: &[(&'static str, u64)],
+    ) -> Summary {
+        let parts = parts.to_vec();
+        self.item(name, Value::MoneySum { total, parts }, 0)
+    }
+
     /// The number of a record, the first being 1.
     pub fn place(self, name: &'static str, number: u64) -> Summary {
         self.item(name, Value::Place(number), 0)
@@ -145,7 +169,7 @@ impl Summary {
     pub fn counts(&self) -> Vec<(String, u64)> {
         let count = |item: &Item| match item.value {
             Value::Number(number) => Some((member(item.name), number)),
-            Value::Place(_) | Value::Text(_) | Value::Sum { .. } => None,
+            _ => None,
         };
         self.items.iter().filter_map(count).collect()
     }
@@ -234,11 +258,9 @@ impl Value {
             Value::Number(number) => grouped(*number),
             Value::Place(number) => format!("{}, the first being 1", grouped(*number)),
             Value::Text(text) => text.clone(),
-            Value::Sum { total, parts } => {
-                let part = |(name, number): &(&str, u64)| format!("{} {name}", grouped(*number));
-                let parts: Vec<String> = parts.iter().map(part).collect();
-                format!("{} = {}", grouped(total.1), parts.join(" + "))
-            }
+            Value::Money(cents) => money(*cents),
+            Value::Sum { total, parts } => equation(total.1, parts, grouped),
+            Value::MoneySum { total, parts } => equation(total.1, parts, money),
         }
     }
 
@@ -246,6 +268,7 @@ impl Value {
         match self {
             Value::Number(number) | Value::Place(number) => json.number(*number),
             Value::Text(text) => json.text(text),
+            Value::Money(cents) => json.cents(*cents),
             Value::Sum { total, parts } => {
                 json.begin_object()?;
                 for (name, number) in [total].into_iter().chain(parts) {
@@ -253,8 +276,23 @@ impl Value {
                 }
                 json.end_object()
             }
+            Value::MoneySum { total, parts } => {
+                json.begin_object()?;
+                for (name, cents) in [total].into_iter().chain(parts) {
+                    json.name(&member(name))?;
+                    json.cents(*cents)?;
+                }
+                json.end_object()
+            }
         }
     }
+}
+
+/// `7 = 4 accepted + 3 rejected`.
+fn equation(total: u64, parts: &[(&str, u64)], shown: fn(u64) -> String) -> String {
+    let part = |(name, number): &(&str, u64)| format!("{} {name}", shown(*number));
+    let parts: Vec<String> = parts.iter().map(part).collect();
+    format!("{} = {}", shown(total), parts.join(" + "))
 }
 
 /// The name of a member in JSON.

@@ -1,0 +1,150 @@
+//! The money of a posting, added up from the fields: balances before and behind, what was collected and adjusted, and what of the
+//! collections was more than was owed.
+
+use std::collections::HashMap;
+
+use fantanolive::{KEY, LINE, ROW};
+
+use super::amounts::{balance_of, cents_of, money};
+use super::columns::{line, total, Field};
+use super::line_reasons::{key_of, Posted};
+use super::posting::Case;
+use crate::code_page::argument;
+use crate::failure::Failure;
+
+/// In cents, over the posted lines.
+#[derive(Clone, Debug, Default, PartialEq, Eq)]
+pub struct Money {
+    pub before: u64,
+    pub after: u64,
+    pub collected: u64,
+    pub adjusted: u64,
+    /// The cases that the file closed, and those of them that were sent more than was owed.
+    pub closed: u64,
+    pub with_excess: u64,
+}
+
+/// A case that the file closed: what was owed with the adjustments, and what was collected.
+struct Closed {
+    owed: u64,
+    collected: u64,
+}
+
+/// Rows that are read at a time.
+const PART: usize = 1 << 13;
+
+impl Money {
+    /// That of a posting.
+    pub fn of(posted: &Posted) -> Result<Money, Failure> {
+        let mut money = Money::default();
+        let mut closed = money.take_rows(posted)?;
+        money.take_lines(posted, &mut closed);
+        money.closed = closed.len() as u64;
+        let with_excess = closed.values().filter(|case| case.collected > case.owed);
+        money.with_excess = with_excess.count() as u64;
+        Ok(money)
+    }
+
+    /// Adds up the balances; the answer is the cases that are closed.
+    fn take_rows(&mut self, posted: &Posted) -> Result<HashMap<[u8; KEY], Closed>, Failure> {
+        let mut closed = HashMap::new();
+        let rows = posted.rows.len() / ROW;
+        let mut part = vec![0; PART.min(rows) * ROW];
+        for first in (0..rows).step_by(PART) {
+            let part = &mut part[..PART.min(rows - first) * ROW];
+            (posted.read)(first, part)?;
+            let behind = posted.rows[first * ROW..].chunks_exact(ROW);
+            for (old, new) in part.chunks_exact(ROW).zip(behind) {
+                self.before += balance_of(old);
+                self.after += balance_of(new);
+                if old != new && Case::of(old).is_live && !Case::of(new).is_live {
+                    let mut key = [0; KEY];
+                    key.copy_from_slice(&old[..KEY]);
+                    let (owed, collected) = (balance_of(old), 0);
+                    closed.insert(key, Closed { owed, collected });
+                }
+            }
+        }
+        Ok(closed)
+    }
+
+    /// Adds up the lines that are posted.
+    fn take_lines(&mut self, posted: &Posted, closed: &mut HashMap<[u8; KEY], Closed>) {
+        let mut listed = posted.listed.iter().peekable();
+        for (number, record) in (1..).zip(posted.lines.chunks_exact(LINE)) {
+            if listed.next_if(|next| **next == number).is_some() {
+                continue;
+            }
+            let amount = |field: &Field| cents_of(field.of(record)).unwrap_or_default();
+            let (collection, adjustment) = (amount(&line::COLLECTION), amount(&line::ADJUSTMENT));
+            self.collected += collection;
+            self.adjusted += adjustment;
+            if closed.is_empty() {
+                continue;
+            }
+            if let Some(case) = closed.get_mut(&key_of(record)) {
+                case.collected += collection;
+                case.owed += adjustment;
+            }
+        }
+    }
+
+    /// What was collected beyond what was owed.
+    pub fn excess(&self) -> u64 {
+        (self.after + self.collected).saturating_sub(self.before + self.adjusted)
+    }
+
+    pub fn applied(&self) -> u64 {
+        self.collected - self.excess()
+    }
+
+    /// `125.00 before + 0.50 adjusted = 100.50 after + 30.01 collected - 5.01 excess`.
+    pub fn equation(&self) -> String {
+        let [before, adjusted, after, collected, excess] = [
+            self.before,
+            self.adjusted,
+            self.after,
+            self.collected,
+            self.excess(),
+        ]
+        .map(money);
+        format!("{before} before + {adjusted} adjusted = {after} after + {collected} collected - {excess} excess")
+    }
+}
+
+/// The amount totals of the last record, each with the field of the lines that it is the sum of.
+const TOTALS: [(Field, Field); 3] = [
+    (total::ARREARAGES, line::ARREARAGE),
+    (total::COLLECTED, line::COLLECTION),
+    (total::ADJUSTED, line::ADJUSTMENT),
+];
+
+/// Notes on the amount totals of the last record, which no rule reads: those that are not what the lines add up to. One that is
+/// blank says nothing.
+pub fn total_notes(lines: &[u8], last: &[u8]) -> Vec<String> {
+    let mut sums = [0; TOTALS.len()];
+    for record in lines.chunks_exact(LINE) {
+        for (sum, (_, field)) in sums.iter_mut().zip(TOTALS) {
+            *sum += cents_of(field.of(record)).unwrap_or_default();
+        }
+    }
+    let stated = TOTALS.map(|(field, _)| field).into_iter().zip(sums);
+    let net = sums[1].checked_sub(sums[2]).map(|net| (total::NET, net));
+    let notes = stated.chain(net).filter_map(|(field, sum)| {
+        let bytes = field.of(last);
+        let is_blank = bytes.iter().all(|&byte| byte == argument(b" ")[0]);
+        let start = format!("the last record's {} ({})", field.name, field.columns());
+        match cents_of(bytes) {
+            _ if is_blank => None,
+            Some(stated) if stated == sum => None,
+            Some(stated) => Some(format!(
+                "{start} is {}, and the lines add up to {}: a difference of {}",
+                money(stated),
+                money(sum),
+                money(stated.abs_diff(sum)),
+            )),
+            None => Some(format!("{start} is no amount")),
+        }
+    });
+    notes.collect()
+}

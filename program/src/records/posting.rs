@@ -1,0 +1,175 @@
+//! One line of a collection file posted to one case: the library is asked about the line and a row made up with a balance.
+
+use fantanolive::{post, Refusal, LINE};
+
+use super::amounts::balance_of;
+use super::columns::{line, row, total, Field};
+use super::field::text_in;
+use super::made_up_case::{live_row, CASE_TYPE, SSN, STATE};
+use crate::code_page::argument;
+
+/// Amounts of nothing and of a cent.
+const ZERO: &str = "00000000000";
+const CENT: &str = "00000000001";
+
+/// What is left of a case: its balance in cents, and whether it is live.
+#[derive(Clone, Copy, Debug, PartialEq, Eq)]
+pub struct Case {
+    pub balance: u64,
+    pub is_live: bool,
+}
+
+impl Case {
+    /// That of a row.
+    pub fn of(bytes: &[u8]) -> Case {
+        Case {
+            balance: balance_of(bytes),
+            is_live: row::STATUS.of(bytes) == argument(b" "),
+        }
+    }
+
+    /// The row that is made up for it.
+    fn row(self) -> Vec<u8> {
+        let mut bytes = live_row();
+        let status = if self.is_live { " " } else { "D" };
+        let (dollars, cents) = (self.balance / 100, self.balance % 100);
+        for (field, text) in [
+            (row::ARREARAGE, format!("{dollars:08}")),
+            (row::CENTS, format!("{cents:02}")),
+            (row::STATUS, status.to_string()),
+        ] {
+            field.set(&mut bytes, &argument(text.as_bytes()));
+        }
+        bytes
+    }
+
+    /// The case behind a line; none where the line is not posted.
+    pub fn posted(self, record: &[u8]) -> Option<Case> {
+        let mut file = [record, &text_in(LINE, &[(total::MARK, "TOTAL")])].concat();
+        for (field, text) in [
+            (line::STATE, STATE),
+            (line::SSN, SSN),
+            (line::CASE_TYPE, CASE_TYPE),
+        ] {
+            field.set(&mut file, &argument(text.as_bytes()));
+        }
+        let mut bytes = self.row();
+        let mut list = [0];
+        for counts in [(0, 1), (1, 0), (0, 0), (1, 1)] {
+            for (field, count) in [
+                (total::ADJUSTMENTS, counts.0),
+                (total::COLLECTIONS, counts.1),
+            ] {
+                let digits = argument(format!("{count:015}").as_bytes());
+                field.set(&mut file[LINE..], &digits);
+            }
+            match post(&mut bytes, 1, &file, &mut list) {
+                // the counts are others
+                Err(Refusal::WrongTotal) => {}
+                Ok(0) => return Some(Case::of(&bytes)),
+                _ => return None,
+            }
+        }
+        None
+    }
+}
+
+/// A live case of 25 dollars, of which a small line can't be too much.
+const USUAL: Case = Case {
+    balance: 2500,
+    is_live: true,
+};
+
+/// A line with other amounts.
+fn with_amounts(record: &[u8], collection: &[u8], adjustment: &[u8]) -> Vec<u8> {
+    let mut other = record.to_vec();
+    line::COLLECTION.set(&mut other, collection);
+    line::ADJUSTMENT.set(&mut other, adjustment);
+    other
+}
+
+/// What keeps a line from being posted whatever its case.
+#[derive(Debug, PartialEq, Eq)]
+pub enum Fault {
+    /// These fields are no amounts.
+    NoAmount(Vec<Field>),
+    /// A collection and an adjustment above zero.
+    TwoAmounts,
+}
+
+/// The fault of a line by itself; none where it has none.
+pub fn fault_of(record: &[u8]) -> Option<Fault> {
+    if USUAL.posted(record).is_some() {
+        return None;
+    }
+    let (zero, cent) = (argument(ZERO.as_bytes()), argument(CENT.as_bytes()));
+    let is_posted = |one: &[u8], other: &[u8]| {
+        let line = with_amounts(record, one, other);
+        USUAL.posted(&line).is_some()
+    };
+    let fields = [line::COLLECTION, line::ADJUSTMENT];
+    let is_no_amount = |field: &Field| !is_posted(field.of(record), &zero);
+    let wrong: Vec<Field> = fields.into_iter().filter(is_no_amount).collect();
+    if !wrong.is_empty() {
+        return Some(Fault::NoAmount(wrong));
+    }
+    // beside a cent the other way what is above zero is not posted
+    let is_above = |field: &Field| !is_posted(field.of(record), &cent);
+    fields.iter().all(is_above).then_some(Fault::TwoAmounts)
+}
+
+#[cfg(test)]
+mod tests {
+    use super::*;
+
+    fn a_line(collection: &str, adjustment: &str) -> Vec<u8> {
+        let fields = [
+            (line::COLLECTION, collection),
+            (line::ADJUSTMENT, adjustment),
+        ];
+        text_in(LINE, &fields)
+    }
+
+    #[test]
+    fn faults_of_lines() {
+        assert_eq!(fault_of(&a_line(ZERO, ZERO)), None);
+        assert_eq!(fault_of(&a_line("99999999999", ZERO)), None);
+        // too large for the usual case, but no fault of the line
+        assert_eq!(fault_of(&a_line(ZERO, "99999999999")), None);
+        assert_eq!(fault_of(&a_line(CENT, CENT)), Some(Fault::TwoAmounts));
+        assert_eq!(
+            fault_of(&a_line(CENT, "99999999999")),
+            Some(Fault::TwoAmounts)
+        );
+        for (collection, adjustment, first) in [
+            ("0000000000", ZERO, line::COLLECTION.first),
+            (ZERO, "0000000000X", line::ADJUSTMENT.first),
+            ("0000000000X", "99999999999", line::COLLECTION.first),
+        ] {
+            let Some(Fault::NoAmount(fields)) = fault_of(&a_line(collection, adjustment)) else {
+                panic!("{collection} {adjustment}");
+            };
+            assert_eq!((fields.len(), fields[0].first), (1, first));
+        }
+    }
+
+    #[test]
+    fn cases_behind_lines() {
+        let case = |balance, is_live| Case { balance, is_live };
+        let posted =
+            |collection, adjustment| case(150, true).posted(&a_line(collection, adjustment));
+        assert_eq!(posted("00000000050", ZERO), Some(case(100, true)));
+        assert_eq!(posted("00000000150", ZERO), Some(case(0, false)));
+        assert_eq!(posted("00000000999", ZERO), Some(case(0, false)));
+        assert_eq!(posted(ZERO, "00000000001"), Some(case(151, true)));
+        assert_eq!(posted(ZERO, ZERO), Some(case(150, true)));
+        assert_eq!(posted(CENT, CENT), None);
+        assert_eq!(case(0, false).posted(&a_line(ZERO, CENT)), None);
+        assert_eq!(case(9_999_999_999, true).posted(&a_line(ZERO, CENT)), None);
+        let most = case(9_999_999_999, true);
+        assert_eq!(
+            case(9_999_999_998, true).posted(&a_line(ZERO, CENT)),
+            Some(most)
+        );
+    }
+}
