@@ -425,6 +425,45 @@ Writes a REC record for each live row of the state, and the RCT record.",
         run: commands::reconcile::run,
     },
     Command {
+        name: "compare",
+        purpose: "compare a reconciliation file with what a master gives",
+        operands: &["MASTER", "RECEIVED"],
+        kept: &["MASTER"],
+        options: &[
+            STATE,
+            optional(
+                "--records",
+                "FILE",
+                "write a batch that leads the other side to MASTER",
+            ),
+            CODES,
+            LIMIT,
+            ALL,
+            QUIET,
+            HTML,
+            CSV,
+            FORCE,
+            MODE,
+            WAIT,
+            flag("--ascii", "RECEIVED, the list and the batch are in ASCII"),
+            JSON,
+            FULL,
+        ],
+        read: &["--locals"],
+        made: &["--records", "--html", "--csv"],
+        help: "\
+Compares RECEIVED, a reconciliation file, with the one that MASTER gives for the
+state, by key: cases only here, cases only there, and fields that differ. The
+two fields that the federal side alone fills (80 and 81) are not compared.
+
+With --records it writes a batch of C, L, R and M records, with its control
+record, that leads the other side's copies to MASTER: amounts in whole dollars,
+and an M of zero for a case that MASTER has as deleted. Names, notice dates,
+cases that are only here and those that MASTER never had are left to you.",
+        statuses: WRITES_WITH_REJECTS,
+        run: commands::compare::run,
+    },
+    Command {
         name: "pages",
         purpose: "write the live cases of a master in pages, to be printed",
         operands: &["MASTER"],

@@ -8,7 +8,7 @@ use std::os::unix::ffi::OsStrExt;
 
 use common::*;
 
-const COMMANDS: [&str; 19] = [
+const COMMANDS: [&str; 20] = [
     "apply",
     "check",
     "take-back",
@@ -18,6 +18,7 @@ const COMMANDS: [&str; 19] = [
     "edit",
     "records",
     "reconcile",
+    "compare",
     "pages",
     "post",
     "add-cents",

@@ -3,6 +3,7 @@
 pub mod add_cents;
 pub mod apply;
 pub mod codes;
+pub mod compare;
 pub mod contacts;
 pub mod convert;
 pub mod edit;

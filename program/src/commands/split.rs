@@ -221,7 +221,8 @@ fn part_of(batch: &Input, first: usize, end: usize) -> Result<(Part, Vec<u8>), F
     let with_next = &batch.bytes[first * RECORD..(end + 1) * RECORD];
     let totals = totals(with_next).map_err(|refusal| refused(refusal, Vec::new()))?;
     let state = control::STATE.of(batch.last().unwrap_or_default());
-    let record = control_record(state, &totals);
+    // no total of a part is larger than that of the batch
+    let record = control_record(state, &totals).unwrap_or_default();
     Ok((Part { first, end, totals }, record))
 }
 

@@ -290,32 +290,66 @@ pub mod total {
 pub mod rec {
     use super::*;
 
+    pub const STATE: Field = text("Submitting State Code", 4, 5);
+    pub const LOCAL_CODE: Field = text("Local Code", 6, 8);
+    pub const SSN: Field = ssn(9, 17);
+    pub const CASE_ID: Field = text("Case ID", 18, 32);
+    pub const LAST_NAME: Field = text("Obligor Last Name", 33, 52);
+    pub const FIRST_NAME: Field = text("Obligor First Name", 53, 62);
+    pub const ARREARAGE: Field = text("Current Arrearage Amount", 63, 70);
+    pub const CASE_TYPE: Field = text("Case Type Indicator", 71, 71);
+    pub const NOTICE_DATE: Field = text("Last Pre-Offset Notice Date", 72, 79);
+    pub const ADM: Field = text("Administrative Offset Exclusion Indicator", 82, 84);
+    pub const RET: Field = text("Federal Retirement Offset Exclusion Indicator", 85, 87);
+    pub const VEN: Field = text("Vendor Payments Exclusion Indicator", 88, 90);
+    pub const SAL: Field = text("Federal Salary Exclusion Indicator", 91, 93);
+    pub const TAX: Field = text("Tax Refund Offset Exclusion Indicator", 94, 96);
+    pub const PAS: Field = text("Passport Denial Exclusion Indicator", 97, 99);
+    pub const FIN: Field = text(
+        "Multi-State Financial Institution Data Match Exclusion Indicator",
+        100,
+        102,
+    );
+    pub const DCK: Field = text("Debt Check Exclusion Indicator", 103, 105);
     pub const FIELDS: Layout = &[
         text("Record Identifier", 1, 3),
-        text("Submitting State Code", 4, 5),
-        text("Local Code", 6, 8),
-        ssn(9, 17),
-        text("Case ID", 18, 32),
-        text("Obligor Last Name", 33, 52),
-        text("Obligor First Name", 53, 62),
-        text("Current Arrearage Amount", 63, 70),
-        text("Case Type Indicator", 71, 71),
-        text("Last Pre-Offset Notice Date", 72, 79),
+        STATE,
+        LOCAL_CODE,
+        SSN,
+        CASE_ID,
+        LAST_NAME,
+        FIRST_NAME,
+        ARREARAGE,
+        CASE_TYPE,
+        NOTICE_DATE,
         text("Pre-Offset Notice Hold Indicator", 80, 80),
         text("Department of State Action Indicator", 81, 81),
-        text("Administrative Offset Exclusion Indicator", 82, 84),
-        text("Federal Retirement Offset Exclusion Indicator", 85, 87),
-        text("Vendor Payments Exclusion Indicator", 88, 90),
-        text("Federal Salary Exclusion Indicator", 91, 93),
-        text("Tax Refund Offset Exclusion Indicator", 94, 96),
-        text("Passport Denial Exclusion Indicator", 97, 99),
-        text(
-            "Multi-State Financial Institution Data Match Exclusion Indicator",
-            100,
-            102,
-        ),
-        text("Debt Check Exclusion Indicator", 103, 105),
+        ADM,
+        RET,
+        VEN,
+        SAL,
+        TAX,
+        PAS,
+        FIN,
+        DCK,
         filler(106, 245),
+    ];
+    /// The fields in which two files can differ: not those that the federal side alone fills.
+    pub const COMPARED: Layout = &[
+        LOCAL_CODE,
+        CASE_ID,
+        LAST_NAME,
+        FIRST_NAME,
+        ARREARAGE,
+        NOTICE_DATE,
+        ADM,
+        RET,
+        VEN,
+        SAL,
+        TAX,
+        PAS,
+        FIN,
+        DCK,
     ];
 }
 
@@ -324,14 +358,16 @@ pub mod rct {
     use super::*;
 
     pub const MARK: Field = text("Record Identifier", 1, 3);
+    pub const STATE: Field = text("Submitting State Code", 4, 5);
+    pub const TOTAL: Field = number("Total Cases Returned", 24, 32);
     pub const TANF: Field = number("TANF Cases Returned", 6, 14);
     pub const NON_TANF: Field = number("Non-TANF Cases Returned", 15, 23);
     pub const FIELDS: Layout = &[
         MARK,
-        text("Submitting State Code", 4, 5),
+        STATE,
         TANF,
         NON_TANF,
-        number("Total Cases Returned", 24, 32),
+        TOTAL,
         text("Extract Date", 33, 40),
         filler(41, 245),
     ];

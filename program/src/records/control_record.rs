@@ -10,24 +10,28 @@ pub fn batch_of(state: &[u8], details: &[u8]) -> Result<(Vec<u8>, Totals), Refus
     let mut batch = details.to_vec();
     batch.resize(details.len() + RECORD, argument(b" ")[0]);
     let totals = totals(&batch)?;
-    batch[details.len()..].copy_from_slice(&control_record(state, &totals));
+    let record = control_record(state, &totals).ok_or(Refusal::WrongAmount)?;
+    batch[details.len()..].copy_from_slice(&record);
     match refusal_of(&batch) {
         None => Ok((batch, totals)),
         Some(refusal) => Err(refusal),
     }
 }
 
-/// The control record of a state with these totals.
-pub fn control_record(state: &[u8], totals: &Totals) -> Vec<u8> {
+/// The control record of a state with these totals; none where one is wider than its field.
+pub fn control_record(state: &[u8], totals: &Totals) -> Option<Vec<u8>> {
     let mut record = argument(&[b' '; RECORD]);
     control::STATE.set(&mut record, state);
     control::MARK.set(&mut record, &argument(b"CTL"));
     for (field, total) in fields_of(totals) {
         let width = field.last + 1 - field.first;
         let digits = format!("{total:0width$}");
+        if digits.len() > width {
+            return None;
+        }
         field.set(&mut record, &argument(digits.as_bytes()));
     }
-    record
+    Some(record)
 }
 
 /// The four totals, each with its field in the control record.

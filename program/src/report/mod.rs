@@ -2,6 +2,7 @@
 
 pub mod batch_notes;
 pub mod case_notes;
+pub mod comparison;
 pub mod csv;
 pub mod differences;
 pub mod dollars;

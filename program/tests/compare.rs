@@ -1,0 +1,221 @@
+//! A reconciliation file that was received against the one that a master gives, and the records that lead the other side there.
+
+mod common;
+
+use std::fs;
+use std::path::Path;
+
+use common::*;
+
+const COMPARE: [&str; 5] = ["compare", "two.bin", "received.bin", "--state", "OH"];
+
+/// A REC record of OH.
+fn rec(ssn: &str, case_type: &str, name: [&str; 2], amount: &str) -> Vec<u8> {
+    record(&[
+        (1, "RECOH000"),
+        (9, ssn),
+        (33, name[0]),
+        (53, name[1]),
+        (63, amount),
+        (71, case_type),
+    ])
+}
+
+fn rct(records: usize) -> Vec<u8> {
+    let counts = format!("RCTOH{:09}{records:09}{records:09}20071231", 0);
+    record(&[(1, &counts)])
+}
+
+/// A master of two rows, and a file with one of them at another amount and a third case.
+fn folder(name: &str) -> Folder {
+    let folder = Folder::new(name);
+    folder.write("two.bin", &two_rows("00"));
+    let received = [
+        rec("555555555", "A", ["DOE", "JANE"], "00000040"),
+        rec("123456789", "N", ["SMITH", "JOHN"], "00000030"),
+        rct(2),
+    ];
+    folder.write("received.bin", &received.concat());
+    folder
+}
+
+#[test]
+fn cases_here_and_there() {
+    let folder = folder("compare-cases");
+    let ran = folder.run(&COMPARE);
+    let expected = Path::new(env!("CARGO_MANIFEST_DIR")).join("tests/expected/compare.txt");
+    assert_eq!(ran.out, fs::read_to_string(expected).expect("it is there"));
+    assert_eq!((ran.status, ran.err.as_str()), (1, ""));
+    let files = ["--csv", "list.csv", "--html", "page.html"];
+    assert_eq!(folder.run(&with(&COMPARE, &files)).status, 1);
+    let csv = "key,name,found,field,here,there\n\
+               OH*****6789N,\"SMITH, JOHN\",differs,Current Arrearage Amount,00000025,00000030\n\
+               OH*****5555A,\"DOE, JANE\",only there,,,\n\
+               OH*****4321A,\"SMITH, JOHN\",only here,,,\n";
+    assert_eq!(
+        String::from_utf8(folder.read("list.csv")).expect("it is text"),
+        csv
+    );
+    assert!(folder.read("page.html").starts_with(b"<!doctype html>"));
+    let json = folder.run(&with(&COMPARE, &["--json"])).out;
+    let cases = "\"cases_here\":{\"all\":2,\"the_same\":0,\"differ\":1,\"only_here\":1},\"cases_there\":{\"all\":2,\"the_same\":0,\"differ\":1,\"only_there\":1,\"again\":0}";
+    assert!(json.contains(cases), "{json}");
+}
+
+#[test]
+fn what_a_master_gives_is_the_same() {
+    let folder = folder("compare-same");
+    let reconcile = [
+        "reconcile",
+        "two.bin",
+        "--state",
+        "OH",
+        "--date",
+        "20071231",
+        "--out",
+        "own.bin",
+    ];
+    assert_eq!(folder.run(&reconcile).status, 0);
+    let same = ["compare", "two.bin", "own.bin", "--state", "OH"];
+    let ran = folder.run(&same);
+    assert_eq!(ran.status, 0, "{ran:?}");
+    assert!(
+        ran.out.starts_with("compare: every case is the same\n"),
+        "{}",
+        ran.out
+    );
+    // in another order, with a hold indicator of the federal side's, and one case twice
+    let own = folder.read("own.bin");
+    let mut held = own[245..490].to_vec();
+    held[79] = 0xC8;
+    folder.write("own.bin", &[&held, &own[..245], &own[490..]].concat());
+    assert_eq!(folder.run(&same).status, 0);
+    folder.write(
+        "own.bin",
+        &[&held[..], &own[..245], &own[..245], &own[490..]].concat(),
+    );
+    let ran = folder.run(&same);
+    assert!(
+        ran.out.contains("OH*****6789N  SMITH, JOHN  again there\n"),
+        "{}",
+        ran.out
+    );
+    assert_eq!(ran.status, 1);
+}
+
+#[test]
+fn one_record_by_hand() {
+    let folder = folder("compare-record");
+    let ran = folder.run(&with(&COMPARE, &["--records", "records.bin"]));
+    assert_eq!(ran.status, 1, "{ran:?}");
+    let counts = "  records                1\n  cases with records     1\n  cases without records  2\n  written                records.bin\n";
+    assert!(ran.out.contains(counts), "{}", ran.out);
+    let m = record(&[
+        (1, "OH"),
+        (6, "123456789"),
+        (30, "SMITH"),
+        (65, "00000025MN"),
+    ]);
+    assert_eq!(
+        folder.read("records.bin"),
+        [m, control(0, 1, 0, 25)].concat()
+    );
+}
+
+/// The records applied to the other side's master leave nothing to compare.
+#[test]
+fn records_lead_there() {
+    let folder = Folder::new("compare-lead");
+    let mut rows: Vec<Vec<u8>> = (1..=6)
+        .map(|n| row(&format!("OH90000000{n}N"), "00000100", "00"))
+        .collect();
+    let theirs = rows.concat();
+    rows[0][65..73].copy_from_slice(&ebcdic("00000070"));
+    rows[0][196..198].copy_from_slice(&ebcdic("50"));
+    rows[1][15..17].copy_from_slice(&ebcdic("A1"));
+    rows[2][12..15].copy_from_slice(&ebcdic("003"));
+    rows[3][194] = 0b0010_0010;
+    // deleted here
+    rows[4][65..73].copy_from_slice(&ebcdic("00000000"));
+    rows[4][195] = 0xC4;
+    folder.write("ours.bin", &rows.concat());
+    folder.write("theirs.bin", &theirs);
+    folder.write("locals.bin", &ebcdic("003"));
+    let reconcile = |file: &'static str| {
+        let date = ["--date", "20071231", "--out", "received.bin", "--force"];
+        folder.run(&with(&["reconcile", file, "--state", "OH"], &date))
+    };
+    assert_eq!(reconcile("theirs.bin").status, 0);
+    let compare = [
+        "compare",
+        "ours.bin",
+        "received.bin",
+        "--state",
+        "OH",
+        "--locals",
+        "locals.bin",
+    ];
+    let ran = folder.run(&with(&compare, &["--records", "records.bin"]));
+    assert_eq!(ran.status, 1, "{ran:?}");
+    assert!(
+        ran.out.contains("  records                5\n"),
+        "{}",
+        ran.out
+    );
+    let lists = [
+        "--locals",
+        "locals.bin",
+        "--year",
+        "2007",
+        "--rejects",
+        "rejects.bin",
+    ];
+    let ran = folder.run(&with(&["apply", "theirs.bin", "records.bin"], &lists));
+    assert_eq!(ran.status, 0, "{ran:?}");
+    assert_eq!(reconcile("theirs.bin").status, 0);
+    let ran = folder.run(&compare);
+    assert!(
+        ran.out.starts_with("compare: every case is the same\n"),
+        "{}",
+        ran.out
+    );
+    // a code that isn't listed can't be sent
+    folder.write("theirs.bin", &theirs);
+    assert_eq!(reconcile("theirs.bin").status, 0);
+    let ran = folder.run(&with(
+        &compare[..5],
+        &["--records", "records.bin", "--force"],
+    ));
+    assert!(
+        ran.out.contains("  records                4\n"),
+        "{}",
+        ran.out
+    );
+}
+
+#[test]
+fn files_that_are_none() {
+    let folder = folder("compare-none");
+    let whole = folder.read("received.bin");
+    for (bytes, words) in [
+        (
+            &whole[..490],
+            "the last of 2 records has no RCT in columns 1-3",
+        ),
+        (
+            &whole[..489],
+            "489 bytes: 1 record of 245 bytes and 244 bytes over",
+        ),
+        (&[], "the file is empty"),
+    ] {
+        folder.write("received.bin", bytes);
+        let ran = folder.run(&COMPARE);
+        assert_eq!((ran.status, ran.out.as_str()), (3, ""), "{ran:?}");
+        assert!(ran.err.contains(words), "{}", ran.err);
+    }
+    folder.write("received.bin", &rct(0));
+    assert_eq!(folder.run(&COMPARE).status, 1);
+    let mut wrong = COMPARE;
+    wrong[4] = "XX";
+    assert_eq!(folder.run(&wrong).status, 2);
+}
