@@ -206,6 +206,64 @@ locked but those of --html and --csv.",
         run: commands::apply::check,
     },
     Command {
+        name: "build",
+        purpose: "make a batch from a CSV file",
+        operands: &["[FILE]"],
+        kept: &[],
+        options: &[
+            flag(
+                "--template",
+                "write the names of the columns in place of a batch",
+            ),
+            optional("--state", "ST", "the state of the control record"),
+            OUT,
+            FORCE,
+            MODE,
+            WAIT,
+            flag("--ascii", "write the batch in ASCII"),
+            JSON,
+        ],
+        read: &[],
+        made: &["--out"],
+        help: "\
+Makes a batch from FILE, a CSV file in UTF-8: the first line names fields, each
+other line is a detail, with its transaction type in its column. Columns may
+stand in any order and be left out; a short amount gets zeros before it, an SSN
+may have hyphens, \\xNN is a byte that is no character. The control record
+behind them has the totals of the details and the state that is given, or that
+of the first detail. What doesn't fit its field is an error, with line, column
+and value, and nothing is written. `export` of a batch writes such a file.",
+        statuses: WRITES,
+        run: commands::build::run,
+    },
+    Command {
+        name: "control",
+        purpose: "give a batch the right control record",
+        operands: &["BATCH"],
+        kept: &[],
+        options: &[
+            optional(
+                "--state",
+                "ST",
+                "the state, in place of the one that is there",
+            ),
+            OUT,
+            FORCE,
+            MODE,
+            WAIT,
+            flag("--ascii", "BATCH and the file made are in ASCII"),
+            JSON,
+        ],
+        read: &[],
+        made: &["--out"],
+        help: "\
+Writes the details of BATCH with the control record that they ask for, and says
+what was wrong with the one that was there. A batch without one gets one. A
+record that was lost on the way goes unseen then: know why it was wrong.",
+        statuses: WRITES,
+        run: commands::control::run,
+    },
+    Command {
         name: "split",
         purpose: "cut a batch into parts that do what it does",
         operands: &["BATCH"],
@@ -663,6 +721,30 @@ or line ends, or the last record of another KIND, every digit is masked, unless
 --full is given.",
         statuses: &[Status::Done, Status::Problem],
         run: commands::show::run,
+    },
+    Command {
+        name: "export",
+        purpose: "write the records of a file as CSV",
+        operands: &["KIND", "FILE"],
+        kept: &[],
+        options: &[
+            OUT,
+            FORCE,
+            MODE,
+            WAIT,
+            flag("--ascii", "FILE is in ASCII (not for a master)"),
+            JSON,
+            FULL,
+        ],
+        read: &[],
+        made: &["--out"],
+        help: "\
+Writes a line with the names of the fields, then a line for each record of FILE
+but its last one where that is a control record; KIND is what FILE holds, as for
+`show`. SSNs are whole, so standard output can't be a terminal without --full. A
+byte that is no character is \\xNN. `build` makes the same batch of it.",
+        statuses: WRITES,
+        run: commands::export::run,
     },
     Command {
         name: "explain",

@@ -8,9 +8,12 @@ use std::os::unix::ffi::OsStrExt;
 
 use common::*;
 
-const COMMANDS: [&str; 20] = [
+const COMMANDS: [&str; 23] = [
     "apply",
     "check",
+    "build",
+    "control",
+    "export",
     "take-back",
     "split",
     "merge",

@@ -2,12 +2,15 @@
 
 pub mod add_cents;
 pub mod apply;
+pub mod build;
 pub mod codes;
 pub mod compare;
 pub mod contacts;
+pub mod control;
 pub mod convert;
 pub mod edit;
 pub mod explain;
+pub mod export;
 pub mod find;
 pub mod log;
 pub mod merge;

@@ -20,7 +20,8 @@ use crate::report::json::Json;
 use crate::report::screen::{Screen, Style};
 use crate::report::summary::Summary;
 
-fn kind_of(arguments: &Arguments) -> Result<&'static FileKind, Failure> {
+/// The kind that the first operand names.
+pub fn kind_of(arguments: &Arguments) -> Result<&'static FileKind, Failure> {
     let given = arguments.operand(0).to_string_lossy();
     let found = KINDS.into_iter().find(|kind| kind.name == given);
     found.ok_or_else(|| {
@@ -113,9 +114,12 @@ fn warning_of(input: &Input, form: &Form) -> Option<String> {
     is_wrong.then(|| notes.join("; "))
 }
 
-/// Reads the file; a master is in EBCDIC and is a file.
-fn read_file(arguments: &Arguments, progress: &Progress) -> Result<Input, Failure> {
-    let kind = kind_of(arguments)?;
+/// Reads the file of a kind, the second operand; a master is in EBCDIC and is a file.
+pub fn read_kind(
+    arguments: &Arguments,
+    kind: &'static FileKind,
+    progress: &Progress,
+) -> Result<Input, Failure> {
     let charset = Charset::of_flag(arguments.flag("--ascii"));
     if charset == Charset::Ascii && kind.name == MASTER.name {
         return Err(arguments.wrong("a master is always in EBCDIC; --ascii is for other files"));
@@ -131,7 +135,7 @@ fn read_file(arguments: &Arguments, progress: &Progress) -> Result<Input, Failur
 }
 
 pub fn run(arguments: &Arguments, progress: &Progress) -> Result<Status, Failure> {
-    let input = read_file(arguments, progress)?;
+    let input = read_kind(arguments, kind_of(arguments)?, progress)?;
     let mut form = form_of(arguments, input.charset);
     let warning = warning_of(&input, &form);
     form.digits_masked = warning.is_some() && !form.full;

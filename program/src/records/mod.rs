@@ -7,6 +7,8 @@ pub mod columns;
 pub mod compared;
 pub mod contact_faults;
 pub mod control_record;
+pub mod csv_fields;
+pub mod csv_lines;
 pub mod cuts;
 pub mod exclusion_words;
 pub mod field;
