@@ -4,6 +4,7 @@ use std::ffi::{OsStr, OsString};
 use std::os::unix::ffi::OsStrExt;
 use std::path::Path;
 
+use crate::code_page::Charset;
 use crate::failure::{Failure, STANDARD};
 use crate::nearest::nearest;
 use crate::syntax::{command, Command, COMMANDS, FULL, HELP, JSON};
@@ -75,6 +76,15 @@ impl Arguments {
                 "--mode wants three octal digits such as 640, not '{}'",
                 value.to_string_lossy()
             ))),
+        }
+    }
+
+    /// What the files are in that --ascii and --lines concern.
+    pub fn charset(&self) -> Charset {
+        match (self.flag("--lines"), self.flag("--ascii")) {
+            (true, _) => Charset::Lines,
+            (_, true) => Charset::Ascii,
+            _ => Charset::Ebcdic,
         }
     }
 

@@ -7,16 +7,13 @@ use fantanolive::{to_ascii, to_ebcdic, NotConverted};
 pub enum Charset {
     Ebcdic,
     Ascii,
+    /// ASCII with a line end behind each record.
+    Lines,
 }
 
 impl Charset {
-    /// That of files which --ascii concerns.
-    pub fn of_flag(ascii: bool) -> Charset {
-        if ascii {
-            Charset::Ascii
-        } else {
-            Charset::Ebcdic
-        }
+    pub fn is_ascii(self) -> bool {
+        self != Charset::Ebcdic
     }
 }
 
@@ -33,7 +30,7 @@ impl Decoder {
             let mut out = [0];
             *character = match charset {
                 Charset::Ebcdic => to_ascii(&[byte], &mut out).ok().map(|()| out[0]),
-                Charset::Ascii => to_ebcdic(&[byte], &mut out).ok().map(|()| byte),
+                _ => to_ebcdic(&[byte], &mut out).ok().map(|()| byte),
             };
         }
         Decoder {
@@ -56,7 +53,7 @@ pub type Conversion = fn(&[u8], &mut [u8]) -> Result<(), NotConverted>;
 pub fn conversion_to(charset: Charset) -> Conversion {
     match charset {
         Charset::Ebcdic => to_ebcdic,
-        Charset::Ascii => to_ascii,
+        _ => to_ascii,
     }
 }
 

@@ -132,7 +132,7 @@ fn files_in_ascii() {
     assert!(text.contains("(LF)") && text.contains(likely), "{text}");
     let text = message(&folder, &with(&CHECK, &["--ascii"]), 2);
     assert!(text.contains("refused 16: "));
-    let place = "batch.bin: byte 245 is hexadecimal 0A, a line feed: take the line ends out";
+    let place = "batch.bin: byte 245 is hexadecimal 0A, a line feed: --lines takes files of lines";
     assert!(text.contains(place), "{text}");
     // EBCDIC taken for ASCII
     folder.write("batch.bin", &paper_batch());

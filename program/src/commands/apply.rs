@@ -81,8 +81,8 @@ pub fn apply(arguments: &Arguments, progress: &Progress) -> Result<Status, Failu
     record.see_not_taken(arguments, &files.batch)?;
     let mut judged = files.judge(arguments, progress)?;
 
-    let charset = Charset::of_flag(arguments.flag("--ascii"));
-    if charset == Charset::Ascii {
+    let charset = arguments.charset();
+    if charset.is_ascii() {
         convert(&mut judged.rejects, charset).map_err(|place| {
             let note = format!("the reject file has no ASCII form: byte {place}");
             notes::refused(Refusal::NoCounterpart, vec![note])
@@ -90,7 +90,7 @@ pub fn apply(arguments: &Arguments, progress: &Progress) -> Result<Status, Failu
     }
     let rows = &judged.master.bytes[..judged.counts.rows as usize * ROW];
     let summary = judged.summary("apply");
-    let mut staged = vec![outputs.stage_bytes("--rejects", progress, &judged.rejects)?];
+    let mut staged = vec![outputs.stage_records("--rejects", progress, &judged.rejects, RECORD)?];
     let mut record = record;
     if let Some(journal) = &judged.journal {
         record = record.with_journal(Path::new(arguments.needed("--journal")), journal);
@@ -118,7 +118,7 @@ impl Files {
     fn read(arguments: &Arguments, progress: &Progress) -> Result<Files, Failure> {
         arguments.number("--year")?;
         Listing::of(arguments)?;
-        let charset = Charset::of_flag(arguments.flag("--ascii"));
+        let charset = arguments.charset();
         let locals_path = Path::new(arguments.needed("--locals"));
         let batch = read(arguments.path(1), &BATCH, charset, progress)?.into_ebcdic()?;
         let locals = read(locals_path, &LOCALS, charset, progress)?.into_ebcdic()?;

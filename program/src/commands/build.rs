@@ -46,8 +46,8 @@ pub fn run(arguments: &Arguments, progress: &Progress) -> Result<Status, Failure
     let state = state_of(arguments, &details)?;
     let built = batch_of(&state, &details).map_err(|refusal| not_built(refusal, arguments))?;
     let (mut batch, totals) = built;
-    to_charset(&mut batch, Charset::of_flag(arguments.flag("--ascii")))?;
-    let staged = vec![outputs.stage_bytes("--out", progress, &batch)?];
+    to_charset(&mut batch, arguments.charset())?;
+    let staged = vec![outputs.stage_records("--out", progress, &batch, RECORD)?];
     let summary = Summary::new("build", Status::Done)
         .number("details", (details.len() / RECORD) as u64)
         .of_which("TANF", totals.tanf_count)

@@ -73,7 +73,7 @@ fn case_id(arguments: &Arguments) -> Result<Option<(Field, Vec<u8>)>, Failure> {
         Err(NotConverted::NoCounterpart { place }) => {
             let byte = usize::try_from(place).map_or(0, |at| text[at]);
             let note = place_note(place, byte, None);
-            let note = format!("--case-id: {note}{}", byte_words(byte));
+            let note = format!("--case-id: {note}{}", byte_words(&[byte], false));
             Err(refused(Refusal::NoCounterpart, vec![note]))
         }
         Err(other) => Err(refused(other.refusal(), Vec::new())),

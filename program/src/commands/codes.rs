@@ -34,11 +34,11 @@ pub fn run(arguments: &Arguments, progress: &Progress) -> Result<Status, Failure
             _ => notes::refused(refusal, Vec::new()),
         })?;
     out.truncate(LOCAL_CODE * codes as usize);
-    if arguments.flag("--ascii") {
+    if arguments.charset().is_ascii() {
         // the codes are digits
         let _ = convert(&mut out, Charset::Ascii);
     }
-    let staged = vec![outputs.stage_bytes("--out", progress, &out)?];
+    let staged = vec![outputs.stage_records("--out", progress, &out, LOCAL_CODE)?];
     let placed = outputs.put_in_place(staged)?;
     let summary = Summary::new("codes", Status::Done)
         .text("state", state.to_string_lossy())

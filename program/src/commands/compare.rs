@@ -33,7 +33,7 @@ const DATE: &[u8] = b"20000101";
 
 pub fn run(arguments: &Arguments, progress: &Progress) -> Result<Status, Failure> {
     let listing = Listing::of(arguments)?;
-    let charset = Charset::of_flag(arguments.flag("--ascii"));
+    let charset = arguments.charset();
     let with_records: &[&'static str] = match arguments.flag("--records") {
         true => &["--records"],
         false => &[],
@@ -52,12 +52,15 @@ pub fn run(arguments: &Arguments, progress: &Progress) -> Result<Status, Failure
     progress.now("comparing the cases");
     let compared = Compared::of(&here[..here.len() - RECORD], there);
     let mut summary = summary_of(arguments, &compared);
-    let mut staged = Vec::new();
+    let mut batch = Vec::new();
     if arguments.flag("--records") {
         let made = Made::of(&compared, &master, &locals)?;
         summary = made.counted(summary);
-        let batch = made.batch(arguments, charset)?;
-        staged.push(outputs.stage_made("--records", progress, |out| Ok(out.write_all(&batch)?))?);
+        batch = made.batch(arguments, charset)?;
+    }
+    let mut staged = Vec::new();
+    if arguments.flag("--records") {
+        staged.push(outputs.stage_records("--records", progress, &batch, RECORD)?);
     }
     let of_files = Form::new(Charset::Ebcdic, Placeholder::Dot, arguments.flag("--full"));
     let page = Page {

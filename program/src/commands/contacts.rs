@@ -43,7 +43,7 @@ pub fn run(arguments: &Arguments, progress: &Progress) -> Result<Status, Failure
     };
     let outputs = Outputs::open(arguments, &wanted)?;
     let listing = Listing::of(arguments)?;
-    let charset = Charset::of_flag(arguments.flag("--ascii"));
+    let charset = arguments.charset();
     let file = read(arguments.path(1), &CONTACTS, charset, progress)?.into_ebcdic()?;
     let sent = file.records();
     let mut table = read_table(arguments, sent, progress)?;

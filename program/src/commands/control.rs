@@ -22,7 +22,7 @@ use crate::report::screen::Style;
 use crate::report::summary::Summary;
 
 pub fn run(arguments: &Arguments, progress: &Progress) -> Result<Status, Failure> {
-    let charset = Charset::of_flag(arguments.flag("--ascii"));
+    let charset = arguments.charset();
     let wanted = Wanted {
         state: false,
         made: &["--out"],
@@ -60,11 +60,11 @@ pub fn run(arguments: &Arguments, progress: &Progress) -> Result<Status, Failure
     for (field, total) in fields_of(&totals) {
         summary = summary.number(field.name, total);
     }
-    if charset == Charset::Ascii {
+    if charset.is_ascii() {
         // the batch came from ASCII, and a control record is text
         let _ = convert(&mut batch.bytes, charset);
     }
-    let staged = vec![outputs.stage_bytes("--out", progress, &batch.bytes)?];
+    let staged = vec![outputs.stage_records("--out", progress, &batch.bytes, RECORD)?];
     let summary = summary.placed(outputs.put_in_place(staged)?);
     print(
         arguments,

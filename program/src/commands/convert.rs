@@ -95,14 +95,14 @@ fn note_of(path: &Path, before: u64, place: u64, part: &[u8], to: Charset) -> St
     let at = usize::try_from(place).unwrap_or_default();
     let byte = part[at];
     let hint = match to {
-        Charset::Ebcdic => byte_words(byte),
-        Charset::Ascii if looks_ascii(&[byte]) => {
-            ", an ASCII character: is the file in ASCII already?"
+        Charset::Ebcdic => byte_words(&part[at..], before + place == 0),
+        _ if looks_ascii(&[byte]) => {
+            ", an ASCII character: is the file in ASCII already?".to_string()
         }
-        Charset::Ascii if byte == 0x15 || byte == 0x25 => {
-            ", an EBCDIC line end: take the line ends out"
+        _ if byte == 0x15 || byte == 0x25 => {
+            ", an EBCDIC line end: take the line ends out".to_string()
         }
-        Charset::Ascii => "",
+        _ => String::new(),
     };
     format!(
         "{}: {}{hint}",

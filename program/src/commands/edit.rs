@@ -3,7 +3,6 @@
 use fantanolive::{find, Refusal, RECORD};
 
 use crate::arguments::Arguments;
-use crate::code_page::Charset;
 use crate::commands::changes::Changes;
 use crate::commands::keys::{one_or_lines, Key};
 use crate::commands::list::{read_list, with_list};
@@ -21,7 +20,7 @@ use crate::report::summary::Summary;
 
 pub fn run(arguments: &Arguments, progress: &Progress) -> Result<Status, Failure> {
     let changes = Changes::of(arguments)?;
-    let charset = Charset::of_flag(arguments.flag("--ascii"));
+    let charset = arguments.charset();
     let wanted = Wanted {
         state: false,
         made: &["--out"],
@@ -47,7 +46,7 @@ pub fn run(arguments: &Arguments, progress: &Progress) -> Result<Status, Failure
     let (mut batch, _) =
         batch_of(state, &records).map_err(|refusal| refused(refusal, Vec::new()))?;
     to_charset(&mut batch, charset)?;
-    let staged = vec![outputs.stage_bytes("--out", progress, &batch)?];
+    let staged = vec![outputs.stage_records("--out", progress, &batch, RECORD)?];
     let summary = Summary::new("edit", Status::Done)
         .text("key", key_of(arguments, &change.row))
         .place("row", place + 1)

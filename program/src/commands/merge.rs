@@ -24,7 +24,7 @@ use crate::report::screen::{Screen, Style};
 use crate::report::summary::Summary;
 
 pub fn run(arguments: &Arguments, progress: &Progress) -> Result<Status, Failure> {
-    let charset = Charset::of_flag(arguments.flag("--ascii"));
+    let charset = arguments.charset();
     let paths = arguments.paths();
     let wanted = Wanted {
         state: false,
@@ -48,11 +48,11 @@ pub fn run(arguments: &Arguments, progress: &Progress) -> Result<Status, Failure
         .text("state", shared.form.field(&control::STATE, last))
         .number("batches", batches.len() as u64)
         .number("details", (merged.len() / RECORD - 1) as u64);
-    if charset == Charset::Ascii {
+    if charset.is_ascii() {
         // the batches came from ASCII
         let _ = convert(&mut merged, charset);
     }
-    let staged = vec![outputs.stage_bytes("--out", progress, &merged)?];
+    let staged = vec![outputs.stage_records("--out", progress, &merged, RECORD)?];
     let summary = summary.placed(outputs.put_in_place(staged)?);
     print(
         arguments,

@@ -108,7 +108,7 @@ fn dry_run(arguments: &Arguments, progress: &Progress) -> Result<Status, Failure
 
 fn read_files(arguments: &Arguments, progress: &Progress) -> Result<(Input, Input), Failure> {
     Listing::of(arguments)?;
-    let charset = Charset::of_flag(arguments.flag("--ascii"));
+    let charset = arguments.charset();
     let file = read(arguments.path(1), &COLLECTIONS, charset, progress)?.into_ebcdic()?;
     Ok((read_master(arguments, 0, progress)?, file))
 }

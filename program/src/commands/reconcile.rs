@@ -44,11 +44,11 @@ pub fn run(arguments: &Arguments, progress: &Progress) -> Result<Status, Failure
         .number("records", records)
         .of_which("TANF", number(&form.field(&rct::TANF, last)))
         .of_which("Non-TANF", number(&form.field(&rct::NON_TANF, last)));
-    if arguments.flag("--ascii") {
+    if arguments.charset().is_ascii() {
         let converted = convert(&mut out, Charset::Ascii);
         converted.map_err(|place| no_ascii(place, &out))?;
     }
-    let staged = vec![outputs.stage_bytes("--out", progress, &out)?];
+    let staged = vec![outputs.stage_records("--out", progress, &out, RECORD)?];
     let summary = summary.placed(outputs.put_in_place(staged)?);
     print_summary(arguments, progress, &summary)
 }

@@ -19,7 +19,7 @@ use crate::report::notes::{self, refused};
 use crate::report::summary::Summary;
 
 pub fn run(arguments: &Arguments, progress: &Progress) -> Result<Status, Failure> {
-    let charset = Charset::of_flag(arguments.flag("--ascii"));
+    let charset = arguments.charset();
     let wanted = Wanted {
         state: false,
         made: &["--out"],
@@ -46,7 +46,7 @@ pub fn run(arguments: &Arguments, progress: &Progress) -> Result<Status, Failure
     })?;
     let mut out = records.clone();
     to_charset(&mut out, charset)?;
-    let staged = vec![outputs.stage_bytes("--out", progress, &out)?];
+    let staged = vec![outputs.stage_records("--out", progress, &out, RECORD)?];
     let summary = Summary::new("records", Status::Done)
         .text("key", key_of(arguments, &change.row))
         .number("records", (records.len() / RECORD) as u64)

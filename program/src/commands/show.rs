@@ -4,7 +4,6 @@ use std::io::{self, Write};
 use std::ops::Range;
 
 use crate::arguments::Arguments;
-use crate::code_page::Charset;
 use crate::commands::output::{form_of, printed, warn};
 use crate::failure::{counted, Failure, Status, STANDARD};
 use crate::files::length::{of_length, too_long};
@@ -120,8 +119,8 @@ pub fn read_kind(
     kind: &'static FileKind,
     progress: &Progress,
 ) -> Result<Input, Failure> {
-    let charset = Charset::of_flag(arguments.flag("--ascii"));
-    if charset == Charset::Ascii && kind.name == MASTER.name {
+    let charset = arguments.charset();
+    if charset.is_ascii() && kind.name == MASTER.name {
         return Err(arguments.wrong("a master is always in EBCDIC; --ascii is for other files"));
     }
     if kind.name == MASTER.name && arguments.operand(1) == STANDARD {

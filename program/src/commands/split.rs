@@ -36,7 +36,7 @@ struct Part {
 
 pub fn run(arguments: &Arguments, progress: &Progress) -> Result<Status, Failure> {
     let way = Way::of(arguments)?;
-    let charset = Charset::of_flag(arguments.flag("--ascii"));
+    let charset = arguments.charset();
     let mut batch = read(arguments.path(0), &BATCH, charset, progress)?.into_ebcdic()?;
     see_whole(&batch)?;
     progress.now("cutting the batch");
@@ -48,7 +48,7 @@ pub fn run(arguments: &Arguments, progress: &Progress) -> Result<Status, Failure
     for (number, &end) in ends.iter().enumerate() {
         let (part, mut record) = part_of(&batch, first, end)?;
         let details = &mut batch.bytes[first * RECORD..end * RECORD];
-        if charset == Charset::Ascii {
+        if charset.is_ascii() {
             // the batch came from ASCII
             let _ = convert(details, charset);
             let _ = convert(&mut record, charset);

@@ -89,8 +89,12 @@ fn likely_cause(input: &Input, is_wrong: bool) -> Option<String> {
     let (bytes, kind) = (&input.bytes[..input.read], input.kind);
     if let Some(end) = line_ends(bytes, kind.width) {
         let record = kind.record;
+        let what = match is_ascii(input) || input.charset.is_ascii() {
+            true => "use --lines",
+            false => "take them out",
+        };
         return Some(format!(
-            "line ends: {end} stands behind every {record}; take them out"
+            "line ends: {end} stands behind every {record}; {what}"
         ));
     }
     if !is_wrong || !is_ascii(input) {
@@ -101,7 +105,7 @@ fn likely_cause(input: &Input, is_wrong: bool) -> Option<String> {
     (lines > 0).then(|| {
         let lines = counted(lines, "line");
         let width = kind.width;
-        format!("line ends: {lines} of other lengths than {width} bytes; fill them with spaces and take the line ends out")
+        format!("line ends: {lines} of other lengths than {width} bytes; --lines fills them with spaces")
     })
 }
 
@@ -115,15 +119,36 @@ pub fn too_long(length: u64, kind: &FileKind) -> String {
     )
 }
 
-/// What a byte without a counterpart may be.
-pub fn byte_words(byte: u8) -> &'static str {
-    match byte {
-        b'\n' => ", a line feed: take the line ends out",
-        b'\r' => ", a carriage return: take the line ends out",
+/// What a byte without a counterpart may be, with those behind it.
+pub fn byte_words(bytes: &[u8], is_first: bool) -> String {
+    let Some(&byte) = bytes.first() else {
+        return String::new();
+    };
+    let words = match byte {
+        0xEF if is_first && bytes.starts_with(b"\xEF\xBB\xBF") => {
+            ", a byte order mark (UTF-8): save the file as plain ASCII"
+        }
+        0xFE | 0xFF if is_first => ", a byte order mark (UTF-16): save the file as plain ASCII",
+        b'\n' => ", a line feed: --lines takes files of lines",
+        b'\r' => ", a carriage return: --lines takes files of lines",
         b'\t' => ", a tab: put spaces in its place",
-        b'a'..=b'z' => ", a lower case letter",
-        0x80.. => ", no ASCII byte: is the file in EBCDIC already?",
+        b'a'..=b'z' => ", a lower case letter: use upper case",
+        0x80.. => return of_other_alphabet(bytes),
         _ => "",
+    };
+    words.to_string()
+}
+
+/// A character that is none of ASCII's, or a byte that may be one of EBCDIC.
+fn of_other_alphabet(bytes: &[u8]) -> String {
+    let front = &bytes[..bytes.len().min(4)];
+    let valid = match std::str::from_utf8(front) {
+        Ok(text) => text,
+        Err(error) => std::str::from_utf8(&front[..error.valid_up_to()]).unwrap_or(""),
+    };
+    match valid.chars().next() {
+        Some(c) => format!(", the character '{c}' in UTF-8: use A to Z"),
+        None => ", no ASCII byte: is the file in EBCDIC already?".to_string(),
     }
 }
 
@@ -140,15 +165,15 @@ pub fn place_note(place: u64, byte: u8, kind: Option<&FileKind>) -> String {
 /// Notes on the first byte without a counterpart of a file in ASCII; `behind` is the byte behind its first record, before any
 /// conversion.
 pub fn of_place(input: &Input, place: u64, behind: Option<u8>) -> Vec<String> {
-    let byte = usize::try_from(place).map_or(0, |at| input.bytes[at]);
+    let at = usize::try_from(place).unwrap_or_default();
+    let rest = &input.bytes[at..input.read];
+    let byte = rest.first().copied().unwrap_or_default();
     let has_line_ends = matches!(behind, Some(b'\n' | b'\r'));
-    let kind = (!has_line_ends).then_some(input.kind);
-    vec![format!(
-        "{}: {}{}",
-        input.name(),
-        place_note(place, byte, kind),
-        byte_words(byte)
-    )]
+    // the first line end stands behind the first record
+    let kind = (!has_line_ends || at < input.kind.width).then_some(input.kind);
+    let note = place_note(place, byte, kind);
+    let words = byte_words(rest, at == 0);
+    vec![format!("{}: {note}{words}", input.name())]
 }
 
 #[cfg(test)]

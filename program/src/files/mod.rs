@@ -3,6 +3,7 @@
 pub mod access;
 pub mod leftovers;
 pub mod length;
+pub mod lines;
 pub mod lock;
 pub mod outputs;
 pub mod protect;

@@ -7,12 +7,14 @@ use std::io::Write;
 use std::path::{Path, PathBuf};
 use std::time::Duration;
 
+use fantanolive::RECORD;
+
 use crate::arguments::Arguments;
 use crate::failure::{shown, Failure, STANDARD};
 use crate::files::lock::Lock;
 use crate::files::protect::may_be_made;
 use crate::files::replace::{
-    self, stage, write_all, NewFile, Placed, Staged, WriteFailure, OWNER_ALONE,
+    self, stage, write_all, write_lines, NewFile, Placed, Staged, WriteFailure, OWNER_ALONE,
 };
 use crate::files::target::{all_apart, Target};
 use crate::progress::Progress;
@@ -29,6 +31,8 @@ pub struct Outputs {
     /// The files that options name, by the option.
     made: Vec<(&'static str, Place)>,
     mode: Option<u32>,
+    /// Whether a line end is written behind each record.
+    has_line_ends: bool,
     _locks: Vec<Lock>,
 }
 
@@ -106,6 +110,7 @@ impl Outputs {
             state: None,
             made: Vec::new(),
             mode: arguments.mode()?,
+            has_line_ends: arguments.flag("--lines"),
             _locks: Vec::new(),
         })
     }
@@ -203,7 +208,21 @@ impl Outputs {
         }
     }
 
-    /// Writes one of the files that the command names, the first being 0, from bytes and those behind them.
+    /// The same from records of a width, with line ends behind them where the command writes lines.
+    pub fn stage_records<'a>(
+        &self,
+        option: &str,
+        progress: &Progress,
+        bytes: &'a [u8],
+        width: usize,
+    ) -> Result<Staged<'a>, Failure> {
+        match self.has_line_ends {
+            false => self.stage_bytes(option, progress, bytes),
+            true => self.stage_made(option, progress, |out| write_lines(out, bytes, width)),
+        }
+    }
+
+    /// Writes one of the files that the command names, the first being 0, from records and those behind them.
     pub fn stage_file(
         &self,
         number: usize,
@@ -215,6 +234,10 @@ impl Outputs {
             unreachable!("the command names files alone");
         };
         stage(target, &NewFile::of_mode(self.mode), progress, |out| {
+            if self.has_line_ends {
+                write_lines(out, bytes, RECORD)?;
+                return write_lines(out, behind, RECORD);
+            }
             write_all(out, bytes, progress)?;
             Ok(out.write_all(behind)?)
         })

@@ -10,6 +10,7 @@ use std::path::{Path, PathBuf};
 use crate::code_page::{convert, Charset};
 use crate::failure::{shown, words, Failure, STANDARD};
 use crate::files::length;
+use crate::files::lines::records_of;
 use crate::memory::zeros;
 use crate::progress::Progress;
 use crate::records::kinds::FileKind;
@@ -87,7 +88,7 @@ impl Input {
 
     /// Turns what was read into EBCDIC, where it is in ASCII and isn't refused by its length.
     pub fn into_ebcdic(mut self) -> Result<Input, Failure> {
-        if self.charset == Charset::Ascii && !self.is_too_long() {
+        if self.charset.is_ascii() && !self.is_too_long() {
             let behind = self.bytes[..self.read].get(self.kind.width).copied();
             if let Err(place) = convert(&mut self.bytes[..self.read], Charset::Ebcdic) {
                 return Err(Failure::Refused {
@@ -107,7 +108,23 @@ pub fn read(
     charset: Charset,
     progress: &Progress,
 ) -> Result<Input, Failure> {
-    read_with_room(path, kind, charset, &|length| length, progress)
+    let mut input = read_with_room(path, kind, charset, &|length| length, progress)?;
+    if charset != Charset::Lines {
+        return Ok(input);
+    }
+    input.charset = Charset::Ascii;
+    if input.read < most_of(kind, Charset::Lines) {
+        return records_of(input);
+    }
+    // longer than any file of lines that the library takes
+    input.read = most_of(kind, Charset::Ascii);
+    Ok(input)
+}
+
+/// The bytes of one record more than the library takes, with line ends where it has them.
+fn most_of(kind: &FileKind, charset: Charset) -> usize {
+    let ends = if charset == Charset::Lines { 2 } else { 0 };
+    (kind.most + 1) * (kind.width + ends)
 }
 
 /// Reads a file into a buffer of another length: the room for so many bytes, at least as many as were read.
@@ -126,7 +143,7 @@ pub fn read_with_room(
         return Err(Failure::file(path, "can't be read: it is a folder"));
     }
     // One record more than the library takes shows that the file is longer.
-    let most = (kind.most + 1) * kind.width;
+    let most = most_of(kind, charset);
     // what was read of standard input before is gone
     let has_length = about.is_file() && path != Path::new(STANDARD);
     let (bytes, read) = if has_length {

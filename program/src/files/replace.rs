@@ -3,7 +3,7 @@
 
 use std::borrow::Cow;
 use std::fs::{self, File, OpenOptions, Permissions};
-use std::io::{self, Write};
+use std::io::{self, BufWriter, Write};
 use std::os::unix::fs::{OpenOptionsExt, PermissionsExt};
 use std::path::{Path, PathBuf};
 use std::sync::atomic::{AtomicBool, Ordering};
@@ -112,6 +112,16 @@ pub fn write_all(
         progress.done(done, bytes.len());
     }
     Ok(())
+}
+
+/// Writes records of a width with a line feed behind each.
+pub fn write_lines(out: &mut dyn Write, bytes: &[u8], width: usize) -> Result<(), WriteFailure> {
+    let mut out = BufWriter::with_capacity(1 << 16, out);
+    for record in bytes.chunks(width) {
+        out.write_all(record)?;
+        out.write_all(b"\n")?;
+    }
+    Ok(out.flush()?)
 }
 
 fn not_written(target: &Target, what: &str) -> Failure {

@@ -138,7 +138,7 @@ impl Form {
     fn signed_digit(&self, byte: u8) -> Option<u8> {
         match (self.decoder.charset, byte) {
             (Charset::Ebcdic, 0xC0..=0xC9) => Some(b'0' + (byte & 0x0F)),
-            (Charset::Ascii, b'A'..=b'I') => Some(b'1' + (byte - b'A')),
+            (Charset::Ascii | Charset::Lines, b'A'..=b'I') => Some(b'1' + (byte - b'A')),
             _ => None,
         }
     }

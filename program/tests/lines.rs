@@ -1,0 +1,153 @@
+//! Files of lines: --lines in the place of --ascii, and what is told of other characters.
+
+mod common;
+
+use common::*;
+
+/// Records in ASCII as lines with an end, their last spaces left out where asked for.
+fn lines(bytes: &[u8], width: usize, end: &str, is_trimmed: bool) -> Vec<u8> {
+    let text = ascii(bytes);
+    let line = |record: &[u8]| {
+        let record = if is_trimmed {
+            record.trim_ascii_end()
+        } else {
+            record
+        };
+        [record, end.as_bytes()].concat()
+    };
+    text.chunks(width).flat_map(line).collect()
+}
+
+fn checked(folder: &Folder, more: &[&str]) -> Ran {
+    folder.run(&with(&CHECK, &with(&["--new"], more)))
+}
+
+#[test]
+fn batches_of_lines() {
+    let folder = Folder::with_example("lines-batch");
+    let wanted = checked(&folder, &[]).out;
+    for end in ["\n", "\r\n"] {
+        for is_trimmed in [false, true] {
+            let text = lines(&paper_batch(), 245, end, is_trimmed);
+            folder.write("batch.bin", &text);
+            let ran = checked(&folder, &["--lines"]);
+            assert_eq!((ran.status, &ran.out), (1, &wanted), "{ran:?}");
+            // the last end may be missing
+            folder.write("batch.bin", &text[..text.len() - end.len()]);
+            assert_eq!(checked(&folder, &["--lines"]).out, wanted);
+        }
+    }
+    // what is written has line ends too
+    let ran = folder.run(&with(&APPLY, &["--new", "--lines"]));
+    assert_eq!(ran.status, 1, "{ran:?}");
+    assert_eq!(
+        folder.read("rejects.bin"),
+        lines(&paper_rejects(), 245, "\n", false)
+    );
+    assert_eq!(folder.read("master.bin"), paper_row());
+    let ran = folder.run(&["show", "rejects", "rejects.bin", "--lines"]);
+    assert!(ran.status == 0 && ran.out.contains("SMYTH"), "{ran:?}");
+}
+
+#[test]
+fn other_commands() {
+    let folder = Folder::new("lines-others");
+    folder.write("two.bin", &two_rows("00"));
+    folder.write("weekly.txt", &lines(&weekly(), 240, "\r\n", true));
+    folder.write("contacts.txt", &lines(&contact_file(), 220, "\n", true));
+    folder.write("batch.txt", &lines(&paper_batch(), 245, "\n", true));
+    assert_eq!(
+        folder
+            .run(&["post", "two.bin", "weekly.txt", "--lines"])
+            .status,
+        1
+    );
+    assert_eq!(folder.read("two.bin"), two_rows_posted());
+    let contacts = ["contacts", "table.bin", "contacts.txt", "--new", "--lines"];
+    assert_eq!(folder.run(&contacts).status, 1);
+    assert_eq!(folder.read("table.bin"), contact_table());
+    let codes = [
+        "codes",
+        "table.bin",
+        "--state",
+        "OH",
+        "--out",
+        "codes.txt",
+        "--lines",
+    ];
+    assert_eq!(folder.run(&codes).status, 0);
+    assert_eq!(folder.read("codes.txt"), b"001\n007\n");
+    let split = [
+        "split",
+        "batch.txt",
+        "--at",
+        "1",
+        "--out",
+        "part",
+        "--lines",
+    ];
+    assert_eq!(folder.run(&split).status, 0);
+    let merge = [
+        "merge",
+        "part001",
+        "part002",
+        "--out",
+        "merged.txt",
+        "--lines",
+    ];
+    assert_eq!(folder.run(&merge).status, 0);
+    assert_eq!(
+        folder.read("merged.txt"),
+        lines(&paper_batch(), 245, "\n", false)
+    );
+    let control = ["control", "batch.txt", "--out", "control.txt", "--lines"];
+    assert_eq!(folder.run(&control).status, 0);
+    assert_eq!(folder.read("control.txt"), folder.read("merged.txt"));
+    let export = [
+        "export",
+        "batch",
+        "batch.txt",
+        "--lines",
+        "--out",
+        "batch.csv",
+    ];
+    assert_eq!(folder.run(&export).status, 0);
+    let build = ["build", "batch.csv", "--out", "built.txt", "--lines"];
+    assert_eq!(folder.run(&build).status, 0);
+    assert_eq!(folder.read("built.txt"), folder.read("merged.txt"));
+    assert_eq!(
+        folder.run(&["show", "master", "two.bin", "--lines"]).status,
+        3
+    );
+}
+
+#[test]
+fn what_is_told_of_other_characters() {
+    let folder = Folder::with_example("lines-hints");
+    let text = ascii(&paper_batch());
+    let told = |bytes: &[u8], option: &str| {
+        folder.write("batch.bin", bytes);
+        let ran = checked(&folder, &[option]);
+        assert!([2, 3].contains(&ran.status), "{ran:?}");
+        ran.err.replace("\n    ", " ")
+    };
+    let changed = |place: usize, bytes: &[u8]| {
+        let mut other = text.clone();
+        other.splice(place..place + bytes.len(), bytes.iter().copied());
+        other
+    };
+    for (bytes, option, words) in [
+        (changed(245 + 30, b"m"), "--ascii", "byte 275 (record 2, column 31) is hexadecimal 6D, a lower case letter: use upper case"),
+        (changed(30, "Ü".as_bytes()), "--ascii", "byte 30 (record 1, column 31) is hexadecimal C3, the character 'Ü' in UTF-8: use A to Z"),
+        ([b"\xEF\xBB\xBF", &text[..]].concat(), "--ascii", "byte 0 (record 1, column 1) is hexadecimal EF, a byte order mark (UTF-8)"),
+        ([b"\xFF\xFE", &text[..]].concat(), "--ascii", "a byte order mark (UTF-16)"),
+        (paper_batch(), "--ascii", "no ASCII byte: is the file in EBCDIC already?"),
+        (lines(&paper_batch(), 245, "\n", false), "--ascii", "byte 245 is hexadecimal 0A, a line feed: --lines takes files of lines"),
+        ([b"\xEF\xBB\xBF", &lines(&paper_batch(), 245, "\n", true)[..]].concat(), "--lines", "begins with a byte order mark (UTF-8)"),
+        (changed(245, b"X"), "--lines", "line 1 has 735 characters, and a record 245"),
+        (lines(&paper_batch(), 245, "\n", false).to_ascii_lowercase(), "--lines", "byte 0 (record 1, column 1) is hexadecimal 6F, a lower case letter"),
+    ] {
+        let err = told(&bytes, option);
+        assert!(err.contains(words), "{words}: {err}");
+    }
+}
