@@ -763,6 +763,43 @@ byte that is no character is \\xNN. `build` makes the same batch of it.",
         run: commands::export::run,
     },
     Command {
+        name: "agree",
+        purpose: "show where another engine and the library part",
+        operands: &["OTHER"],
+        kept: &[],
+        options: &[
+            optional(
+                "--prefix",
+                "NAME_",
+                "what the calls of OTHER begin with in place of fantanolive_",
+            ),
+            optional("--calls", "NAME,..", "these calls alone"),
+            optional("--cases", "N", "so many cases in place of a minute"),
+            optional("--seed", "N", "the cases of a run that had this seed"),
+            optional(
+                "--up-to",
+                "REQUEST",
+                "OTHER has the requests up to this one; 0 is the base",
+            ),
+            flag("--limits", "cases at the limits in full, too"),
+            optional("--save", "DIR", "save the differences there as cases"),
+            optional("--replay", "DIR", "run the cases of the files *.txt there"),
+            JSON,
+        ],
+        read: &[],
+        made: &[],
+        help: "\
+Lends the same bytes to the library and to OTHER, and compares the answer, every
+number and every byte that they leave. OTHER is a shared library (.so) with the
+calls of fantanolive.h, or a program that speaks the line protocol of
+agreement/README.md; it runs in a process of its own. Calls that it lacks are
+left out. Each difference is made as small as it can be, and told with the
+sentence of the papers that is at stake.
+Status 1 means that they part, 3 that it could not be run.",
+        statuses: &[Status::Done, Status::Rejects, Status::Problem],
+        run: commands::agree::run,
+    },
+    Command {
         name: "explain",
         purpose: "say what the number of a refusal or code means",
         operands: &["NUMBER"],

@@ -1,6 +1,7 @@
 //! The commands.
 
 pub mod add_cents;
+pub mod agree;
 pub mod apply;
 pub mod build;
 pub mod codes;

@@ -1,0 +1,38 @@
+//! Shows where two engines of the papers part: the same bytes are lent to both, and every number and byte that they leave is
+//! compared.
+
+pub mod aims;
+pub mod breaks;
+pub mod calls;
+pub mod case;
+pub mod chains;
+mod code_page;
+pub mod compare;
+pub mod details;
+pub mod engine;
+pub mod explain;
+pub mod fields;
+mod frame;
+mod lent;
+pub mod protocol;
+pub mod random;
+pub mod replay;
+pub mod report;
+pub mod run;
+pub mod scene;
+pub mod seen;
+pub mod serve;
+pub mod shrink;
+mod system;
+pub mod text;
+
+/// The calls of this process by their names, in the order of `calls::CALLS`, as pointers for `engine::Linked`.
+#[macro_export]
+macro_rules! linked {
+    ($($call:ident)*) => {{
+        extern "C" {
+            $(fn $call();)*
+        }
+        vec![$($call as *const ()),*]
+    }};
+}

@@ -1,0 +1,441 @@
+//! A case made smaller as long as the two engines part in the same way: details, rows, codes, lines and keys left out, buffers
+//! emptied, then fields made blank or as simple as they can be.
+
+use std::time::{Duration, Instant};
+
+use generator::records::{totals, Record, RECORD};
+use generator::text::{digits, number, put};
+
+use crate::calls::{Argument, Content};
+use crate::case::{Case, Value};
+use crate::fields::{layout, Field};
+use crate::scene::put_number;
+use crate::text::record_width;
+
+const SPACE: u8 = 0x40;
+const ZERO: u8 = 0xF0;
+/// A fresh row is sound, and nothing in it can be left out.
+const ROW: usize = 200;
+
+/// Writes the totals that a batch's details have into its control record.
+pub fn mend_totals(batch: &mut [u8]) {
+    let Some(start) = batch.len().checked_sub(RECORD) else {
+        return;
+    };
+    let (details, control) = batch.split_at_mut(start);
+    let details: Vec<Record> = details
+        .chunks_exact(RECORD)
+        .map(|record| record.try_into().unwrap_or([SPACE; RECORD]))
+        .collect();
+    let columns = [(6, 9), (15, 9), (24, 11), (35, 11)];
+    for (total, (column, width)) in totals(&details).into_iter().zip(columns) {
+        put(control, column, &digits(total, width));
+    }
+}
+
+/// The same of the last record of a collection file.
+fn mend_lines(file: &mut [u8]) {
+    let Some(start) = file.len().checked_sub(240) else {
+        return;
+    };
+    let (lines, last) = file.split_at_mut(start);
+    let above = |field: &[u8]| {
+        let tens = number(&field[..10]);
+        let is_last = matches!(field[10], 0xF0..=0xF9 | 0xC0..=0xC9);
+        is_last && tens.is_some_and(|tens| tens > 0 || field[10] & 15 > 0)
+    };
+    let count = |first: usize| {
+        let lines = lines.chunks_exact(240);
+        lines
+            .filter(|line| above(&line[first - 1..first + 10]))
+            .count() as u64
+    };
+    put(last, 35, &digits(count(87), 15));
+    put(last, 50, &digits(count(76), 15));
+}
+
+fn mend(content: Content, bytes: &mut [u8]) {
+    match content {
+        Content::Batch => mend_totals(bytes),
+        Content::Lines => mend_lines(bytes),
+        _ => {}
+    }
+}
+
+/// What is tried, and for how long.
+pub struct Shrinker<'a> {
+    keeps: &'a mut dyn FnMut(&Case) -> bool,
+    case: Case,
+    tries: usize,
+    end: Instant,
+}
+
+/// The smallest case that `keeps` still takes.
+pub fn shrink(case: &Case, keeps: &mut dyn FnMut(&Case) -> bool) -> Case {
+    let mut shrinker = Shrinker {
+        keeps,
+        case: case.clone(),
+        tries: 0,
+        end: Instant::now() + Duration::from_secs(20),
+    };
+    for _ in 0..6 {
+        let before = shrinker.case.clone();
+        shrinker.leave_out();
+        shrinker.empty();
+        shrinker.simplify();
+        if shrinker.case == before || shrinker.is_over() {
+            break;
+        }
+    }
+    shrinker.case
+}
+
+/// The number that goes with a buffer of records, if one does.
+fn counter(name: &str) -> Option<&'static str> {
+    match name {
+        "master" => Some("rows"),
+        "table" => Some("count"),
+        _ => None,
+    }
+}
+
+impl Shrinker<'_> {
+    fn is_over(&self) -> bool {
+        self.tries > 20_000 || Instant::now() > self.end
+    }
+
+    /// Takes a candidate where the difference is the same.
+    fn take(&mut self, candidate: Case) -> bool {
+        if candidate == self.case || self.is_over() {
+            return false;
+        }
+        self.tries += 1;
+        let kept = (self.keeps)(&candidate);
+        if kept {
+            self.case = candidate;
+        }
+        kept
+    }
+
+    /// Takes a candidate with totals made right where those before were, or as it is.
+    fn take_mended(&mut self, candidate: Case, argument: usize, content: Content) -> bool {
+        let bytes_of = |case: &Case| match &case.values[argument] {
+            Value::Bytes(bytes) => bytes.clone(),
+            _ => Vec::new(),
+        };
+        let before = bytes_of(&self.case);
+        let mut right = before.clone();
+        mend(content, &mut right);
+        let mut bytes = bytes_of(&candidate);
+        mend(content, &mut bytes);
+        if before == right {
+            let mut mended = candidate;
+            mended.values[argument] = Value::Bytes(bytes);
+            return self.take(mended);
+        }
+        self.take(candidate)
+    }
+
+    fn buffers(&self) -> Vec<(usize, &'static str, Content, bool)> {
+        let arguments = self.case.call().arguments.iter().enumerate();
+        arguments
+            .filter_map(|(at, argument)| match argument {
+                Argument::Buffer {
+                    name,
+                    content,
+                    width: 1,
+                    written,
+                } => Some((at, *name, *content, *written)),
+                _ => None,
+            })
+            .collect()
+    }
+
+    fn leave_out(&mut self) {
+        for (at, name, content, written) in self.buffers() {
+            let is_output = written && counter(name).is_none();
+            let is_single = matches!(name, "row" | "wanted" | "key" | "state" | "date");
+            if is_output || is_single || content == Content::Journal {
+                continue;
+            }
+            let mut step = self.records(at, name, content).next_power_of_two();
+            while step > 0 {
+                let mut from = 0;
+                while from < self.records(at, name, content) && !self.is_over() {
+                    let until = (from + step).min(self.records(at, name, content));
+                    if !self.without(at, name, content, from, until) {
+                        from += step;
+                    }
+                }
+                step /= 2;
+            }
+        }
+    }
+
+    /// How many records may be left out.
+    fn records(&self, at: usize, name: &str, content: Content) -> usize {
+        let Value::Bytes(bytes) = &self.case.values[at] else {
+            return 0;
+        };
+        let all = bytes.len() / record_width(content);
+        match (counter(name), content) {
+            (Some(count), _) => all.min(self.case.count(count) as usize),
+            (_, Content::Batch | Content::Lines) => all.saturating_sub(1),
+            _ => all,
+        }
+    }
+
+    /// Tries to leave out the records from one number to another.
+    fn without(
+        &mut self,
+        at: usize,
+        name: &str,
+        content: Content,
+        from: usize,
+        until: usize,
+    ) -> bool {
+        let width = record_width(content);
+        let mut candidate = self.case.clone();
+        if let Value::Bytes(bytes) = &mut candidate.values[at] {
+            bytes.drain(from * width..until * width);
+        }
+        if let Some(count) = counter(name) {
+            let left = candidate.count(count) - (until - from) as u64;
+            candidate.set_count(count, left);
+            if candidate.call().name == "take_back" {
+                for place in (from..until).rev() {
+                    forget_place(candidate.bytes_mut("journal"), place as u64);
+                }
+            }
+        }
+        self.take_mended(candidate, at, content)
+    }
+
+    /// Outputs and what stands behind rows to zeros and to their least length, numbers to 0.
+    fn empty(&mut self) {
+        for at in 0..self.case.values.len() {
+            let argument = self.case.call().arguments[at];
+            let mut candidate = self.case.clone();
+            match &mut candidate.values[at] {
+                Value::Result(numbers) => numbers.fill(0),
+                Value::Count(count) if argument.name() == "year" => *count = 2007,
+                Value::Count(_) => continue,
+                Value::Bytes(bytes) => {
+                    if !argument.is_written() && counter(argument.name()).is_none() {
+                        continue;
+                    }
+                    let kept = self.kept_bytes(at);
+                    bytes[kept..].fill(0);
+                }
+            }
+            self.take(candidate);
+            self.cut(at);
+        }
+    }
+
+    /// The bytes of a buffer that are records.
+    fn kept_bytes(&self, at: usize) -> usize {
+        let argument = self.case.call().arguments[at];
+        let (Argument::Buffer { name, content, .. }, Value::Bytes(bytes)) =
+            (argument, &self.case.values[at])
+        else {
+            return 0;
+        };
+        match counter(name) {
+            Some(count) => {
+                let records = self
+                    .case
+                    .count(count)
+                    .saturating_mul(record_width(content) as u64);
+                records.min(bytes.len() as u64) as usize
+            }
+            None => 0,
+        }
+    }
+
+    /// Shortens an output as far as it goes.
+    fn cut(&mut self, at: usize) {
+        let argument = self.case.call().arguments[at];
+        let Argument::Buffer { content, width, .. } = argument else {
+            return;
+        };
+        if !argument.is_written() && counter(argument.name()).is_none() {
+            return;
+        }
+        let unit = match width {
+            1 => record_width(content),
+            width => width,
+        };
+        for unit in [unit * 16, unit, width] {
+            loop {
+                let kept = self.kept_bytes(at);
+                let mut candidate = self.case.clone();
+                let Value::Bytes(bytes) = &mut candidate.values[at] else {
+                    return;
+                };
+                let Some(length) = bytes.len().checked_sub(unit).filter(|&left| left >= kept)
+                else {
+                    break;
+                };
+                bytes.truncate(length);
+                if !self.take(candidate) {
+                    break;
+                }
+            }
+        }
+    }
+
+    /// Fields to blanks, zeros or less, record by record.
+    fn simplify(&mut self) {
+        for (at, name, content, written) in self.buffers() {
+            if written && counter(name).is_none() || content == Content::Journal {
+                continue;
+            }
+            let Value::Bytes(bytes) = &self.case.values[at] else {
+                continue;
+            };
+            let (length, width) = (bytes.len(), record_width(content));
+            let kept = match counter(name) {
+                Some(_) => self.kept_bytes(at),
+                None => length,
+            };
+            for start in (0..kept).step_by(width) {
+                let end = (start + width).min(length);
+                let record = match &self.case.values[at] {
+                    Value::Bytes(bytes) => bytes[start..end].to_vec(),
+                    _ => continue,
+                };
+                for field in layout(content, &record, end + width > length) {
+                    self.simplify_field(at, content, start, field);
+                }
+            }
+        }
+    }
+
+    fn simplify_field(&mut self, at: usize, content: Content, start: usize, field: &Field) {
+        let range = start + field.first - 1..start + field.last;
+        let Value::Bytes(bytes) = &self.case.values[at] else {
+            return;
+        };
+        let Some(present) = bytes.get(range.clone()).map(<[u8]>::to_vec) else {
+            return;
+        };
+        for simple in simpler(content, field, &present) {
+            if simple == present {
+                return;
+            }
+            let candidate = self.with(at, range.start, &simple);
+            if self.take_mended(candidate, at, content) {
+                return;
+            }
+        }
+        for offset in range {
+            let Value::Bytes(bytes) = &self.case.values[at] else {
+                return;
+            };
+            let simple = match bytes[offset] {
+                SPACE | ZERO => continue,
+                0xF1..=0xF9 => ZERO,
+                _ => SPACE,
+            };
+            let candidate = self.with(at, offset, &[simple]);
+            self.take_mended(candidate, at, content);
+        }
+    }
+
+    fn with(&self, at: usize, offset: usize, new: &[u8]) -> Case {
+        let mut candidate = self.case.clone();
+        if let Value::Bytes(bytes) = &mut candidate.values[at] {
+            bytes[offset..offset + new.len()].copy_from_slice(new);
+        }
+        candidate
+    }
+}
+
+/// Values of a field from the simplest on.
+fn simpler(content: Content, field: &Field, present: &[u8]) -> Vec<Vec<u8>> {
+    let width = present.len();
+    let blank = vec![SPACE; width];
+    let zeros = vec![ZERO; width];
+    let mut one = zeros.clone();
+    one[width - 1] = ZERO + 1;
+    let mut letter = blank.clone();
+    letter[0] = 0xC1;
+    let mut cut = present.to_vec();
+    cut[width.min(4)..].fill(SPACE);
+    if content == Content::Rows {
+        return match field.name {
+            "Exclusion Indicator(s)" => vec![vec![0], vec![1]],
+            "Arrearage Amount" => vec![one, zeros],
+            "Status" => Vec::new(),
+            "Obligor Last Name" => vec![letter, cut],
+            "Payment Year" | "Accumulated Payment Amount" | "Local Code" | "Cents" => vec![zeros],
+            "Submitting State Code" | "SSN" | "Case Type Indicator" => Vec::new(),
+            _ => vec![blank, letter, cut],
+        };
+    }
+    if matches!(
+        field.name,
+        "Submitting State Code" | "SSN" | "Case Type Indicator"
+    ) {
+        return Vec::new();
+    }
+    vec![blank, zeros, one, letter, cut]
+}
+
+/// Takes a row's place out of a journal that can be read.
+fn forget_place(journal: &mut Vec<u8>, place: u64) {
+    let Some((before, after, entries)) = read_journal(journal) else {
+        return;
+    };
+    let entry = entries.iter().find(|(at, _)| *at == place);
+    let was_new = entry.is_some_and(|(_, old)| old.is_none());
+    let mut left = Vec::new();
+    put_number(&mut left, before - u64::from(!was_new && before > 0));
+    put_number(&mut left, after.saturating_sub(1));
+    for (at, old) in entries.iter().filter(|(at, _)| *at != place) {
+        put_number(&mut left, at - u64::from(*at > place));
+        left.push(u8::from(old.is_some()));
+        left.extend(old.iter().flatten());
+    }
+    *journal = left;
+}
+
+type Entries = Vec<(u64, Option<Vec<u8>>)>;
+
+fn read_journal(bytes: &[u8]) -> Option<(u64, u64, Entries)> {
+    let mut rest = bytes;
+    let before = take_number(&mut rest)?;
+    let after = take_number(&mut rest)?;
+    let mut entries = Vec::new();
+    while !rest.is_empty() {
+        let place = take_number(&mut rest)?;
+        let (&mark, behind) = rest.split_first()?;
+        rest = behind;
+        let old = match mark {
+            0 => None,
+            1 => {
+                let (old, behind) = rest.split_at_checked(ROW)?;
+                rest = behind;
+                Some(old.to_vec())
+            }
+            _ => return None,
+        };
+        entries.push((place, old));
+    }
+    Some((before, after, entries))
+}
+
+fn take_number(bytes: &mut &[u8]) -> Option<u64> {
+    let last = bytes
+        .iter()
+        .position(|&byte| byte < 0x80)
+        .filter(|&last| last < 9)?;
+    let (groups, rest) = bytes.split_at(last + 1);
+    *bytes = rest;
+    let value = groups
+        .iter()
+        .rev()
+        .fold(0, |higher, &byte| higher << 7 | u64::from(byte & 0x7F));
+    Some(value)
+}
