@@ -30,7 +30,7 @@ pub fn sentences() -> &'static [Sentence] {
                 continue;
             }
             let Some(cells) = line.strip_prefix("| ") else {
-                is_table = false;
+                is_table &= line.starts_with("|-");
                 continue;
             };
             let cells: Vec<&str> = cells.split(" | ").collect();

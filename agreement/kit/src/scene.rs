@@ -7,7 +7,7 @@ use generator::records::{batch, fields, Record, RECORD};
 use generator::rng::Rng;
 use generator::rows::{old_rows, rows, ROW};
 use generator::text::{byte, digits, put, SPACE, STATES};
-use generator::world::{first_name, last_name, Key, Known, World};
+use generator::world::{first_name, last_name, sound_key, Key, Known, World};
 
 use crate::case::{case, number_bytes, Case, Value};
 
@@ -58,7 +58,10 @@ pub fn own(rng: &mut Rng, world: &World) -> Known {
 
 /// A case that has no row yet, of the world's own state.
 pub fn anew(rng: &mut Rng, world: &World) -> Known {
-    let mut key = rng.pick(&world.fresh);
+    let mut key = match world.fresh.is_empty() {
+        true => sound_key(rng, world.state),
+        false => rng.pick(&world.fresh),
+    };
     key[..2].copy_from_slice(&world.state);
     Known {
         key,
