@@ -325,9 +325,42 @@ pub const CALLS: &[Call] = &[
         ],
         refusals: &[2, 4, 29, 30],
     },
+    Call {
+        name: "post",
+        since: 6,
+        arguments: &[
+            MASTER,
+            ROWS,
+            read("file", Content::Lines),
+            buffer("lines", Content::Numbers, 2, true),
+            result("listed", &["listed"]),
+        ],
+        refusals: &[3, 4, 22, 23, 24],
+    },
+    Call {
+        name: "contacts_update",
+        since: 4,
+        arguments: &[
+            written("table", Content::Contacts),
+            count("count"),
+            read("file", Content::Contacts),
+            buffer("faulty", Content::Numbers, 2, true),
+            result("result", &["contacts", "faulty"]),
+        ],
+        refusals: &[18, 19],
+    },
 ];
+
+/// How many of the calls are the library's own; those behind them are calls of engines without request 14, whose lists are of
+/// 16-bit numbers.
+pub const OWN: usize = 16;
 
 /// A call's place in the list.
 pub fn named(name: &str) -> Option<usize> {
     CALLS.iter().position(|call| call.name == name)
+}
+
+/// The place of a call's form with lists of 16-bit numbers, where it has one.
+pub fn named_16_bit(name: &str) -> Option<usize> {
+    (OWN..CALLS.len()).find(|&call| CALLS[call].name == name)
 }

@@ -113,11 +113,18 @@ fn in_numbers(spec: &Argument, argument: usize, ours: &[u8], theirs: &[u8]) -> O
     Some(Where::Number { argument, at, name })
 }
 
-/// The arguments in the order in which a difference says most: verdicts, then the rest as they stand.
+/// The arguments in the order in which a difference says most: verdicts, results, then the rest as they stand.
 fn order(case: &Case) -> Vec<usize> {
     let arguments = case.call().arguments;
     let mut order: Vec<usize> = (0..arguments.len()).collect();
-    order.sort_by_key(|&at| arguments[at].name() != "verdicts");
+    order.sort_by_key(|&at| match arguments[at] {
+        Argument::Buffer {
+            content: Content::Verdicts,
+            ..
+        } => 0,
+        Argument::Result { .. } => 1,
+        _ => 2,
+    });
     order
 }
 

@@ -8,7 +8,7 @@ use std::path::{Path, PathBuf};
 use std::process::{Child, Command, Stdio};
 use std::time::{Duration, Instant};
 
-use crate::calls::CALLS;
+use crate::calls::OWN;
 use crate::case::{Answered, Case};
 use crate::frame;
 use crate::lent::{Memory, Side};
@@ -40,7 +40,7 @@ impl Linked {
     /// # Safety
     /// Each must be the call of its place in `CALLS`, with the interface of `fantanolive.h`.
     pub unsafe fn new(functions: Vec<*const ()>) -> Linked {
-        assert_eq!(functions.len(), CALLS.len());
+        assert_eq!(functions.len(), OWN);
         Linked {
             functions,
             memory: Memory::default(),

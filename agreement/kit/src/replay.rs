@@ -22,9 +22,15 @@ pub fn replay(pair: &mut Pair, options: &Options, cases: &[Fixed]) -> Report {
         .iter()
         .filter(|fixed| options.calls.contains(&fixed.case.call))
     {
+        // a case that must be changed for an older engine is none of its cases
+        let put = pair.older.put(&fixed.case);
+        let Some(put) = put.filter(|put| put.ours == fixed.case) else {
+            continue;
+        };
         report.cases += 1;
-        let theirs = pair.theirs.run(&fixed.case);
-        let Some(difference) = compare(&fixed.case, &fixed.wanted, &theirs) else {
+        let theirs = pair.theirs.run(&put.theirs);
+        let wanted = pair.older.wanted(&put, fixed.wanted.clone());
+        let Some(difference) = compare(&put.theirs, &wanted, &theirs) else {
             continue;
         };
         let found = &mut report.found;
@@ -36,8 +42,8 @@ pub fn replay(pair: &mut Pair, options: &Options, cases: &[Fixed]) -> Report {
             Some(found) => found.count += 1,
             None if is_full => report.more += 1,
             None => found.push(Found {
-                case: fixed.case.clone(),
-                ours: fixed.wanted.clone(),
+                case: put.theirs,
+                ours: wanted,
                 theirs,
                 difference,
                 count: 1,

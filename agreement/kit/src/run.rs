@@ -10,6 +10,7 @@ use crate::case::{Answered, Case, Outcome};
 use crate::chains::CHAINS;
 use crate::compare::{compare, Difference, Kind};
 use crate::engine::Engine;
+use crate::older::Older;
 use crate::random;
 use crate::seen::Seen;
 use crate::shrink::shrink;
@@ -26,8 +27,6 @@ pub struct Options {
     pub seed: u64,
     /// Whether differences are made smaller.
     pub shrinks: bool,
-    /// The last request of document 02 that the other engine has.
-    pub request: u64,
     /// Whether cases at the limits are tried in full.
     pub limits: bool,
 }
@@ -63,18 +62,40 @@ pub fn allows(calls: &[usize], names: &[&str]) -> bool {
 pub struct Pair<'a> {
     pub ours: &'a mut dyn Engine,
     pub theirs: &'a mut dyn Engine,
+    /// What the other engine knows.
+    pub older: Older,
+}
+
+/// What both engines made of a case.
+struct Both {
+    /// The case as the other engine got it.
+    case: Case,
+    /// What the library left.
+    ours: Outcome,
+    /// The same in the form that the other engine knows.
+    wanted: Outcome,
+    theirs: Answered,
+    difference: Option<Difference>,
 }
 
 impl Pair<'_> {
-    /// What both make of a case, and where they part. Ours always comes to an answer.
-    fn run(&mut self, case: &Case) -> (Outcome, Answered, Option<Difference>) {
-        let ours = match self.ours.run(case) {
+    /// What both make of a case, and where they part; none where the case is one of later requests. Ours always comes to an answer.
+    fn run(&mut self, case: &Case) -> Option<Both> {
+        let put = self.older.put(case)?;
+        let ours = match self.ours.run(&put.ours) {
             Answered::Outcome(outcome) => outcome,
             Answered::Failed(words) => panic!("the library itself: {words}"),
         };
-        let theirs = self.theirs.run(case);
-        let difference = compare(case, &ours, &theirs);
-        (ours, theirs, difference)
+        let theirs = self.theirs.run(&put.theirs);
+        let wanted = self.older.wanted(&put, ours.clone());
+        let difference = compare(&put.theirs, &wanted, &theirs);
+        Some(Both {
+            case: put.theirs,
+            ours,
+            wanted,
+            theirs,
+            difference,
+        })
     }
 }
 
@@ -92,67 +113,65 @@ impl Running<'_, '_> {
         if !self.options.calls.contains(&case.call) {
             return None;
         }
-        let (ours, theirs, difference) = self.pair.run(case);
+        let both = self.pair.run(case)?;
         self.report.cases += 1;
-        self.report.seen.note(case, &ours, aim);
-        if let Some(difference) = difference {
-            self.note(case, &ours, theirs, difference);
+        self.report.seen.note(case, &both.ours, aim);
+        let ours = both.ours.clone();
+        if both.difference.is_some() {
+            self.note(case, both);
         }
         (ours.answer == 0).then_some(ours)
     }
 
-    fn note(&mut self, case: &Case, ours: &Outcome, theirs: Answered, difference: Difference) {
-        let kind = &difference.kind;
-        let known = self.report.found.iter_mut();
-        if let Some(found) = known
-            .into_iter()
-            .find(|found| found.difference.kind == *kind)
-        {
-            found.count += 1;
+    fn note(&mut self, case: &Case, both: Both) {
+        let Some(found) = found(both, self.report.cases) else {
             return;
-        }
-        if self.kinds.contains(kind) || self.report.found.len() >= MOST_KINDS {
-            if !self.kinds.contains(kind) {
-                self.kinds.push(kind.clone());
-                self.report.more += 1;
-            }
-            return;
-        }
-        self.kinds.push(kind.clone());
-        let mut found = Found {
-            case: case.clone(),
-            ours: ours.clone(),
-            theirs,
-            difference,
-            count: 1,
-            first: self.report.cases,
         };
-        if self.options.shrinks {
-            self.make_smaller(&mut found);
+        let kind = found.difference.kind.clone();
+        let mut known = self.report.found.iter_mut();
+        if let Some(one) = known.find(|one| one.difference.kind == kind) {
+            one.count += 1;
+            return;
         }
+        if self.kinds.contains(&kind) {
+            return;
+        }
+        self.kinds.push(kind);
+        if self.report.found.len() >= MOST_KINDS {
+            self.report.more += 1;
+            return;
+        }
+        let found = match self.options.shrinks {
+            true => self.smaller(case, found),
+            false => found,
+        };
         self.report.found.push(found);
     }
 
-    fn make_smaller(&mut self, found: &mut Found) {
-        let kind = found.difference.kind.clone();
+    /// The difference of the smallest case of its kind.
+    fn smaller(&mut self, case: &Case, large: Found) -> Found {
+        let kind = &large.difference.kind;
         let pair = &mut *self.pair;
         let mut keeps = |candidate: &Case| {
-            let (_, _, difference) = pair.run(candidate);
-            difference.is_some_and(|difference| difference.kind == kind)
+            let difference = pair.run(candidate).and_then(|both| both.difference);
+            difference.is_some_and(|difference| difference.kind == *kind)
         };
-        let small = shrink(&found.case, &mut keeps);
-        let (ours, theirs, difference) = self.pair.run(&small);
-        if let Some(difference) = difference {
-            *found = Found {
-                case: small,
-                ours,
-                theirs,
-                difference,
-                count: found.count,
-                first: found.first,
-            };
-        }
+        let small = shrink(case, &mut keeps);
+        let both = self.pair.run(&small);
+        both.and_then(|both| found(both, large.first)).unwrap_or(large)
     }
+}
+
+/// The difference between what both made of a case.
+fn found(both: Both, first: u64) -> Option<Found> {
+    Some(Found {
+        difference: both.difference?,
+        case: both.case,
+        ours: both.wanted,
+        theirs: both.theirs,
+        count: 1,
+        first,
+    })
 }
 
 /// Runs cases until their number or the time is reached; `told` hears how far it is.

@@ -33,6 +33,8 @@ pub struct Section {
     pub refusals: Vec<Line>,
     pub codes: Vec<Line>,
     pub situations: Vec<Line>,
+    /// Refusals that hold together.
+    pub pairs: Vec<Line>,
 }
 
 impl Seen {
@@ -68,7 +70,8 @@ impl Seen {
         self.aims.get(&(aim, holds)).copied().unwrap_or(0)
     }
 
-    fn situations(&self, call: usize) -> Vec<Line> {
+    /// The situations of a call, and its pairs of refusals.
+    fn situations(&self, call: usize) -> (Vec<Line>, Vec<Line>) {
         let mut lines = Vec::new();
         let mut pairs = Vec::new();
         for aim in aims::of_call(call) {
@@ -101,8 +104,7 @@ impl Seen {
                 }
             }
         }
-        lines.extend(pairs);
-        lines
+        (lines, pairs)
     }
 
     /// The table, by call.
@@ -126,11 +128,13 @@ impl Seen {
                 Some(_) => CODES.iter().map(code).collect(),
                 None => Vec::new(),
             };
+            let (situations, pairs) = self.situations(call);
             Section {
                 call: spec.name,
                 refusals,
                 codes,
-                situations: self.situations(call),
+                situations,
+                pairs,
             }
         };
         calls.iter().map(section).collect()
@@ -153,7 +157,8 @@ impl Seen {
         let mut missing = Vec::new();
         for section in self.table(calls) {
             let lines = section.refusals.iter().chain(&section.codes);
-            for line in lines.chain(&section.situations) {
+            let lines = lines.chain(&section.situations).chain(&section.pairs);
+            for line in lines {
                 if line.count == 0 {
                     missing.push(format!("{}: {}", section.call, line.name));
                 }

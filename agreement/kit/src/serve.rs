@@ -2,7 +2,7 @@
 
 use std::ffi::OsString;
 
-use crate::calls::CALLS;
+use crate::calls::{CALLS, OWN};
 use crate::frame;
 use crate::lent::Memory;
 use crate::protocol::names;
@@ -49,7 +49,7 @@ pub fn serve(library: &OsString, prefix: &str) {
     let named = |call: &crate::calls::Call| library.function(&format!("{prefix}{}", call.name));
     let functions: Vec<Option<*const ()>> = CALLS.iter().map(named).collect();
     let has = |call: &usize| functions[*call].is_some();
-    let calls: Vec<usize> = (0..CALLS.len()).filter(has).collect();
+    let calls: Vec<usize> = (0..OWN).filter(has).collect();
     let line = format!("calls {}\n", names(&calls).join(" "));
     if !say(output, line.as_bytes()) {
         return;

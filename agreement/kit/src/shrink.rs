@@ -1,6 +1,7 @@
 //! A case made smaller as long as the two engines part in the same way: details, rows, codes, lines and keys left out, buffers
 //! emptied, then fields made blank or as simple as they can be.
 
+use std::ops::Range;
 use std::time::{Duration, Instant};
 
 use generator::records::{totals, Record, RECORD};
@@ -14,6 +15,9 @@ use crate::text::record_width;
 
 const SPACE: u8 = 0x40;
 const ZERO: u8 = 0xF0;
+/// How long a case is made smaller, and of how many records any two are tried.
+const MOST_TIME: Duration = Duration::from_secs(6);
+const FEW: usize = 8;
 /// A fresh row is sound, and nothing in it can be left out.
 const ROW: usize = 200;
 
@@ -76,7 +80,7 @@ pub fn shrink(case: &Case, keeps: &mut dyn FnMut(&Case) -> bool) -> Case {
         keeps,
         case: case.clone(),
         tries: 0,
-        end: Instant::now() + Duration::from_secs(20),
+        end: Instant::now() + MOST_TIME,
     };
     for _ in 0..6 {
         let before = shrinker.case.clone();
@@ -169,6 +173,26 @@ impl Shrinker<'_> {
                 }
                 step /= 2;
             }
+            self.leave_out_pairs(at, name, content);
+        }
+    }
+
+    /// Any two of few records, one before the other.
+    fn leave_out_pairs(&mut self, at: usize, name: &str, content: Content) {
+        let mut first = 0;
+        while first < self.records(at, name, content) && self.records(at, name, content) <= FEW {
+            let mut second = first + 1;
+            let mut left_out = false;
+            while second < self.records(at, name, content) && !left_out && !self.is_over() {
+                let gone = self.gone(&self.case, at, name, content, second..second + 1);
+                let gone = self.gone(&gone, at, name, content, first..first + 1);
+                left_out = self.take_mended(gone, at, content);
+                second += 1;
+            }
+            first += usize::from(!left_out);
+            if self.is_over() {
+                return;
+            }
         }
     }
 
@@ -194,21 +218,34 @@ impl Shrinker<'_> {
         from: usize,
         until: usize,
     ) -> bool {
+        let candidate = self.gone(&self.case, at, name, content, from..until);
+        self.take_mended(candidate, at, content)
+    }
+
+    /// A case without some of its records.
+    fn gone(
+        &self,
+        case: &Case,
+        at: usize,
+        name: &str,
+        content: Content,
+        records: Range<usize>,
+    ) -> Case {
         let width = record_width(content);
-        let mut candidate = self.case.clone();
+        let mut candidate = case.clone();
         if let Value::Bytes(bytes) = &mut candidate.values[at] {
-            bytes.drain(from * width..until * width);
+            bytes.drain(records.start * width..records.end * width);
         }
         if let Some(count) = counter(name) {
-            let left = candidate.count(count) - (until - from) as u64;
+            let left = candidate.count(count) - records.len() as u64;
             candidate.set_count(count, left);
             if candidate.call().name == "take_back" {
-                for place in (from..until).rev() {
+                for place in records.rev() {
                     forget_place(candidate.bytes_mut("journal"), place as u64);
                 }
             }
         }
-        self.take_mended(candidate, at, content)
+        candidate
     }
 
     /// Outputs and what stands behind rows to zeros and to their least length, numbers to 0.

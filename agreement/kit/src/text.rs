@@ -11,7 +11,7 @@ const SPACE: u8 = 0x40;
 #[derive(Clone, Debug)]
 pub struct Fixed {
     pub name: String,
-    pub sentence: String,
+    pub sentences: Vec<String>,
     pub case: Case,
     pub wanted: Outcome,
 }
@@ -135,8 +135,8 @@ fn argument_text(argument: &Argument, bytes: &[u8]) -> String {
 pub fn written(fixed: &Fixed) -> String {
     let case = &fixed.case;
     let mut text = format!("case {}\n", fixed.name);
-    if !fixed.sentence.is_empty() {
-        text += &format!("sentence {}\n", fixed.sentence);
+    for sentence in &fixed.sentences {
+        text += &format!("sentence {sentence}\n");
     }
     text += &format!("call {}\n", case.call().name);
     for (argument, value) in case.call().arguments.iter().zip(&case.values) {
@@ -273,7 +273,12 @@ fn value_in(lines: &mut Lines, argument: &Argument, text: &str) -> Result<Value,
 }
 
 /// The arguments of a call, up to its answer, and what is left, up to the end.
-fn body(lines: &mut Lines, name: String, sentence: String, call: &str) -> Result<Fixed, String> {
+fn body(
+    lines: &mut Lines,
+    name: String,
+    sentences: Vec<String>,
+    call: &str,
+) -> Result<Fixed, String> {
     let Some(call) = named(call) else {
         return lines.wrong("no such call");
     };
@@ -299,7 +304,7 @@ fn body(lines: &mut Lines, name: String, sentence: String, call: &str) -> Result
             let wanted = Outcome { answer, left };
             return Ok(Fixed {
                 name,
-                sentence,
+                sentences,
                 case,
                 wanted,
             });
@@ -327,18 +332,18 @@ pub fn read(text: &str) -> Result<Vec<Fixed>, String> {
         let Some(name) = line.strip_prefix("case ") else {
             return lines.wrong("`case` is wanted here");
         };
-        let mut sentence = String::new();
+        let mut sentences = Vec::new();
         let call = loop {
             let line = lines.next().unwrap_or_default();
             if let Some(words) = line.strip_prefix("sentence ") {
-                sentence = words.to_string();
+                sentences.push(words.to_string());
             } else if let Some(call) = line.strip_prefix("call ") {
                 break call;
             } else if !line.starts_with("note ") {
                 return lines.wrong("`call` is wanted here");
             }
         };
-        cases.push(body(&mut lines, name.to_string(), sentence, call)?);
+        cases.push(body(&mut lines, name.to_string(), sentences, call)?);
     }
     Ok(cases)
 }

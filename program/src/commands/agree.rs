@@ -6,8 +6,9 @@ use std::io::{self, Write};
 use std::path::{Path, PathBuf};
 use std::time::{Duration, SystemTime, UNIX_EPOCH};
 
-use agreement::calls::{named, CALLS};
+use agreement::calls::{named, CALLS, OWN};
 use agreement::engine::{Engine, Linked, Remote};
+use agreement::older::Older;
 use agreement::protocol::names;
 use agreement::run::{run as run_cases, Found, Options, Pair, Report};
 use agreement::seen::{Line, Section};
@@ -67,7 +68,7 @@ fn asked(arguments: &Arguments) -> Result<Asked, Failure> {
 
 fn calls_asked(arguments: &Arguments) -> Result<Vec<usize>, Failure> {
     let Some(list) = arguments.value("--calls") else {
-        return Ok((0..CALLS.len()).collect());
+        return Ok((0..OWN).collect());
     };
     let list = list.to_string_lossy();
     list.split(',')
@@ -131,6 +132,9 @@ pub fn run(arguments: &Arguments, progress: &Progress) -> Result<Status, Failure
     let mut pair = Pair {
         ours: &mut ours,
         theirs: &mut other,
+        older: Older {
+            request: asked.request,
+        },
     };
     let options = Options {
         calls: calls.clone(),
@@ -138,7 +142,6 @@ pub fn run(arguments: &Arguments, progress: &Progress) -> Result<Status, Failure
         time: USUAL_TIME,
         seed: asked.seed,
         shrinks: true,
-        request: asked.request,
         limits: arguments.flag("--limits"),
     };
     let mut tell = |cases: u64, kinds: usize| {
@@ -231,7 +234,7 @@ fn save(arguments: &Arguments, found: &[Found]) -> Result<(), Failure> {
         let name = format!("{:02}-{}-{kind}", at + 1, one.case.call().name);
         let fixed = Fixed {
             name: name.clone(),
-            sentence: String::new(),
+            sentences: Vec::new(),
             case: one.case.clone(),
             wanted: one.ours.clone(),
         };
@@ -312,7 +315,7 @@ fn put_table<W: Write>(screen: &mut Screen<W>, done: &Done) -> io::Result<()> {
         screen.plain(section.call)?;
         put_counts(screen, &section.refusals)?;
         put_counts(screen, &section.codes)?;
-        for line in &section.situations {
+        for line in section.situations.iter().chain(&pairs_line(section)) {
             screen.plain(&format!("  {:<58}{:>10}", line.name, grouped(line.count)))?;
         }
     }
@@ -323,6 +326,16 @@ fn put_table<W: Write>(screen: &mut Screen<W>, done: &Done) -> io::Result<()> {
         screen.line(Style::Warning, &format!("not seen: {name}"))?;
     }
     Ok(())
+}
+
+/// The pairs of refusals in one line: how many of them were seen together, and how often in all.
+fn pairs_line(section: &Section) -> Option<Line> {
+    let seen = section.pairs.iter().filter(|pair| pair.count > 0).count();
+    let all = section.pairs.len();
+    (all > 0).then(|| Line {
+        name: format!("two refusals together: {seen} of {all} pairs"),
+        count: section.pairs.iter().map(|pair| pair.count).sum(),
+    })
 }
 
 /// The table, where cases were made.
@@ -366,7 +379,8 @@ fn put_json<W: Write>(json: &mut Json<W>, done: &Done) -> io::Result<()> {
         json.name(section.call)?;
         json.begin_object()?;
         let lines = section.refusals.iter().chain(&section.codes);
-        for line in lines.chain(&section.situations) {
+        let lines = lines.chain(&section.situations).chain(&section.pairs);
+        for line in lines {
             json.number_of(&line.name, line.count)?;
         }
         json.end_object()?;

@@ -2,8 +2,9 @@
 //! `fantanolive agree` and the fixed cases find each.
 //!
 //!     faults PROGRAM [LABEL..]
+//!     faults --build LABEL LIBRARY
 //!
-//! Without labels all are planted. PROGRAM is the program fantanolive. For each fault a line: its label, how long `agree` took to
+//! Without labels all are planted; --build leaves the library with one fault. PROGRAM is the program fantanolive. For each fault a line: its label, how long `agree` took to
 //! find and shrink it, the details and rows of the largest difference told, and how many fixed cases find it.
 
 mod edit;
@@ -195,14 +196,31 @@ fn all(program: &Path, labels: &[String]) -> Result<bool, String> {
     Ok(good == edits.len() && 100 * by_cases >= BY_CASES * edits.len())
 }
 
+/// Builds the library with one fault.
+fn leave(label: &str, library: &Path) -> Result<bool, String> {
+    let edits = edit::read(&root().join("agreement/faults"))?;
+    let edit = edits.iter().find(|edit| edit.label == label);
+    let edit = edit.ok_or("no fault of such a label")?;
+    let work = env::temp_dir().join(format!("faults-{}", std::process::id()));
+    fs::create_dir_all(&work).map_err(|error| error.to_string())?;
+    let built = build(edit, &work)?;
+    fs::copy(built, library).map_err(|error| error.to_string())?;
+    let _ = fs::remove_dir_all(&work);
+    Ok(true)
+}
+
 fn main() -> ExitCode {
     let mut arguments = env::args().skip(1);
     let Some(program) = arguments.next() else {
-        eprintln!("usage: faults PROGRAM [LABEL..]");
+        eprintln!("usage: faults PROGRAM [LABEL..] | faults --build LABEL LIBRARY");
         return ExitCode::from(2);
     };
     let labels: Vec<String> = arguments.collect();
-    match all(Path::new(&program), &labels) {
+    let done = match (program.as_str(), &labels[..]) {
+        ("--build", [label, library]) => leave(label, Path::new(library)),
+        _ => all(Path::new(&program), &labels),
+    };
+    match done {
         Ok(true) => ExitCode::SUCCESS,
         Ok(false) => ExitCode::FAILURE,
         Err(message) => {
