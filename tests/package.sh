@@ -66,7 +66,9 @@ expected() {
     printf '%s\n' '644 lib/libfantanolive.a' "$soname lib/libfantanolive.so" "libfantanolive.so.$version lib/$soname" "755 lib/libfantanolive.so.$version"
     printf '644 lib/cmake/fantanolive/%s.cmake\n' fantanolive-config-version fantanolive-config
     printf '644 lib/pkgconfig/%s.pc\n' fantanolive-static fantanolive
-    printf '644 share/doc/fantanolive/%s\n' CHANGELOG.md MANUAL.md
+    printf '644 share/doc/fantanolive/%s\n' CHANGELOG.md MANUAL.md agreement/README.md agreement/no-case.txt
+    printf '755 share/doc/fantanolive/agreement/%s\n' example.py run.py
+    for file in agreement/cases/*.txt; do echo "644 share/doc/fantanolive/$file"; done
     for file in examples/c/*.c examples/cobol/*.cob bindings/python/examples/*.py bindings/rust/examples/judge.rs bindings/java/examples/*.java; do echo "644 share/doc/fantanolive/examples/${file##*/}"; done
     for file in examples/dask/*; do echo "644 share/doc/fantanolive/examples/dask/${file##*/}"; done
     echo '644 share/fantanolive/layouts.json'
@@ -117,7 +119,7 @@ want 'uninstall twice' "$? $(cat "$work/err")" "2 install: there is no package i
 want 'a prefix that is empty then' "$([ -e "$work/relative prefix" ] && echo there)" ''
 
 mkdir "$work/unbuilt"
-cp -r bin bindings docs examples include package CHANGELOG.md "$work/unbuilt"
+cp -r agreement bin bindings docs examples include package CHANGELOG.md "$work/unbuilt"
 "$work/unbuilt/bin/install" "$work/nothing" >"$work/out" 2>"$work/err"
 want 'status of install before anything is built' "$?" 2
 want 'what it says' "$(sed 's/ is not built: .*//' "$work/err" | tr '\n' ' ')" \
@@ -236,6 +238,8 @@ module="import fantanolive; print(fantanolive.__version__, fantanolive.to_ebcdic
 if python3 -c 'import sys; sys.exit(sys.version_info < (3, 8))' 2>/dev/null; then
     said=$(cd / && PYTHONPATH="$prefix/share/fantanolive/python" python3 -c "$module" 2>&1)
     want 'the Python module' "$said" "$version d6c8 $prefix/lib/$soname"
+    said=$(cd / && python3 "$prefix/share/doc/fantanolive/agreement/run.py" "$prefix/lib/$soname" | tail -1 | sed 's/^[0-9]* //')
+    want 'the cases where they are installed' "$said" 'cases, 0 differ, 0 left out'
 else
     echo 'skipped: there is no Python 3.8 or later'
 fi

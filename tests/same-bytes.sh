@@ -15,7 +15,7 @@ work=$(mktemp -d) || exit 2
 trap 'rm -rf -- "$work"' EXIT
 other=$work/another/folder
 mkdir -p "$other/program" "$other/target/staticlib" || exit 2
-cp -r bin bindings docs examples include package CHANGELOG.md README.md "$other"
+cp -r agreement bin bindings docs examples include package CHANGELOG.md README.md "$other"
 cp -r program/src "$other/program"
 cp target/staticlib/libfantanolive.a "$other/target/staticlib"
 failed=

@@ -8,7 +8,7 @@ use generator::rows::ROW;
 use generator::text::{digits, number, put, put_text, EDGES, SPACE};
 use generator::world::World;
 
-use crate::breaks::{break_by, near_date, row_count, touch_contact, wide_amounts};
+use crate::breaks::{break_by, near_date, near_room, row_count, touch_contact, wide_amounts};
 use crate::calls::CALLS;
 use crate::case::Case;
 use crate::details::RULES;
@@ -42,6 +42,7 @@ pub const SITUATIONS: &[Situation] = &[
     of("apply", "years around the first and the last", near_year),
     of("apply", "totals of neither case type and of S", odd_totals),
     of("apply", "a last record that is a detail", last_detail),
+    of("apply", "room for A records of any kind", near_room),
     of(
         "apply_journaled",
         "rows on both sides of being sound",

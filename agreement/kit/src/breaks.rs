@@ -22,7 +22,7 @@ pub fn break_by(rng: &mut Rng, case: &mut Case, refusal: u64) {
         3 => break_master(rng, case),
         4 => break_row(rng, case),
         5 | 6 | 7 | 8 | 20 | 21 => break_batch(rng, case, refusal),
-        9 => break_room(case),
+        9 => break_room(rng, case),
         10 => shorten(rng, case, "verdicts", 8),
         11 => break_output(rng, case),
         12 => break_state(rng, case),
@@ -211,25 +211,57 @@ fn break_length(rng: &mut Rng, bytes: &mut Vec<u8>) {
     }
 }
 
-/// Room for one row too few.
-fn break_room(case: &mut Case) {
+/// How many A records of a batch have the key of no row.
+fn new_rows(case: &Case) -> usize {
     let rows = row_count(case);
-    let keys: Vec<&[u8]> = case
-        .bytes("master")
-        .chunks(ROW)
-        .take(rows)
-        .map(|row| &row[..12])
-        .collect();
+    let master = case.bytes("master");
+    let keys: Vec<&[u8]> = master.chunks(ROW).take(rows).map(|row| &row[..12]).collect();
     let is_new = |record: &&[u8]| {
         let key = [&record[..2], &record[5..14], &record[73..74]].concat();
         record[72] == 0xC1 && !keys.contains(&&key[..])
     };
     let details = (case.bytes("batch").len() / RECORD).saturating_sub(1);
     let records = case.bytes("batch").chunks_exact(RECORD).take(details);
-    let new = records.filter(is_new).count();
+    records.filter(is_new).count()
+}
+
+/// Room for one row too few.
+fn break_room(rng: &mut Rng, case: &mut Case) {
+    if rng.percent(50) {
+        spoil_adds(rng, case);
+    }
+    let (rows, new) = (row_count(case), new_rows(case));
     if new > 0 {
         case.bytes_mut("master").truncate((rows + new - 1) * ROW);
     }
+}
+
+/// A records with errors, which ask for room all the same.
+fn spoil_adds(rng: &mut Rng, case: &mut Case) {
+    let batch = case.bytes_mut("batch");
+    let details = (batch.len() / RECORD).saturating_sub(1);
+    for record in batch.chunks_exact_mut(RECORD).take(details) {
+        if record[72] != 0xC1 || rng.percent(30) {
+            continue;
+        }
+        match rng.below(6) {
+            0 => put_text(record, 65, "00000024"),
+            1 => record[230] = 0xF0,
+            2 => put_text(record, 6, "000000000"),
+            3 => put_text(record, 1, "ZZ"),
+            4 => record[73] = 0xE7,
+            _ => put_text(record, 30, "    "),
+        }
+    }
+    crate::shrink::mend_totals(batch);
+}
+
+/// A records of any kind, with just the room that they ask for or a row less.
+pub fn near_room(rng: &mut Rng, case: &mut Case) {
+    spoil_adds(rng, case);
+    let needed = row_count(case) + new_rows(case);
+    let room = needed - usize::from(rng.percent(50) && new_rows(case) > 0);
+    case.bytes_mut("master").resize(room * ROW, 0xA5);
 }
 
 /// An output of one byte too few.
@@ -560,7 +592,7 @@ fn break_merging(rng: &mut Rng, case: &mut Case) {
 
 /// Batches with sums just above or just within eleven digits.
 pub fn wide_amounts(rng: &mut Rng, case: &mut Case) {
-    let count = rng.pick(&[500, 501]);
+    let count = rng.pick(&[500, 501, 501, 501]);
     let case_type = rng.pick(&[0xC1, 0xD5]);
     let mut detail = [0x40; RECORD];
     put_text(&mut detail, 1, "OH");
@@ -569,7 +601,7 @@ pub fn wide_amounts(rng: &mut Rng, case: &mut Case) {
     put(&mut detail, 65, &[0xF9; 8]);
     // 1,000 such amounts are 99,999,999,000; what is missing to eleven digits is 999
     let mut last = detail;
-    put(&mut last, 65, &digits(rng.pick(&[999, 1000, 1001, 0]), 8));
+    put(&mut last, 65, &digits(rng.pick(&[999, 1000, 1000, 1001]), 8));
     for name in ["first", "second"] {
         let mut details = vec![detail; if name == "first" { 500 } else { count - 1 }];
         details.push(last);

@@ -12,6 +12,7 @@ use crate::calls::OWN;
 use crate::case::{Answered, Case};
 use crate::frame;
 use crate::lent::{Memory, Side};
+use crate::limits;
 use crate::protocol;
 use crate::serve;
 use crate::system;
@@ -19,6 +20,9 @@ use crate::system;
 pub trait Engine {
     fn has(&self, call: usize) -> bool;
     fn run(&mut self, case: &Case) -> Answered;
+
+    /// One of the limits, by its place; none where the engine can't be lent so much. Err says why it came to no answer.
+    fn run_limit(&mut self, place: usize) -> Option<Result<limits::Outcome, String>>;
 }
 
 /// Both sides in turn.
@@ -64,7 +68,16 @@ impl Engine for Linked {
             Err(name) => Answered::Failed(frame::outside(name)),
         }
     }
+
+    fn run_limit(&mut self, place: usize) -> Option<Result<limits::Outcome, String>> {
+        let limit = &limits::limits()[place];
+        // SAFETY: what `new` asks for.
+        Some(Ok(unsafe { limits::run(self.functions[limit.call], limit) }))
+    }
 }
+
+/// How long an engine may take for a limit.
+const LIMIT_TIME: Duration = Duration::from_secs(600);
 
 /// How a process is spoken to.
 enum Speech {
@@ -239,6 +252,23 @@ impl Engine for Remote {
             }
             Err(words) => Answered::Failed(words),
         }
+    }
+
+    fn run_limit(&mut self, place: usize) -> Option<Result<limits::Outcome, String>> {
+        if matches!(self.speech, Speech::Lines) {
+            return None;
+        }
+        // a process of its own, which gives the memory back
+        let answered = self.spawn().and_then(|mut process| {
+            self.ask_calls(&mut process)?;
+            let deadline = Instant::now() + LIMIT_TIME;
+            let sent = system::write_until(process.input, &frame::of_limit(place), deadline);
+            sent.map_err(|error| process.words(&error))?;
+            let bytes = process.frame(deadline).map_err(|error| process.words(&error))?;
+            let outcome = frame::limit_outcome_in(&bytes);
+            outcome.ok_or_else(|| "it answered bytes of another form".to_string())
+        });
+        Some(answered)
     }
 }
 

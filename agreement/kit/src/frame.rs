@@ -3,6 +3,7 @@
 use crate::calls::CALLS;
 use crate::case::{Answered, Case, Outcome, Value};
 use crate::lent::Side;
+use crate::limits;
 
 /// A case is not carried out by mistake where bytes are lost: each frame begins with its length.
 pub const LENGTH: usize = 8;
@@ -28,6 +29,46 @@ fn with_length(frame: Vec<u8>) -> Vec<u8> {
     let mut whole = (frame.len() as u64).to_le_bytes().to_vec();
     whole.extend(frame);
     whole
+}
+
+/// What stands in the place of a call's number in the frame of a limit.
+const OF_LIMIT: u64 = u64::MAX;
+
+/// One of the limits, by its place in their list.
+pub fn of_limit(place: usize) -> Vec<u8> {
+    let mut frame = Vec::new();
+    put(&mut frame, OF_LIMIT);
+    put(&mut frame, place as u64);
+    with_length(frame)
+}
+
+/// The place of a limit, where the frame is that of one.
+pub fn limit_in(mut bytes: &[u8]) -> Option<usize> {
+    let rest = &mut bytes;
+    (take(rest)? == OF_LIMIT).then(|| take(rest))?.map(|place| place as usize)
+}
+
+pub fn of_limit_outcome(outcome: &limits::Outcome) -> Vec<u8> {
+    let mut frame = Vec::new();
+    put(&mut frame, outcome.answer);
+    put(&mut frame, outcome.numbers.len() as u64);
+    outcome.numbers.iter().for_each(|&number| put(&mut frame, number));
+    frame.extend(outcome.changed.join(",").bytes());
+    with_length(frame)
+}
+
+pub fn limit_outcome_in(mut bytes: &[u8]) -> Option<limits::Outcome> {
+    let rest = &mut bytes;
+    let answer = take(rest)?;
+    let count = take(rest)?;
+    let numbers = (0..count).map(|_| take(rest)).collect::<Option<_>>()?;
+    let changed = String::from_utf8_lossy(rest).into_owned();
+    let changed = changed.split(',').filter(|name| !name.is_empty());
+    Some(limits::Outcome {
+        answer,
+        numbers,
+        changed: changed.map(str::to_string).collect(),
+    })
 }
 
 pub fn of_case(case: &Case, side: Side) -> Vec<u8> {

@@ -14,6 +14,7 @@ pub mod explain;
 pub mod fields;
 mod frame;
 mod lent;
+pub mod limits;
 pub mod older;
 pub mod protocol;
 pub mod random;

@@ -17,6 +17,9 @@ pub fn replay(pair: &mut Pair, options: &Options, cases: &[Fixed]) -> Report {
         more: 0,
         seen: Seen::default(),
         is_replay: true,
+        given_up: Vec::new(),
+        limits: 0,
+        beyond: Vec::new(),
     };
     for fixed in cases
         .iter()

@@ -1,5 +1,6 @@
 //! A whole run: cases of every kind on both engines, what they part in, and what was seen.
 
+use std::collections::BTreeMap;
 use std::time::{Duration, Instant};
 
 use generator::rng::{mix, Rng};
@@ -10,6 +11,7 @@ use crate::case::{Answered, Case, Outcome};
 use crate::chains::CHAINS;
 use crate::compare::{compare, Difference, Kind};
 use crate::engine::Engine;
+use crate::limits;
 use crate::older::Older;
 use crate::random;
 use crate::seen::Seen;
@@ -17,6 +19,9 @@ use crate::shrink::shrink;
 
 /// The most kinds of differences that are told.
 pub const MOST_KINDS: usize = 10;
+/// How often, and how long in all, an engine may come to no answer in a call.
+const MOST_FAILURES: u32 = 50;
+const MOST_FAILING: Duration = Duration::from_secs(15);
 
 pub struct Options {
     /// The calls to be tried, by their places in `CALLS`.
@@ -51,6 +56,11 @@ pub struct Report {
     pub seen: Seen,
     /// Whether the cases came from files.
     pub is_replay: bool,
+    /// Calls that were left out after so many failures of the other engine.
+    pub given_up: Vec<usize>,
+    /// How many of the limits were tried, and those in which the engines part, in words.
+    pub limits: usize,
+    pub beyond: Vec<String>,
 }
 
 /// Whether all calls of these names are among those given.
@@ -105,22 +115,39 @@ struct Running<'a, 'b> {
     report: Report,
     /// All kinds met, those that aren't told too.
     kinds: Vec<Kind>,
+    /// How often, and how long, the other engine came to no answer, by call.
+    failures: BTreeMap<usize, (u32, Duration)>,
 }
 
 impl Running<'_, '_> {
     /// One case on both; answers what ours left where it was carried out.
     fn one(&mut self, case: &Case, aim: Option<&Aim>) -> Option<Outcome> {
-        if !self.options.calls.contains(&case.call) {
+        let calls = &self.options.calls;
+        if !calls.contains(&case.call) || self.report.given_up.contains(&case.call) {
             return None;
         }
+        let start = Instant::now();
         let both = self.pair.run(case)?;
         self.report.cases += 1;
+        if matches!(both.theirs, Answered::Failed(_)) {
+            self.note_failure(case.call, start.elapsed());
+        }
         self.report.seen.note(case, &both.ours, aim);
         let ours = both.ours.clone();
         if both.difference.is_some() {
             self.note(case, both);
         }
         (ours.answer == 0).then_some(ours)
+    }
+
+    /// A call that fails over and over, or takes long to do so, is left out from then on.
+    fn note_failure(&mut self, call: usize, took: Duration) {
+        let (count, time) = self.failures.entry(call).or_default();
+        *count += 1;
+        *time += took;
+        if *count >= MOST_FAILURES || *time >= MOST_FAILING {
+            self.report.given_up.push(call);
+        }
     }
 
     fn note(&mut self, case: &Case, both: Both) {
@@ -152,13 +179,34 @@ impl Running<'_, '_> {
     fn smaller(&mut self, case: &Case, large: Found) -> Found {
         let kind = &large.difference.kind;
         let pair = &mut *self.pair;
+        // blanks that bring about other codes make nothing simpler
+        let mut most = codes(&large.case, &large.ours);
         let mut keeps = |candidate: &Case| {
-            let difference = pair.run(candidate).and_then(|both| both.difference);
-            difference.is_some_and(|difference| difference.kind == *kind)
+            let Some(both) = pair.run(candidate) else {
+                return false;
+            };
+            let count = codes(&both.case, &both.wanted);
+            let is_same = both.difference.is_some_and(|difference| difference.kind == *kind);
+            if is_same && count <= most {
+                most = count;
+            }
+            is_same && count == most
         };
         let small = shrink(case, &mut keeps);
         let both = self.pair.run(&small);
         both.and_then(|both| found(both, large.first)).unwrap_or(large)
+    }
+}
+
+/// How many codes the details of a case got.
+fn codes(case: &Case, ours: &Outcome) -> u32 {
+    match ours.answer == 0 && case.has("verdicts") {
+        true => {
+            let details = case.bytes("batch").len() / 245 - 1;
+            let verdicts = ours.numbers(case, "verdicts").into_iter().take(details);
+            verdicts.map(u64::count_ones).sum()
+        }
+        false => 0,
     }
 }
 
@@ -193,11 +241,19 @@ pub fn run(pair: &mut Pair, options: &Options, told: &mut dyn FnMut(u64, usize))
             more: 0,
             seen: Seen::default(),
             is_replay: false,
+            given_up: Vec::new(),
+            limits: 0,
+            beyond: Vec::new(),
         },
         kinds: Vec::new(),
+        failures: BTreeMap::new(),
     };
     let mut turn = 0;
     while !others.is_empty() {
+        let goes_on = |call: &usize| !running.report.given_up.contains(call);
+        if !options.calls.iter().any(goes_on) {
+            break;
+        }
         let is_enough = match options.cases {
             Some(cases) => running.report.cases >= cases,
             None => start.elapsed() >= options.time,
@@ -212,8 +268,39 @@ pub fn run(pair: &mut Pair, options: &Options, told: &mut dyn FnMut(u64, usize))
             told(running.report.cases, running.report.found.len());
         }
     }
+    if options.limits {
+        try_limits(&mut running, told);
+    }
     running.report.seconds = start.elapsed().as_secs_f64();
     running.report
+}
+
+/// The limits in full, each once.
+fn try_limits(running: &mut Running, told: &mut dyn FnMut(u64, usize)) {
+    for (place, limit) in limits::limits().iter().enumerate() {
+        if !running.options.calls.contains(&limit.call) {
+            continue;
+        }
+        told(running.report.cases, running.report.found.len());
+        let (Some(Ok(ours)), Some(theirs)) = (
+            running.pair.ours.run_limit(place),
+            running.pair.theirs.run_limit(place),
+        ) else {
+            continue;
+        };
+        running.report.cases += 1;
+        running.report.limits += 1;
+        let name = format!("{}, {}", CALLS[limit.call].name, limit.name);
+        let words = match theirs {
+            Err(words) => words,
+            Ok(theirs) if theirs == ours => continue,
+            Ok(theirs) if theirs.answer != ours.answer => {
+                format!("ours answers {}, the other {}", ours.answer, theirs.answer)
+            }
+            Ok(theirs) => format!("ours leaves {ours:?}, the other {theirs:?}"),
+        };
+        running.report.beyond.push(format!("{name}: {words}"));
+    }
 }
 
 /// Aims by turns; every tenth turn a chain, every eighth a random case.

@@ -5,6 +5,7 @@ use std::ffi::OsString;
 use crate::calls::{CALLS, OWN};
 use crate::frame;
 use crate::lent::Memory;
+use crate::limits::limits;
 use crate::protocol::names;
 use crate::system::{self, Library};
 
@@ -60,6 +61,18 @@ pub fn serve(library: &OsString, prefix: &str) {
         let Some(bytes) = exactly(length as usize) else {
             return;
         };
+        if let Some(place) = frame::limit_in(&bytes) {
+            let limit = &limits()[place];
+            let Some(function) = functions[limit.call] else {
+                return;
+            };
+            // SAFETY: as below.
+            let outcome = unsafe { crate::limits::run(function, limit) };
+            if !say(output, &frame::of_limit_outcome(&outcome)) {
+                return;
+            }
+            continue;
+        }
         let Some((case, side)) = frame::case_in(&bytes) else {
             return;
         };

@@ -94,6 +94,29 @@ pub fn shrink(case: &Case, keeps: &mut dyn FnMut(&Case) -> bool) -> Case {
     shrinker.case
 }
 
+/// A case with outputs as much shorter as so many records less ask for.
+fn fitted(case: &Case, name: &str, records: usize) -> Case {
+    let outputs: &[(&str, usize)] = match (case.call().name, name) {
+        ("apply" | "apply_journaled", "batch") => &[("verdicts", 8), ("rejects", 245), ("journal", 205)],
+        ("merge", _) => &[("out", 245)],
+        ("post", "file") => &[("lines", 4)],
+        ("contacts_update", "file") => &[("faulty", 4)],
+        ("find_many", "keys") => &[("places", 4)],
+        ("reconcile", "master") => &[("out", 245)],
+        ("pages", "master") => &[("out", 132)],
+        ("contacts_codes", "table") => &[("out", 3)],
+        _ => &[],
+    };
+    let mut fitted = case.clone();
+    for &(output, width) in outputs {
+        if fitted.has(output) {
+            let length = fitted.bytes(output).len().saturating_sub(width * records);
+            fitted.bytes_mut(output).truncate(length);
+        }
+    }
+    fitted
+}
+
 /// The number that goes with a buffer of records, if one does.
 fn counter(name: &str) -> Option<&'static str> {
     match name {
@@ -186,7 +209,8 @@ impl Shrinker<'_> {
             while second < self.records(at, name, content) && !left_out && !self.is_over() {
                 let gone = self.gone(&self.case, at, name, content, second..second + 1);
                 let gone = self.gone(&gone, at, name, content, first..first + 1);
-                left_out = self.take_mended(gone, at, content);
+                left_out = self.take_mended(fitted(&gone, name, 2), at, content)
+                    || self.take_mended(gone, at, content);
                 second += 1;
             }
             first += usize::from(!left_out);
@@ -219,7 +243,8 @@ impl Shrinker<'_> {
         until: usize,
     ) -> bool {
         let candidate = self.gone(&self.case, at, name, content, from..until);
-        self.take_mended(candidate, at, content)
+        let fitted = fitted(&candidate, name, until - from);
+        self.take_mended(fitted, at, content) || self.take_mended(candidate, at, content)
     }
 
     /// A case without some of its records.

@@ -146,7 +146,7 @@ pub fn run(arguments: &Arguments, progress: &Progress) -> Result<Status, Failure
     };
     let mut tell = |cases: u64, kinds: usize| {
         let kinds = counted(kinds as u64, "kind");
-        progress.now(format!("{} cases, {kinds} of differences", grouped(cases)));
+        progress.now(format!("{} cases, {kinds} of difference", grouped(cases)));
     };
     let report = match arguments.value("--replay") {
         None => run_cases(&mut pair, &options, &mut tell),
@@ -175,7 +175,7 @@ fn judged(
         false => report.seen.missing(&calls),
     };
     let status = match (
-        report.found.is_empty(),
+        report.found.is_empty() && report.beyond.is_empty(),
         missing.is_empty() || asked.cases.is_some(),
     ) {
         (false, _) => Status::Rejects,
@@ -264,11 +264,11 @@ fn put(arguments: &Arguments, done: &Done) -> io::Result<()> {
 /// The first line: whether they agree.
 fn verdict(done: &Done) -> String {
     let cases = counted(done.report.cases, "case");
-    match done.report.found.len() {
+    match done.report.found.len() + done.report.beyond.len() {
         0 if done.missing.is_empty() => format!("no difference in {cases}"),
         0 => format!("no difference in {cases}, but not everything was seen"),
         kinds => format!(
-            "they part: {} of differences in {cases}",
+            "they part: {} of difference in {cases}",
             counted(kinds as u64, "kind")
         ),
     }
@@ -284,6 +284,10 @@ fn put_text<W: Write>(screen: &mut Screen<W>, done: &Done) -> io::Result<()> {
     if !done.skipped.is_empty() {
         screen.plain(&format!("calls that it lacks: {}", done.skipped.join(", ")))?;
     }
+    if !report.given_up.is_empty() {
+        let calls = names(&report.given_up).join(", ");
+        screen.plain(&format!("calls left out after many failures: {calls}"))?;
+    }
     for (at, one) in report.found.iter().enumerate() {
         screen.plain("")?;
         let often = counted(one.count, "time");
@@ -296,6 +300,12 @@ fn put_text<W: Write>(screen: &mut Screen<W>, done: &Done) -> io::Result<()> {
         for line in report::lines(one) {
             screen.plain(&line)?;
         }
+    }
+    for line in &report.beyond {
+        screen.line(Style::Error, &format!("at a limit: {line}"))?;
+    }
+    if report.limits > 0 {
+        screen.plain(&format!("limits tried in full: {}", report.limits))?;
     }
     if report.more > 0 {
         screen.plain("")?;
@@ -366,6 +376,7 @@ fn put_json<W: Write>(json: &mut Json<W>, done: &Done) -> io::Result<()> {
     json.number_of("milliseconds", (done.report.seconds * 1000.0) as u64)?;
     json.number_of("seed", done.seed)?;
     put_names(json, "lacking", &done.skipped)?;
+    put_names(json, "given up", &names(&done.report.given_up))?;
     json.name("differences")?;
     json.begin_array()?;
     for one in &done.report.found {
@@ -373,6 +384,8 @@ fn put_json<W: Write>(json: &mut Json<W>, done: &Done) -> io::Result<()> {
     }
     json.end_array()?;
     json.number_of("more", done.report.more)?;
+    json.number_of("limits", done.report.limits as u64)?;
+    put_names(json, "beyond", &done.report.beyond)?;
     json.name("seen")?;
     json.begin_object()?;
     for section in report_table(done) {
