@@ -47,7 +47,7 @@ for folder in crates/*/; do
     name=${folder#crates/}
     test[${name%/}]=1
 done
-while read -r name; do test[$name]=1; done < <(for file in tests/rust/**/*.rs bindings/rust/**/*.rs; do
+while read -r name; do test[$name]=1; done < <(for file in tests/rust/**/*.rs bindings/rust/**/*.rs agreement/**/*.rs; do
     sed -nE 's/^ *(pub )?fn ([a-z0-9_]+).*/\2/p' "$file"
 done)
 
