@@ -53,6 +53,12 @@ impl Arguments {
         self.value(name).expect("parse asks for it")
     }
 
+    /// The state that --state gives; its letters may be lower case.
+    pub fn state(&self) -> Option<String> {
+        let given = self.value("--state")?;
+        Some(given.to_string_lossy().to_uppercase())
+    }
+
     pub fn flag(&self, name: &str) -> bool {
         self.value(name).is_some()
     }

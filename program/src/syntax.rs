@@ -709,6 +709,13 @@ converted: column 195 of a row is no character.",
         options: &[
             optional("--from", "N", "begin with record N, the first being 1"),
             optional("--count", "N", "print at most N records"),
+            optional("--fields", "A,..", "show these fields alone, in this order"),
+            optional("--where", "A=B,..", "show records whose field A is B"),
+            optional(
+                "--search",
+                "TEXT",
+                "show records with this name, SSN or case ID",
+            ),
             flag("--all", "go on behind a record that can't be of this KIND"),
             flag(
                 "--list",
@@ -722,8 +729,9 @@ converted: column 195 of a row is no character.",
         read: &[],
         made: &[],
         help: "\
-Prints a table: a line per record, a column per field, the names of the fields
-above. The last record of a batch, reject, reconciliation or collection file
+Prints a table: a line per record, a column per field, those that matter first,
+with short names above. Fields are named as `export` names them, letters in
+either case. The last record of a batch, reject, reconciliation or collection file
 stands below it, field by field. Fillers are left out; with --list and --json
 they are shown where they are not blank. A byte that is no character of the
 code page is shown as a full stop, in JSON as \\xNN.

@@ -1,7 +1,5 @@
 //! build: a batch from a CSV file, with its control record.
 
-use std::os::unix::ffi::OsStrExt;
-
 use fantanolive::{Refusal, RECORD};
 
 use crate::arguments::Arguments;
@@ -167,7 +165,7 @@ fn details_of(arguments: &Arguments, lines: &[Line]) -> Result<Vec<u8>, Failure>
 
 /// The state of the control record: the one that is given, or that of the first detail.
 fn state_of(arguments: &Arguments, details: &[u8]) -> Result<Vec<u8>, Failure> {
-    match arguments.value("--state") {
+    match arguments.state() {
         Some(state) if state.len() == 2 => Ok(argument(state.as_bytes())),
         Some(_) => Err(arguments.wrong("--state wants two letters")),
         None if details.is_empty() => {

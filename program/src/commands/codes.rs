@@ -1,7 +1,5 @@
 //! codes: the local codes of a state, as a list for apply.
 
-use std::os::unix::ffi::OsStrExt;
-
 use fantanolive::{Refusal, LOCAL_CODE};
 
 use crate::arguments::Arguments;
@@ -24,7 +22,7 @@ pub fn run(arguments: &Arguments, progress: &Progress) -> Result<Status, Failure
     let outputs = Outputs::open(arguments, &wanted)?;
     let table = read(arguments.path(0), &TABLE, Charset::Ebcdic, progress)?;
     let records = table.records();
-    let state = arguments.needed("--state");
+    let state = arguments.state().unwrap_or_default();
     let mut out = vec![0; LOCAL_CODE * records];
     progress.now("writing the codes of the state");
     let codes =
@@ -41,7 +39,7 @@ pub fn run(arguments: &Arguments, progress: &Progress) -> Result<Status, Failure
     let staged = vec![outputs.stage_records("--out", progress, &out, LOCAL_CODE)?];
     let placed = outputs.put_in_place(staged)?;
     let summary = Summary::new("codes", Status::Done)
-        .text("state", state.to_string_lossy())
+        .text("state", state)
         .number("records", records as u64)
         .number("codes", codes)
         .placed(placed);

@@ -1,7 +1,5 @@
 //! compare: a reconciliation file that was received against the one that a master gives.
 
-use std::os::unix::ffi::OsStrExt;
-
 use fantanolive::{find, find_many, Refusal, NO_PLACE, RECORD};
 
 use crate::arguments::Arguments;
@@ -120,7 +118,7 @@ fn reconciled(
     let rows = master.records();
     let mut out = zeros(RECORD * (rows + 1))?;
     progress.now("writing the records of the state");
-    let state = argument(arguments.needed("--state").as_bytes());
+    let state = argument(arguments.state().unwrap_or_default().as_bytes());
     let records = fantanolive::reconcile(&master.bytes, rows, &state, &argument(DATE), &mut out)
         .map_err(|refusal| refused(refusal, notes_of(refusal, master, false)))?;
     out.truncate(RECORD * (records as usize + 1));
@@ -141,7 +139,7 @@ fn summary_of(arguments: &Arguments, compared: &Compared) -> Summary {
     let same = compared.same as u64;
     Summary::new("compare", Status::of_rejects(found > 0))
         .verdict(verdict)
-        .text("state", arguments.needed("--state").to_string_lossy())
+        .text("state", arguments.state().unwrap_or_default())
         .sum(
             "cases here",
             ("all", same + differing + only_here),
@@ -226,7 +224,7 @@ impl Made {
     }
 
     fn batch(&self, arguments: &Arguments, charset: Charset) -> Result<Vec<u8>, Failure> {
-        let state = argument(arguments.needed("--state").as_bytes());
+        let state = argument(arguments.state().unwrap_or_default().as_bytes());
         let batch = batch_of(&state, &self.details);
         let (mut batch, _) = batch.map_err(|refusal| refused(refusal, Vec::new()))?;
         to_charset(&mut batch, charset)?;

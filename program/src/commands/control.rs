@@ -1,7 +1,5 @@
 //! control: a batch with the control record that its details ask for.
 
-use std::os::unix::ffi::OsStrExt;
-
 use fantanolive::{totals, Refusal, RECORD};
 
 use crate::arguments::Arguments;
@@ -97,7 +95,7 @@ fn what_is_wrong(batch: &Input) -> (String, Vec<String>) {
 
 /// The state that is given, that of the control record, or that of the first detail.
 fn state_of(arguments: &Arguments, batch: &Input, has_one: bool) -> Result<Vec<u8>, Failure> {
-    match arguments.value("--state") {
+    match arguments.state() {
         Some(state) if state.len() == 2 => Ok(argument(state.as_bytes())),
         Some(_) => Err(arguments.wrong("--state wants two letters")),
         None if has_one => Ok(control::STATE.of(batch.last().unwrap_or_default()).to_vec()),

@@ -95,6 +95,10 @@ fn note_of(path: &Path, before: u64, place: u64, part: &[u8], to: Charset) -> St
     let at = usize::try_from(place).unwrap_or_default();
     let byte = part[at];
     let hint = match to {
+        Charset::Ebcdic if byte == b'\n' || byte == b'\r' => {
+            ", a line end: take the line ends out, or give the command that reads the file --lines"
+                .to_string()
+        }
         Charset::Ebcdic => byte_words(&part[at..], before + place == 0),
         _ if looks_ascii(&[byte]) => {
             ", an ASCII character: is the file in ASCII already?".to_string()

@@ -23,11 +23,16 @@ pub struct Key {
 }
 
 impl Key {
-    /// That of a text in ASCII.
+    /// That of a text in ASCII; its letters may be lower case, and its SSN may have hyphens.
     fn of(number: u64, text: &[u8]) -> Key {
+        // OH123-45-6789N
+        let has_hyphens = text.len() == KEY + 2 && text[5] == b'-' && text[8] == b'-';
+        let is_kept = |(place, _): &(usize, &u8)| !has_hyphens || ![5, 8].contains(place);
+        let plain = text.iter().enumerate().filter(is_kept);
+        let plain: Vec<u8> = plain.map(|(_, byte)| byte.to_ascii_uppercase()).collect();
         Key {
             number,
-            bytes: argument(text).try_into().ok(),
+            bytes: argument(&plain).try_into().ok(),
         }
     }
 

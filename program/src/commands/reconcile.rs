@@ -28,7 +28,8 @@ pub fn run(arguments: &Arguments, progress: &Progress) -> Result<Status, Failure
     let outputs = Outputs::open(arguments, &wanted)?;
     let mut master = read_master(arguments, 0, progress)?;
     let rows = master.records();
-    let (state, date) = (arguments.needed("--state"), arguments.needed("--date"));
+    let state = arguments.state().unwrap_or_default();
+    let date = arguments.needed("--date");
     let mut out = zeros(RECORD * (rows + 1))?;
     progress.now("writing the records of the state");
     let (state_bytes, date_bytes) = (argument(state.as_bytes()), argument(date.as_bytes()));
@@ -39,7 +40,7 @@ pub fn run(arguments: &Arguments, progress: &Progress) -> Result<Status, Failure
     let form = Form::new(Charset::Ebcdic, Placeholder::Dot, false);
     let last = &out[records as usize * RECORD..];
     let summary = Summary::new("reconcile", Status::Done)
-        .text("state", state.to_string_lossy())
+        .text("state", state)
         .text("date", date.to_string_lossy())
         .number("records", records)
         .of_which("TANF", number(&form.field(&rct::TANF, last)))

@@ -5,16 +5,17 @@ use std::ops::Range;
 
 use crate::arguments::Arguments;
 use crate::commands::output::{form_of, printed, warn};
-use crate::failure::{counted, Failure, Status, STANDARD};
+use crate::failure::{counted, headed, Failure, Status, STANDARD};
 use crate::files::length::{of_length, too_long};
 use crate::files::protect;
 use crate::files::read::{read, Input};
 use crate::nearest::nearest;
 use crate::progress::Progress;
-use crate::records::columns::Layout;
-use crate::records::field::Form;
+use crate::records::columns::{Field, Layout};
+use crate::records::field::{Form, Placeholder};
 use crate::records::kinds::{FileKind, KINDS, MASTER};
-use crate::report::fields::{put_json_fields, put_list, Table};
+use crate::records::selection::{field_of, Selection};
+use crate::report::fields::{in_order, put_json_fields, put_list, Table};
 use crate::report::json::Json;
 use crate::report::screen::{Screen, Style};
 use crate::report::summary::Summary;
@@ -32,18 +33,32 @@ pub fn kind_of(arguments: &Arguments) -> Result<&'static FileKind, Failure> {
     })
 }
 
-/// The records that are asked for, the first being 0.
-fn range_of(arguments: &Arguments, records: usize) -> Result<Range<usize>, Failure> {
-    let number = |name| -> Result<Option<usize>, Failure> {
-        let given = arguments.number(name)?;
-        Ok(given.map(|number| usize::try_from(number).unwrap_or(usize::MAX)))
-    };
-    let from = number("--from")?.unwrap_or(1);
+/// The number that an option gives.
+fn number_of(arguments: &Arguments, name: &str) -> Result<Option<usize>, Failure> {
+    let given = arguments.number(name)?;
+    Ok(given.map(|number| usize::try_from(number).unwrap_or(usize::MAX)))
+}
+
+/// The most records that are shown.
+fn count_of(arguments: &Arguments) -> Result<usize, Failure> {
+    Ok(number_of(arguments, "--count")?.unwrap_or(usize::MAX))
+}
+
+/// The records that are looked at, the first being 0: those that are shown, or all from one on where some are looked for.
+fn range_of(
+    arguments: &Arguments,
+    records: usize,
+    shows_all: bool,
+) -> Result<Range<usize>, Failure> {
+    let from = number_of(arguments, "--from")?.unwrap_or(1);
     if from == 0 {
         return Err(arguments.wrong("--from counts from 1"));
     }
     let start = (from - 1).min(records);
-    let count = number("--count")?.unwrap_or(records);
+    let count = match shows_all {
+        true => count_of(arguments)?,
+        false => records,
+    };
     Ok(start..start.saturating_add(count).min(records))
 }
 
@@ -52,6 +67,11 @@ struct Shown<'a> {
     input: &'a Input,
     range: Range<usize>,
     form: Form,
+    selection: Selection,
+    /// The most records that are shown.
+    most: usize,
+    /// The fields that are asked for; none where all are shown.
+    fields: Option<Vec<&'static Field>>,
 }
 
 /// That the last record is the one of another kind with records as wide.
@@ -138,7 +158,8 @@ pub fn run(arguments: &Arguments, progress: &Progress) -> Result<Status, Failure
     let mut form = form_of(arguments, input.charset);
     let warning = warning_of(&input, &form);
     form.digits_masked = warning.is_some() && !form.full;
-    let mut range = range_of(arguments, input.records())?;
+    let selection = selection_of(arguments, &input)?;
+    let mut range = range_of(arguments, input.records(), selection.is_all())?;
     let mut fault = None;
     if !arguments.flag("--all") {
         (range, fault) = cut_off(&input, range, &form);
@@ -151,6 +172,9 @@ pub fn run(arguments: &Arguments, progress: &Progress) -> Result<Status, Failure
         .problem(problem);
     let shown = Shown {
         range,
+        selection,
+        most: count_of(arguments)?,
+        fields: fields_of(arguments, input.kind)?,
         form,
         input: &input,
     };
@@ -168,9 +192,49 @@ pub fn run(arguments: &Arguments, progress: &Progress) -> Result<Status, Failure
     Ok(summary.status())
 }
 
+/// The records that --where and --search ask for.
+fn selection_of(arguments: &Arguments, input: &Input) -> Result<Selection, Failure> {
+    let text = |name: &str| arguments.value(name).map(|value| value.to_string_lossy());
+    let (conditions, search) = (text("--where"), text("--search"));
+    let form = Form::new(input.charset, Placeholder::Dot, true);
+    Selection::of(
+        input.kind.fields,
+        conditions.as_deref(),
+        search.as_deref(),
+        form,
+    )
+    .map_err(|what| arguments.wrong(what))
+}
+
+/// The fields that --fields asks for.
+fn fields_of(
+    arguments: &Arguments,
+    kind: &FileKind,
+) -> Result<Option<Vec<&'static Field>>, Failure> {
+    let Some(list) = arguments.value("--fields") else {
+        return Ok(None);
+    };
+    let list = list.to_string_lossy();
+    let fields = list.split(',').map(|name| field_of(kind.fields, name));
+    let fields: Result<_, String> = fields.collect();
+    fields.map(Some).map_err(|what| arguments.wrong(what))
+}
+
 impl Shown<'_> {
+    /// The numbers of the records that are asked for.
+    fn numbers(&self, range: Range<usize>) -> impl Iterator<Item = usize> + '_ {
+        let is_wanted = |number: &usize| {
+            let record = self.input.record(*number);
+            self.selection.has(self.input.kind.fields, record)
+        };
+        range.filter(is_wanted).take(self.most)
+    }
+
     /// The fields of the last record, where it is one of its own and is among those shown.
     fn last_fields(&self) -> Option<Layout> {
+        if !self.selection.is_all() || self.fields.is_some() {
+            return None;
+        }
         let last = self.input.records().checked_sub(1)?;
         let record = self.input.record(last);
         let kind = self.input.kind;
@@ -194,21 +258,35 @@ impl Shown<'_> {
     fn put_text<W: Write>(&self, screen: &mut Screen<W>, as_list: bool) -> io::Result<()> {
         screen.plain(&self.caption())?;
         let last = self.last_fields();
-        let end = self.range.end - usize::from(last.is_some());
-        let mut table = Table::new(self.input.kind.fields);
-        if !as_list && self.range.start < end {
-            table.put_names(screen, self.input.kind.record)?;
-        }
-        for number in self.range.start..end {
-            let record = self.input.record(number);
+        let end = self.range.end - usize::from(last.is_some() || self.hides_last());
+        let kind = self.input.kind;
+        let columns = match &self.fields {
+            Some(fields) => fields.clone(),
+            None => in_order(kind.fields, kind.first),
+        };
+        let all: Vec<Field> = match &self.fields {
+            Some(fields) => fields.iter().map(|field| **field).collect(),
+            None => kind.fields.to_vec(),
+        };
+        let mut table = Table::new(&columns);
+        let mut shown = 0;
+        for number in self.numbers(self.range.start..end) {
             if as_list {
-                self.put_listed(screen, number, self.input.kind.fields)?;
+                self.put_listed(screen, number, &all)?;
             } else {
-                table.put(screen, number + 1, record, &self.form)?;
+                if shown == 0 {
+                    table.put_names(screen, kind.record)?;
+                }
+                table.put(screen, number + 1, self.input.record(number), &self.form)?;
             }
+            shown += 1;
+        }
+        if !self.selection.is_all() {
+            let words = (kind.record, &*format!("{}s", kind.record));
+            screen.plain(&format!("{} found", headed(shown, words)))?;
         }
         if let Some(fields) = last {
-            if !as_list && self.range.start < end {
+            if !as_list && shown > 0 {
                 screen.plain("")?;
             }
             self.put_listed(screen, end, fields)?;
@@ -216,12 +294,23 @@ impl Shown<'_> {
         Ok(())
     }
 
+    /// Whether the last record is one of its own that isn't shown, since fields or values of the others are asked for.
+    fn hides_last(&self) -> bool {
+        let Some(last) = self.input.records().checked_sub(1) else {
+            return false;
+        };
+        let is_asked = !self.selection.is_all() || self.fields.is_some();
+        let record = self.input.record(last);
+        let is_own = self.input.kind.marked(record, &self.form).is_some();
+        is_asked && is_own && self.range.contains(&last)
+    }
+
     /// A record field by field below its number.
     fn put_listed<W: Write>(
         &self,
         screen: &mut Screen<W>,
         number: usize,
-        fields: Layout,
+        fields: &[Field],
     ) -> io::Result<()> {
         let heading = format!("{} {}", self.input.kind.record, number + 1);
         screen.line(Style::Heading, &heading)?;
@@ -230,15 +319,20 @@ impl Shown<'_> {
 
     fn put_json<W: Write>(&self, json: &mut Json<W>) -> io::Result<()> {
         let last = self.last_fields();
+        let end = self.range.end - usize::from(self.hides_last());
+        let all: Vec<Field> = match &self.fields {
+            Some(fields) => fields.iter().map(|field| **field).collect(),
+            None => self.input.kind.fields.to_vec(),
+        };
         json.name("shown")?;
         json.begin_array()?;
-        for number in self.range.clone() {
+        for number in self.numbers(self.range.start..end) {
             let is_last = number + 1 == self.input.records();
             let fields = last.filter(|_| is_last);
             json.begin_object()?;
             json.number_of("record", number as u64 + 1)?;
             json.name("fields")?;
-            let fields = fields.unwrap_or(self.input.kind.fields);
+            let fields = fields.unwrap_or(&all);
             put_json_fields(json, fields, self.input.record(number), &self.form)?;
             json.end_object()?;
         }

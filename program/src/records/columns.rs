@@ -173,6 +173,7 @@ pub mod control {
 pub mod reject {
     use super::*;
 
+    pub const CODES: Field = text("Rejected Error Codes", 228, 239);
     pub const STORED_NAME: Field = text("OCSE Last Name", 240, 243);
     pub const FIELDS: Layout = &[
         detail::STATE,
@@ -194,7 +195,7 @@ pub mod reject {
         detail::ZIP,
         detail::DATE_ISSUED,
         detail::EXCLUSIONS,
-        text("Rejected Error Codes", 228, 239),
+        CODES,
         STORED_NAME,
         filler(244, 244),
         text("Request Code", 245, 245),

@@ -27,6 +27,8 @@ pub struct FileKind {
     /// The most records that the library takes.
     pub most: usize,
     pub fields: Layout,
+    /// The fields that stand first in a table.
+    pub first: Layout,
     pub last: Option<Last>,
 }
 
@@ -44,6 +46,16 @@ pub const MASTER: FileKind = FileKind {
     width: ROW,
     most: MAX_ROWS,
     fields: row::FIELDS,
+    first: &[
+        row::STATE,
+        row::SSN,
+        row::CASE_TYPE,
+        row::LAST_NAME,
+        row::FIRST_NAME,
+        row::ARREARAGE,
+        row::STATUS,
+        row::CENTS,
+    ],
     last: None,
 };
 
@@ -56,6 +68,15 @@ pub const BATCH: FileKind = FileKind {
     width: RECORD,
     most: MAX_RECORDS,
     fields: detail::FIELDS,
+    first: &[
+        detail::STATE,
+        detail::SSN,
+        detail::CASE_TYPE,
+        detail::TYPE,
+        detail::LAST_NAME,
+        detail::FIRST_NAME,
+        detail::ARREARAGE,
+    ],
     last: Some(Last {
         fields: control::FIELDS,
         mark: control::MARK,
@@ -69,6 +90,15 @@ pub const REJECTS: FileKind = FileKind {
     width: RECORD,
     most: MAX_RECORDS,
     fields: reject::FIELDS,
+    first: &[
+        detail::STATE,
+        detail::SSN,
+        detail::CASE_TYPE,
+        detail::TYPE,
+        detail::LAST_NAME,
+        reject::CODES,
+        reject::STORED_NAME,
+    ],
     last: Some(Last {
         fields: reject_control::FIELDS,
         mark: reject_control::MARK,
@@ -82,6 +112,14 @@ pub const RECONCILIATION: FileKind = FileKind {
     width: RECORD,
     most: MAX_RECORDS,
     fields: rec::FIELDS,
+    first: &[
+        rec::STATE,
+        rec::SSN,
+        rec::CASE_TYPE,
+        rec::LAST_NAME,
+        rec::FIRST_NAME,
+        rec::ARREARAGE,
+    ],
     last: Some(Last {
         fields: rct::FIELDS,
         mark: rct::MARK,
@@ -95,6 +133,12 @@ pub const CONTACTS: FileKind = FileKind {
     width: CONTACT,
     most: MAX_CONTACTS,
     fields: contact::FIELDS,
+    first: &[
+        contact::STATE,
+        contact::LOCAL_CODE,
+        contact::AGENCY,
+        contact::TELEPHONE_1,
+    ],
     last: None,
 };
 
@@ -110,6 +154,14 @@ pub const COLLECTIONS: FileKind = FileKind {
     width: LINE,
     most: MAX_RECORDS,
     fields: line::FIELDS,
+    first: &[
+        line::STATE,
+        line::SSN,
+        line::CASE_TYPE,
+        line::LAST_NAME,
+        line::COLLECTION,
+        line::ADJUSTMENT,
+    ],
     last: Some(Last {
         fields: total::FIELDS,
         mark: total::MARK,
@@ -124,6 +176,7 @@ pub const LOCALS: FileKind = FileKind {
     width: LOCAL_CODE,
     most: 1000,
     fields: local_code::FIELDS,
+    first: &[],
     last: None,
 };
 
@@ -134,6 +187,7 @@ pub const JOURNAL: FileKind = FileKind {
     width: 1,
     most: journal_size(MAX_RECORDS - 1),
     fields: &[],
+    first: &[],
     last: None,
 };
 

@@ -18,4 +18,5 @@ pub mod made_up_case;
 pub mod money;
 pub mod name_changes;
 pub mod posting;
+pub mod selection;
 pub mod towards_here;

@@ -15,7 +15,7 @@ fn is_left_out(field: &Field, value: &str) -> bool {
 /// A line per field: its name, its columns and its value.
 pub fn put_list<W: Write>(
     screen: &mut Screen<W>,
-    fields: Layout,
+    fields: &[Field],
     record: &[u8],
     form: &Form,
 ) -> io::Result<()> {
@@ -40,7 +40,7 @@ pub fn put_list<W: Write>(
 /// An object with a member per field. A set is an array; the name of a filler has its columns.
 pub fn put_json_fields<W: Write>(
     json: &mut Json<W>,
-    fields: Layout,
+    fields: &[Field],
     record: &[u8],
     form: &Form,
 ) -> io::Result<()> {
@@ -75,7 +75,7 @@ fn put_set<W: Write>(json: &mut Json<W>, set: u8) -> io::Result<()> {
 /// The width of the column with the records' numbers.
 const NUMBER: usize = 6;
 
-/// A table: the columns are the fields but the fillers, each as wide as its name or its longest value.
+/// A table: the columns are fields, each as wide as its short name or its longest value.
 pub struct Table {
     columns: Vec<(Field, usize)>,
     line: String,
@@ -91,12 +91,40 @@ fn widest(field: &Field) -> usize {
     }
 }
 
+/// Short names for the columns of a table.
+const SHORT: [(&str, &str); 13] = [
+    ("Submitting State Code", "St"),
+    ("Case Type Indicator", "Ty"),
+    ("Obligor Last Name", "Last name"),
+    ("Obligor First Name", "First name"),
+    ("Arrearage Amount", "Amount"),
+    ("Current Arrearage Amount", "Amount"),
+    ("Transaction Type", "Tr"),
+    ("Status", "D"),
+    ("Cents", "Ct"),
+    ("Collection Amount", "Collection"),
+    ("Adjustment Amount", "Adjustment"),
+    ("Rejected Error Codes", "Codes"),
+    ("OCSE Last Name", "Stored"),
+];
+
+fn short(field: &Field) -> &'static str {
+    let known = SHORT.iter().find(|(name, _)| *name == field.name);
+    known.map_or(field.name, |(_, short)| short)
+}
+
+/// The fields of a table: those that matter first, then the others but the fillers.
+pub fn in_order(fields: Layout, first: Layout) -> Vec<&'static Field> {
+    let others = fields.iter().filter(|field| !first.contains(field));
+    let others = others.filter(|field| field.kind != Kind::Filler);
+    first.iter().chain(others).collect()
+}
+
 impl Table {
-    pub fn new(fields: Layout) -> Table {
-        let shown = fields.iter().filter(|field| field.kind != Kind::Filler);
-        let column = |field: &Field| (*field, field.name.len().max(widest(field)));
+    pub fn new(fields: &[&'static Field]) -> Table {
+        let column = |field: &&'static Field| (**field, short(field).len().max(widest(field)));
         Table {
-            columns: shown.map(column).collect(),
+            columns: fields.iter().map(column).collect(),
             line: String::new(),
         }
     }
@@ -105,7 +133,7 @@ impl Table {
     pub fn put_names<W: Write>(&mut self, screen: &mut Screen<W>, record: &str) -> io::Result<()> {
         let mut line = format!("{record:>NUMBER$}");
         for (field, width) in &self.columns {
-            line += &format!("  {:<width$}", field.name);
+            line += &format!("  {:<width$}", short(field));
         }
         screen.line(Style::Heading, line.trim_end())
     }

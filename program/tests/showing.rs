@@ -1,0 +1,174 @@
+//! What show shows: fields that are asked for, records by their values and by name, SSN or case ID; keys and states in lower case.
+
+mod common;
+
+use common::*;
+
+/// Three rows: SMITH twice, and DOE with a case ID.
+fn folder(name: &str) -> Folder {
+    let folder = Folder::with_example(name);
+    let mut third = row("OH987654322N", "00000300", "00");
+    third[15..18].copy_from_slice(&ebcdic("A-7"));
+    third[30..35].copy_from_slice(&ebcdic("DOE  "));
+    folder.write("rows.bin", &[two_rows("00"), third].concat());
+    folder
+}
+
+const SHOW: [&str; 3] = ["show", "master", "rows.bin"];
+
+fn shown(folder: &Folder, more: &[&str]) -> Vec<String> {
+    let ran = folder.run(&with(&SHOW, more));
+    assert_eq!((ran.status, ran.err.as_str()), (0, ""), "{more:?}");
+    ran.out.lines().skip(1).map(str::to_string).collect()
+}
+
+#[test]
+fn fields_that_are_asked_for() {
+    let folder = folder("showing-fields");
+    let lines = shown(&folder, &["--fields", "ssn,Obligor Last Name,CASE_ID"]);
+    let wanted = [
+        "   row  SSN        Last name             Case ID",
+        "     1  *****6789  SMITH",
+        "     2  *****4321  SMITH",
+        "     3  *****4322  DOE                   A-7",
+    ];
+    assert_eq!(lines, wanted);
+    let list = ["--fields", "status,cents", "--list", "--count", "1"];
+    assert_eq!(
+        shown(&folder, &list),
+        ["row 1", "  Status      196", "  Cents   197-198  00"]
+    );
+    let ran = folder.run(&with(&SHOW, &["--fields", "name"]));
+    assert_eq!(ran.status, 3);
+    assert!(ran
+        .err
+        .contains("no field is named 'name': submitting_state_code, ssn,"));
+    // the last record has other fields
+    let batch = folder.run(&["show", "batch", "batch.bin", "--fields", "ssn"]);
+    assert_eq!(batch.out.lines().count(), 4, "{}", batch.out);
+}
+
+#[test]
+fn records_by_their_values() {
+    let folder = folder("showing-where");
+    let found = |more: &[&str]| {
+        let lines = shown(&folder, &with(&["--fields", "ssn"], more));
+        let rows = lines.iter().filter(|line| line.starts_with("     "));
+        let numbers: Vec<String> = rows.map(|line| line.trim()[..1].to_string()).collect();
+        let count = lines.last().cloned().unwrap_or_default();
+        (numbers.join(","), count)
+    };
+    for (more, numbers, count) in [
+        (
+            &["--where", "obligor_last_name=smith"][..],
+            "1,2",
+            "2 rows found",
+        ),
+        (&["--where", "ssn=987-65-4321"], "2", "1 row found"),
+        (&["--where", "ssn=987654322"], "3", "1 row found"),
+        (
+            &["--where", "case_type_indicator=n,obligor_last_name=Doe"],
+            "3",
+            "1 row found",
+        ),
+        (&["--where", "case_id="], "1,2", "2 rows found"),
+        (&["--where", "case_id=x"], "", "0 rows found"),
+        (&["--search", "smi"], "1,2", "2 rows found"),
+        (&["--search", "123-45-6789"], "1", "1 row found"),
+        (&["--search", "a-7"], "3", "1 row found"),
+        (&["--search", "john"], "1,2,3", "3 rows found"),
+        (&["--search", "john", "--count", "2"], "1,2", "2 rows found"),
+        (&["--search", "john", "--from", "2"], "2,3", "2 rows found"),
+        (
+            &["--search", "987654321", "--where", "case_type_indicator=A"],
+            "2",
+            "1 row found",
+        ),
+    ] {
+        assert_eq!(
+            found(more),
+            (numbers.to_string(), count.to_string()),
+            "{more:?}"
+        );
+    }
+    for wrong in [["--where", "ssn"], ["--where", "x=1"]] {
+        assert_eq!(folder.run(&with(&SHOW, &wrong)).status, 3);
+    }
+    let json = folder.run(&with(&SHOW, &["--search", "doe", "--json"])).out;
+    assert_eq!(json.matches("\"record\":").count(), 1, "{json}");
+}
+
+#[test]
+fn no_ssn_is_shown_by_a_search() {
+    let folder = folder("showing-masks");
+    for more in [["--search", "123456789"], ["--where", "ssn=123-45-6789"]] {
+        let ran = folder.run(&with(&SHOW, &more));
+        assert!(
+            ran.out.contains("*****6789") && !ran.out.contains("123456789"),
+            "{}",
+            ran.out
+        );
+    }
+}
+
+#[test]
+fn keys_and_states_in_lower_case() {
+    let folder = folder("showing-keys");
+    for key in ["oh123456789n", "OH123-45-6789N", "Oh123-45-6789n"] {
+        let ran = folder.run(&["find", "rows.bin", key]);
+        assert_eq!(ran.status, 0, "{key}: {ran:?}");
+    }
+    let edit = [
+        "edit",
+        "rows.bin",
+        "oh123-45-6789n",
+        "--amount",
+        "7",
+        "--out",
+        "edit.bin",
+    ];
+    assert_eq!(folder.run(&edit).status, 0);
+    let reconcile = [
+        "reconcile",
+        "rows.bin",
+        "--state",
+        "oh",
+        "--date",
+        "20071231",
+        "--out",
+        "rec.bin",
+    ];
+    let ran = folder.run(&reconcile);
+    assert!(
+        ran.status == 0 && ran.out.contains("  state                OH\n"),
+        "{ran:?}"
+    );
+    for wrong in ["oh123456789", "oh12345678-9n", "oh123-45-6789nn"] {
+        assert_eq!(
+            folder.run(&["find", "rows.bin", wrong]).status,
+            2,
+            "{wrong}"
+        );
+    }
+}
+
+/// At 80 columns the fields that matter stand first.
+#[test]
+fn what_matters_is_first() {
+    let folder = folder("showing-first");
+    folder.write("weekly.bin", &weekly());
+    let front = |kind: &str, file: &str| {
+        let out = folder.run(&["show", kind, file]).out;
+        let line = out.lines().nth(1).expect("names").to_string();
+        line[..80.min(line.len())].to_string()
+    };
+    let master = front("master", "rows.bin");
+    assert!(master.starts_with(
+        "   row  St  SSN        Ty  Last name             First name       Amount    D"
+    ));
+    assert!(
+        front("batch", "batch.bin").contains("Tr  Last name             First name       Amount")
+    );
+    assert!(front("collections", "weekly.bin")
+        .contains("Last name             Collection    Adjustment"));
+}
