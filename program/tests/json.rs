@@ -160,11 +160,157 @@ fn every_command() {
         assert_eq!(ran.status, status, "{arguments:?}: {ran:?}");
         assert_eq!(ran.err, "", "{arguments:?}");
         assert_eq!(value(&ran.out), "\n", "{arguments:?}: {}", ran.out);
+        let is_done = ["carried out", "would be carried out"].contains(&outcome);
+        let schema = if is_done { arguments[0] } else { "problem" };
         let start = format!(
-            "{{\"command\":\"{}\",\"version\":\"{}\",\"outcome\":\"{outcome}\",\"status\":{status},",
+            "{{\"command\":\"{}\",\"version\":\"{}\",\"schema\":\"{schema}.1\",\"outcome\":\"{outcome}\",\"status\":{status},",
             arguments[0],
             fantanolive::VERSION
         );
         assert!(ran.out.starts_with(&start), "{arguments:?}: {}", ran.out);
+    }
+}
+
+/// The members of an object, each with what it is.
+fn members_of(text: &str) -> Vec<(String, &'static str)> {
+    let mut list = Vec::new();
+    let mut rest = text.trim_end().strip_prefix('{').expect("an object");
+    while rest != "}" {
+        rest = rest.strip_prefix(',').unwrap_or(rest);
+        let behind = string(rest);
+        let name = rest[1..rest.len() - behind.len() - 1].to_string();
+        let behind = behind.strip_prefix(':').expect("a colon");
+        let kind = match behind.as_bytes()[0] {
+            b'{' => "object",
+            b'[' => "list",
+            b'"' => "text",
+            b'n' => "null",
+            _ => "number",
+        };
+        list.push((name, kind));
+        rest = value(behind);
+    }
+    list
+}
+
+/// The tables of docs/JSON.md: for each heading the members, with their types.
+fn documented() -> Vec<(String, Vec<(String, String)>)> {
+    let path = std::path::Path::new(env!("CARGO_MANIFEST_DIR")).join("../docs/JSON.md");
+    let text = std::fs::read_to_string(path).expect("it is there");
+    let mut tables = vec![("every".to_string(), Vec::new())];
+    for line in text.lines() {
+        if let Some(heading) = line.strip_prefix("## ") {
+            tables.push((heading.to_string(), Vec::new()));
+        }
+        let cells: Vec<&str> = line.split('|').map(str::trim).collect();
+        if let ["", name, kind, ..] = cells[..] {
+            if name != "member" && !name.starts_with('-') {
+                let table = tables.last_mut().expect("the first is there");
+                table.1.push((name.to_string(), kind.to_string()));
+            }
+        }
+    }
+    tables
+}
+
+/// The schema of an object, and that its members are those of the document.
+fn see_documented(json: &str) -> String {
+    let members = members_of(json);
+    let start = json.find("\"schema\":\"").expect("it has a schema") + 10;
+    let schema: String = json[start..].chars().take_while(|c| *c != '"').collect();
+    let tables = documented();
+    let of = |wanted: &str| {
+        let named = |heading: &str| heading.split(" and ").any(|name| name == wanted);
+        let table = tables.iter().find(|(heading, _)| named(heading));
+        table
+            .unwrap_or_else(|| panic!("{wanted} is in docs/JSON.md"))
+            .1
+            .clone()
+    };
+    let wanted = [of("every"), of(&schema)].concat();
+    let is_done = !["problem.1", "explain.1"].contains(&&*schema);
+    for (name, kind) in &members {
+        let known = wanted
+            .iter()
+            .find(|(other, _)| other.trim_end_matches('?') == name);
+        let Some((_, documented)) = known else {
+            panic!("{schema} has {name}, which is not in docs/JSON.md");
+        };
+        assert!(
+            documented == kind || *kind == "null",
+            "{schema}: {name} is {kind}"
+        );
+    }
+    for (name, _) in wanted.iter().filter(|(name, _)| !name.ends_with('?')) {
+        let is_written = name == "written";
+        let has = members.iter().any(|(other, _)| other == name);
+        assert!(has || is_written && !is_done, "{schema} lacks {name}");
+    }
+    schema
+}
+
+/// What every command prints has the members of docs/JSON.md, and every table there is met.
+#[test]
+fn schemas_are_documented() {
+    let folder = folder("json-schemas");
+    folder.write(
+        "rec.bin",
+        &record(&[(1, "RCTOH000000000000000000000000000"), (33, "20071231")]),
+    );
+    folder.write("details.csv", b"submitting_state_code\nOH\n");
+    folder.write("first.bin", &second_rows()[..200]);
+    let mut met = Vec::new();
+    for words in [
+        "check master.bin batch.bin --locals locals.bin --year 2007",
+        "check master.bin batch.bin --locals locals.bin --year 2007 --by-office",
+        "apply master.bin batch.bin --locals locals.bin --year 2007 --rejects r.bin --journal j.bin",
+        "check master.bin batch.bin --locals locals.bin --year 2007",
+        "post two.bin weekly.bin --dry-run",
+        "post two.bin weekly.bin",
+        "post two.bin weekly.bin --dry-run",
+        "contacts table.bin contacts.bin",
+        "compare left.bin rec.bin --state OH",
+        "compare left.bin rec.bin --state OH --records made.bin",
+        "build details.csv --out built.bin",
+        "build --template --out names.csv",
+        "control batch.bin --out control.bin",
+        "export batch batch.bin --out batch.csv",
+        "export master two.bin --out two.csv",
+        "split batch.bin --at 1 --out part",
+        "merge part001 part002 --out merged.bin --anyway",
+        "take-back left.bin journal.bin --dry-run",
+        "find master.bin OH123456789N",
+        "find master.bin --keys keys.txt",
+        "edit left.bin OH123456789N --amount 7 --out edit.bin",
+        "records first.bin first.bin --out none.bin",
+        "reconcile left.bin --state OH --date 20071231 --out made-rec.bin",
+        "pages left.bin --out pages.bin",
+        "add-cents old.bin",
+        "log two.bin",
+        "log left.bin",
+        "codes table.bin --state OH --out codes.bin",
+        "to-ascii batch.bin --out batch.txt",
+        "to-ebcdic batch.txt --out back.bin",
+        "show collections weekly.bin",
+        "show batch part001",
+        "explain 17",
+        "explain 51",
+        "find master.bin OH123456789A",
+        "find none OH123456789A",
+        "split batch.bin --at 9 --out part",
+        "post two.bin batch.bin",
+    ] {
+        let arguments: Vec<&str> = words.split(' ').chain(["--json"]).collect();
+        let ran = folder.run(&arguments);
+        assert_eq!(value(&ran.out), "\n", "{words}: {ran:?}");
+        met.push(see_documented(&ran.out));
+    }
+    for (heading, _) in &documented()[1..] {
+        for schema in heading.split(" and ") {
+            assert!(
+                met.iter().any(|other| other == schema),
+                "{schema} is not met"
+            );
+        }
     }
 }

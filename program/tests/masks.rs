@@ -210,7 +210,7 @@ fn bytes_that_are_no_characters() {
     );
     assert!(ran
         .out
-        .contains("\"Exclusion Indicator(s)\":[\"RET\",\"PAS\"]"));
+        .contains("\"exclusion_indicators\":[\"RET\",\"PAS\"]"));
 }
 
 #[test]

@@ -29,7 +29,7 @@ fn the_money_in_json() {
     let json = folder.run(&with(&POST, &["--json"])).out;
     let money = "\"collections\":{\"collected\":30.01,\"applied\":25.00,\"excess\":5.01},\"adjusted\":0.50,\"balances_before\":125.00,\"balances_after\":100.50,\"equation\":\"125.00 before + 0.50 adjusted = 100.50 after + 30.01 collected - 5.01 excess\",\"cases_closed\":1,\"cases_with_excess\":1";
     assert!(json.contains(money), "{json}");
-    let line = "\"collection\":\"0.00\",\"adjustment\":\"1.00\",\"reason\":\"closed in this file\",\"reason_words\":\"the case was closed by line 3 of this file\"";
+    let line = "\"collection\":0.00,\"adjustment\":1.00,\"reason\":\"closed in this file\",\"reason_words\":\"the case was closed by line 3 of this file\"";
     assert!(json.contains(line), "{json}");
 }
 

@@ -11,7 +11,7 @@ use crate::progress::Progress;
 use crate::report::json::Json;
 use crate::report::problem::{put_json_words, put_words};
 use crate::report::screen::{Screen, Style};
-use crate::report::summary::CARRIED_OUT;
+use crate::report::summary::{schema_of, CARRIED_OUT};
 
 pub fn run(arguments: &Arguments, progress: &Progress) -> Result<Status, Failure> {
     let given = arguments.operand(0).to_string_lossy();
@@ -34,6 +34,7 @@ pub fn run(arguments: &Arguments, progress: &Progress) -> Result<Status, Failure
         |json| {
             json.text_of("command", "explain")?;
             json.text_of("version", VERSION)?;
+            json.text_of("schema", &schema_of("explain"))?;
             json.text_of("outcome", CARRIED_OUT)?;
             json.number_of("status", Status::Done as u64)?;
             put_json(json, found)

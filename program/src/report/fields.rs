@@ -3,6 +3,7 @@
 use std::io::{self, Write};
 
 use crate::records::columns::{Field, Kind, Layout};
+use crate::records::csv_fields::name_of;
 use crate::records::field::{exclusions, Form};
 use crate::report::json::Json;
 use crate::report::screen::{Screen, Style};
@@ -37,7 +38,8 @@ pub fn put_list<W: Write>(
     Ok(())
 }
 
-/// An object with a member per field. A set is an array; the name of a filler has its columns.
+/// An object with a member per field, named as a column of CSV is. A set is an array, counts and amounts are numbers where they
+/// are right.
 pub fn put_json_fields<W: Write>(
     json: &mut Json<W>,
     fields: &[Field],
@@ -52,12 +54,10 @@ pub fn put_json_fields<W: Write>(
         if is_left_out(field, &value) {
             continue;
         }
-        match field.kind {
-            Kind::Filler => json.name(&format!("Filler {}", field.columns()))?,
-            _ => json.name(field.name)?,
-        }
+        json.name(&name_of(field))?;
         match field.kind {
             Kind::Set => put_set(json, field.of(record)[0])?,
+            Kind::Number | Kind::Amount => json.number_or_text(&value)?,
             _ => json.text(&value)?,
         }
     }

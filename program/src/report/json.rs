@@ -101,6 +101,27 @@ impl<W: Write> Json<W> {
         write!(self.out, "{}.{:02}", cents / 100, cents % 100)
     }
 
+    /// A count or an amount as a number where it is digits, with two decimal places or none; else a text.
+    pub fn number_or_text(&mut self, value: &str) -> io::Result<()> {
+        let (whole, cents) = match value.split_once('.') {
+            Some((whole, cents)) => (whole, Some(cents)),
+            None => (value, None),
+        };
+        let is_digits = |text: &str| !text.is_empty() && text.bytes().all(|b| b.is_ascii_digit());
+        let is_number =
+            is_digits(whole) && cents.is_none_or(|cents| cents.len() == 2 && is_digits(cents));
+        if !is_number || whole.len() > 18 {
+            return self.text(value);
+        }
+        self.separate()?;
+        let front = whole.trim_start_matches('0');
+        let front = if front.is_empty() { "0" } else { front };
+        match cents {
+            Some(cents) => write!(self.out, "{front}.{cents}"),
+            None => write!(self.out, "{front}"),
+        }
+    }
+
     pub fn null(&mut self) -> io::Result<()> {
         self.separate()?;
         self.out.write_all(b"null")
@@ -176,6 +197,22 @@ mod tests {
             json.finish()
         });
         assert_eq!(text, "{\"a\":1,\"b\":[2,{},null],\"c\":\"d\"}\n");
+    }
+
+    #[test]
+    fn numbers_where_they_are_digits() {
+        for (value, wanted) in [
+            ("000000012", "12"),
+            ("000", "0"),
+            ("1.05", "1.05"),
+            ("0.00", "0.00"),
+            ("", "\"\""),
+            ("1 2", "\"1 2\""),
+            ("1.5", "\"1.5\""),
+            ("0000000010N", "\"0000000010N\""),
+        ] {
+            assert_eq!(written(|json| json.number_or_text(value)), wanted);
+        }
     }
 
     #[test]

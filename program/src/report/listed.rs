@@ -4,7 +4,7 @@ use std::io::{self, Write};
 
 use crate::failure::headed;
 use crate::files::read::Input;
-use crate::records::columns::Field;
+use crate::records::columns::{Field, Kind};
 use crate::records::field::Form;
 use crate::report::json::Json;
 use crate::report::listing::Listing;
@@ -80,7 +80,12 @@ impl Listed<'_> {
             json.begin_object()?;
             json.number_of(self.file.kind.record, u64::from(number))?;
             for (name, field) in self.fields {
-                json.text_of(name, &self.form.field(field, record))?;
+                json.name(name)?;
+                let value = self.form.field(field, record);
+                match field.kind {
+                    Kind::Amount => json.number_or_text(&value)?,
+                    _ => json.text(&value)?,
+                }
             }
             json.text_of("reason", reason.name)?;
             json.text_of("reason_words", &reason.words)?;

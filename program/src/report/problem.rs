@@ -7,6 +7,7 @@ use fantanolive::{Text, VERSION};
 use crate::failure::{words, Failure, Status};
 use crate::report::json::Json;
 use crate::report::screen::{report_output, Screen, Style};
+use crate::report::summary::schema_of;
 use crate::terminal;
 
 /// How a problem is told: as JSON, with SSNs whole.
@@ -103,6 +104,7 @@ fn print_json(command: &str, failure: &Failure, form: Form) -> io::Result<()> {
     json.begin_object()?;
     json.text_of("command", command)?;
     json.text_of("version", VERSION)?;
+    json.text_of("schema", &schema_of("problem"))?;
     match failure {
         Failure::Refused { refusal, notes } => {
             json.text_of("outcome", outcome(failure.status()))?;

@@ -221,6 +221,7 @@ impl Summary {
     pub fn put_json<W: Write>(&self, json: &mut Json<W>) -> io::Result<()> {
         json.text_of("command", self.command)?;
         json.text_of("version", VERSION)?;
+        json.text_of("schema", &schema_of(self.command))?;
         json.text_of("outcome", self.outcome)?;
         json.number_of("status", self.status as u64)?;
         if let Some(verdict) = &self.verdict {
@@ -293,6 +294,11 @@ fn equation(total: u64, parts: &[(&str, u64)], shown: fn(u64) -> String) -> Stri
     let part = |(name, number): &(&str, u64)| format!("{} {name}", shown(*number));
     let parts: Vec<String> = parts.iter().map(part).collect();
     format!("{} = {}", shown(total), parts.join(" + "))
+}
+
+/// The schema of a command's JSON: its name, and a number that rises when a member goes or is changed.
+pub fn schema_of(command: &str) -> String {
+    format!("{command}.1")
 }
 
 /// The name of a member in JSON.
