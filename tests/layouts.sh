@@ -135,6 +135,9 @@ fi
 # --- Random records, in each language.
 
 ${CC:-cc} -std=c99 -O1 -Wall -Wextra -pedantic -Werror -Iinclude -o "$work/fields" tests/layouts/fields.c || exit 1
+printf '#include "fantanolive.h"\n#include "fantanolive_layout.h"\n#include "fantanolive_text.h"\nint main(void) { return 0; }\n' >"$work/unused.c"
+${CC:-cc} -std=c99 -Wall -Wextra -pedantic -Werror -Iinclude -c -o "$work/unused.o" "$work/unused.c" || failed=yes
+if command -v c++ >/dev/null; then c++ -x c++ -Wall -Wextra -Werror -Iinclude -c -o "$work/unused.o" "$work/unused.c" || failed=yes; fi
 export CARGO_TARGET_DIR=${CARGO_TARGET_DIR:-$root/target/rust} FANTANOLIVE_LIB_DIR=${FANTANOLIVE_LIB_DIR:-$root/target/staticlib}
 cargo build --quiet --offline --manifest-path bindings/rust/Cargo.toml --example fields || exit 1
 languages='rust'

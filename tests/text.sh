@@ -43,6 +43,8 @@ codes=$(entries fantanolive_code_texts)
 compare 'lines that are no entry' "$(printf '%s\n' "$refusals" "$codes" | grep -vE '^[0-9]+\|[^|]+\|[^|]+\|[^|]+$')" ''
 compare 'bytes that are not ASCII' "$(grep -nP '[^\x20-\x7e]' "$texts")" ''
 
+compare 'papers that the header names' "$(grep -nE 'document 0|Chart' "$header")" ''
+
 # --- Refusals.
 
 numbers=$(printf '%s\n' "$refusals" | cut -d'|' -f1)

@@ -24,7 +24,7 @@ for file in bindings/rust/Cargo.toml program/Cargo.toml; do
     holds "$file" "$(sed -n 's/^version = "\(.*\)"$/\1/p' "$file" | head -n 1)"
 done
 for file in bindings/rust/Cargo.lock program/Cargo.lock; do
-    holds "$file" "$(sed -n 's/^version = "\(.*\)"$/\1/p' "$file" | sort -u)"
+    holds "$file" "$(awk -F '"' '$1 == "name = " { own = $2 ~ /^fantanolive/ } own && $1 == "version = " { print $2 }' "$file" | sort -u)"
 done
 if [ "$(grep -o 'libfantanolive\.so\.[0-9]*' docs/MANUAL.md | sort -u)" != "libfantanolive.so.$(part MAJOR)" ]; then
     echo "version: docs/MANUAL.md doesn't name the soname libfantanolive.so.$(part MAJOR) alone"
