@@ -85,7 +85,7 @@ update("between", REPLACES, [b], table=[a, c], keys=["OH001", "OH002", "OH003"])
 update("states-in-order", REPLACES, [contact("WY"), contact("AK"), contact("OH")], keys=["AK001", "OH001", "WY001"])
 update("faulty-undoes-nothing", ["a faulty record is skipped", "and its number, from 1"], [b, bad], [2], keys=["OH002"])
 update("faulty-of-the-table-s-key", "a faulty record is skipped", [bad], [1], table=[b], keys=["OH002"], space=0)
-update("faulty-numbers", ["and its number, from 1", "the result is the new table count"], [bad, a, bad, c, bad], [1, 3, 5], keys=["OH001", "OH003"])
+update("faulty-numbers", ["and its number, from 1", "the result is the new table count", "the numbers in Item 4's and Item 6's lists"], [bad, a, bad, c, bad], [1, 3, 5], keys=["OH001", "OH003"])
 update("empty-file", "the result is the new table count", [], table=[a], keys=["OH001"])
 WRONG = "refusal 18 is a file or table length"
 update("file-length", WRONG, [a], answer=18, raw_file=a + b"\x40")

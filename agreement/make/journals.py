@@ -37,7 +37,7 @@ journal("numbers-of-127", GROUPS, [detail("M", {65: "00000200"}, ssn="123010127"
 journal("numbers-of-128", GROUPS, [detail("M", {65: "00000200"}, ssn="123010128")], [[]], b"\x80\1\x80\1" + b"\x7f\1" + many[127], rows=many)
 journal("place-of-128", GROUPS, [detail("A", ssn="999999999")], [[]], b"\x80\1\x81\1" + b"\x80\1\0", rows=many)
 for length, number in [(216, 25), (217, 0), (12, 25), (0, 25)]:
-    apply(book, "room-of-%d" % length, "refusal 25 is a journal buffer", [detail("M", {65: "00000200"})], [[]], journal=length, answer=number)
+    apply(book, "room-of-%d" % length, ["refusal 25 is a journal buffer", "and Item 8's buffer becomes"], [detail("M", {65: "00000200"})], [[]], journal=length, answer=number)
 apply(book, "room-without-details-11", "refusal 25 is a journal buffer", [], [], journal=11, answer=25)
 apply(book, "room-without-details-12", "refusal 25 is a journal buffer", [], [], journal=12, entries=b"\1\1")
 apply(book, "as-without-a-journal", "applying may write a journal", [detail("A", ssn=NEW), detail("M", last="SMYTH")], [[], [17]], journal=422, space=2,

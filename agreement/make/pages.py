@@ -30,7 +30,7 @@ def foot(count):
 
 ROW = row(at={13: "012", 49: "X", 65: "Y", 195: b"\x93", 197: "75"}, last="SMITH", first="JOHN")
 LINE = {1: "OH123456789A 012 SMITH             X  JOHN          Y 00000100 4" + " " * 68}
-pages("one-row", ["a line has the key, a space, the local code", "how many exclusion bits", "the heading is CASES", "the foot TOTAL", "a page is in EBCDIC"], [ROW], 1,
+pages("one-row", ["a line has the key, a space, the local code", "how many exclusion bits", "the heading is CASES", "the foot TOTAL", "a page is in EBCDIC", "the page number becomes six digits"], [ROW], 1,
       {0: heading(1), 1: LINE, 2: foot(1)})
 pages("no-rows", "the result counts the pages", [], 0)
 pages("no-live-rows", "the result counts the pages", [row(owed=0)], 0)
