@@ -27,8 +27,9 @@ want() {
     fi
 }
 
-bin/build-shared >/dev/null && bin/build-docs >/dev/null || exit 1
-bin/package >"$work/said" || { cat "$work/said"; exit 1; }
+# shellcheck source=tests/fresh-packages.sh
+. tests/fresh-packages.sh
+fresh_packages >"$work/said" 2>&1 || { cat "$work/said"; exit 1; }
 version=$(bin/version)
 packages=$root/target/packages
 want 'checksums' "$(cd -- "$packages" && sha256sum --quiet -c SHA256SUMS 2>&1)" ''

@@ -22,8 +22,9 @@ work=$(mktemp -d) || exit 2
 trap 'rm -rf -- "$work"' EXIT
 # shellcheck source=tests/replay.sh
 . tests/replay.sh
-
-bin/build-shared >/dev/null && bin/build-docs >/dev/null && bin/package >"$work/said" || { cat "$work/said"; exit 1; }
+# shellcheck source=tests/fresh-packages.sh
+. tests/fresh-packages.sh
+fresh_packages >"$work/said" 2>&1 || { cat "$work/said"; exit 1; }
 
 # section FILE: the quick start of a file
 section() {

@@ -32,7 +32,9 @@ built build-program
 built build-docs
 [ ! -f "target/java/fantanolive-$(bin/version).jar" ] || built build-jar
 built package
-bin/build-docs >/dev/null && bin/package >"$work/out" 2>&1 || { cat "$work/out"; exit 1; }
+# shellcheck source=tests/fresh-packages.sh
+. tests/fresh-packages.sh
+fresh_packages >"$work/out" 2>&1 || { cat "$work/out"; exit 1; }
 if ! cmp target/program/fantanolive "$other/target/program/fantanolive"; then
     echo 'same-bytes: another folder gives another program (was bin/build-program run on this source?)'
     failed=yes
