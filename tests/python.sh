@@ -31,7 +31,7 @@ fi
 bin/build-wheel >/dev/null || exit 1
 wheel=$(echo target/wheel/fantanolive-"$(bin/version)"-*.whl)
 if python3 -m pip --version >/dev/null 2>&1; then
-    python3 -m pip install --quiet --no-index --no-deps --no-compile --disable-pip-version-check --root-user-action=ignore --target "$work/site" "$wheel" || exit 1
+    PIP_DISABLE_PIP_VERSION_CHECK=1 PIP_ROOT_USER_ACTION=ignore python3 -m pip install --quiet --no-index --no-deps --no-compile --target "$work/site" "$wheel" || exit 1
 else
     echo 'skipped: there is no pip; the wheel is unpacked'
     python3 -m zipfile -e "$wheel" "$work/site" || exit 1
