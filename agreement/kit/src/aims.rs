@@ -74,6 +74,11 @@ pub const SITUATIONS: &[Situation] = &[
     of("pages", "rows on both sides of being sound", near_row),
     of("pages", "every set of exclusions", every_set),
     of("add_cents", "rows on both sides of being sound", near_row),
+    of(
+        "add_cents",
+        "columns 197 to 200 on both sides of being blank",
+        near_blank,
+    ),
     of("post", "rows on both sides of being sound", near_row),
     of(
         "post",
@@ -282,6 +287,14 @@ fn near_row(rng: &mut Rng, case: &mut Case) {
     }
     let at = rng.below(rows) * ROW;
     touch_row(rng, &mut case.bytes_mut("master")[at..at + ROW]);
+}
+
+fn near_blank(rng: &mut Rng, case: &mut Case) {
+    let rows = row_count(case);
+    if rows > 0 {
+        let at = rng.below(rows) * ROW + 195 + rng.below(5);
+        case.bytes_mut("master")[at] = rng.pick(&[0x40, 0x40, 0x00, 0xF0, 0xC4]);
+    }
 }
 
 fn near_wanted(rng: &mut Rng, case: &mut Case) {

@@ -215,7 +215,11 @@ fn break_length(rng: &mut Rng, bytes: &mut Vec<u8>) {
 fn new_rows(case: &Case) -> usize {
     let rows = row_count(case);
     let master = case.bytes("master");
-    let keys: Vec<&[u8]> = master.chunks(ROW).take(rows).map(|row| &row[..12]).collect();
+    let keys: Vec<&[u8]> = master
+        .chunks(ROW)
+        .take(rows)
+        .map(|row| &row[..12])
+        .collect();
     let is_new = |record: &&[u8]| {
         let key = [&record[..2], &record[5..14], &record[73..74]].concat();
         record[72] == 0xC1 && !keys.contains(&&key[..])
@@ -601,7 +605,11 @@ pub fn wide_amounts(rng: &mut Rng, case: &mut Case) {
     put(&mut detail, 65, &[0xF9; 8]);
     // 1,000 such amounts are 99,999,999,000; what is missing to eleven digits is 999
     let mut last = detail;
-    put(&mut last, 65, &digits(rng.pick(&[999, 1000, 1000, 1001]), 8));
+    put(
+        &mut last,
+        65,
+        &digits(rng.pick(&[999, 1000, 1000, 1001]), 8),
+    );
     for name in ["first", "second"] {
         let mut details = vec![detail; if name == "first" { 500 } else { count - 1 }];
         details.push(last);

@@ -72,7 +72,9 @@ impl Engine for Linked {
     fn run_limit(&mut self, place: usize) -> Option<Result<limits::Outcome, String>> {
         let limit = &limits::limits()[place];
         // SAFETY: what `new` asks for.
-        Some(Ok(unsafe { limits::run(self.functions[limit.call], limit) }))
+        Some(Ok(unsafe {
+            limits::run(self.functions[limit.call], limit)
+        }))
     }
 }
 
@@ -264,7 +266,9 @@ impl Engine for Remote {
             let deadline = Instant::now() + LIMIT_TIME;
             let sent = system::write_until(process.input, &frame::of_limit(place), deadline);
             sent.map_err(|error| process.words(&error))?;
-            let bytes = process.frame(deadline).map_err(|error| process.words(&error))?;
+            let bytes = process
+                .frame(deadline)
+                .map_err(|error| process.words(&error))?;
             let outcome = frame::limit_outcome_in(&bytes);
             outcome.ok_or_else(|| "it answered bytes of another form".to_string())
         });

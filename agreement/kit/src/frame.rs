@@ -45,14 +45,19 @@ pub fn of_limit(place: usize) -> Vec<u8> {
 /// The place of a limit, where the frame is that of one.
 pub fn limit_in(mut bytes: &[u8]) -> Option<usize> {
     let rest = &mut bytes;
-    (take(rest)? == OF_LIMIT).then(|| take(rest))?.map(|place| place as usize)
+    (take(rest)? == OF_LIMIT)
+        .then(|| take(rest))?
+        .map(|place| place as usize)
 }
 
 pub fn of_limit_outcome(outcome: &limits::Outcome) -> Vec<u8> {
     let mut frame = Vec::new();
     put(&mut frame, outcome.answer);
     put(&mut frame, outcome.numbers.len() as u64);
-    outcome.numbers.iter().for_each(|&number| put(&mut frame, number));
+    outcome
+        .numbers
+        .iter()
+        .for_each(|&number| put(&mut frame, number));
     frame.extend(outcome.changed.join(",").bytes());
     with_length(frame)
 }

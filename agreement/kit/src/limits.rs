@@ -102,12 +102,20 @@ fn masters() -> Vec<Limit> {
         if spec.argument("master").is_none() {
             continue;
         }
-        for (rows, name) in [(MOST + 1, "a row too many"), (MOST, "as many rows as there can be, unsound")] {
+        for (rows, name) in [
+            (MOST + 1, "a row too many"),
+            (MOST, "as many rows as there can be, unsound"),
+        ] {
             let mut counts = vec![("rows", rows as u64)];
             if spec.argument("year").is_some() {
                 counts.push(("year", 2007));
             }
-            limits.push(limit(spec.name, name, vec![("master", zeros(MOST + 1, 200))], counts));
+            limits.push(limit(
+                spec.name,
+                name,
+                vec![("master", zeros(MOST + 1, 200))],
+                counts,
+            ));
         }
     }
     limits
@@ -116,16 +124,66 @@ fn masters() -> Vec<Limit> {
 fn files() -> Vec<Limit> {
     let year = || vec![("rows", 0), ("year", 2007)];
     vec![
-        limit("apply", "a record too many", vec![("batch", zeros(MOST + 2, RECORD))], year()),
-        limit("apply", "as many records as there can be, no CTL", vec![("batch", zeros(MOST + 1, RECORD))], year()),
-        limit("totals", "a record too many", vec![("batch", zeros(MOST + 2, RECORD))], vec![]),
-        limit("totals", "as many records as there can be", vec![("batch", zeros(MOST + 1, RECORD))], vec![]),
-        limit("merge", "a record too many", vec![("first", zeros(MOST + 2, RECORD))], vec![]),
-        limit("merge", "as many records as there can be, no CTL", vec![("first", zeros(MOST + 1, RECORD))], vec![]),
-        limit("post", "a record too many", vec![("file", zeros(MOST + 2, 240))], vec![("rows", 0)]),
-        limit("post", "as many records as there can be, no TOTAL", vec![("file", zeros(MOST + 1, 240))], vec![("rows", 0)]),
-        limit("contacts_update", "a record too many", vec![("file", zeros(MOST + 1, 220))], vec![("count", 0)]),
-        limit("contacts_update", "as many records as there can be, no list", vec![("file", zeros(MOST, 220))], vec![("count", 0)]),
+        limit(
+            "apply",
+            "a record too many",
+            vec![("batch", zeros(MOST + 2, RECORD))],
+            year(),
+        ),
+        limit(
+            "apply",
+            "as many records as there can be, no CTL",
+            vec![("batch", zeros(MOST + 1, RECORD))],
+            year(),
+        ),
+        limit(
+            "totals",
+            "a record too many",
+            vec![("batch", zeros(MOST + 2, RECORD))],
+            vec![],
+        ),
+        limit(
+            "totals",
+            "as many records as there can be",
+            vec![("batch", zeros(MOST + 1, RECORD))],
+            vec![],
+        ),
+        limit(
+            "merge",
+            "a record too many",
+            vec![("first", zeros(MOST + 2, RECORD))],
+            vec![],
+        ),
+        limit(
+            "merge",
+            "as many records as there can be, no CTL",
+            vec![("first", zeros(MOST + 1, RECORD))],
+            vec![],
+        ),
+        limit(
+            "post",
+            "a record too many",
+            vec![("file", zeros(MOST + 2, 240))],
+            vec![("rows", 0)],
+        ),
+        limit(
+            "post",
+            "as many records as there can be, no TOTAL",
+            vec![("file", zeros(MOST + 1, 240))],
+            vec![("rows", 0)],
+        ),
+        limit(
+            "contacts_update",
+            "a record too many",
+            vec![("file", zeros(MOST + 1, 220))],
+            vec![("count", 0)],
+        ),
+        limit(
+            "contacts_update",
+            "as many records as there can be, no list",
+            vec![("file", zeros(MOST, 220))],
+            vec![("count", 0)],
+        ),
     ]
 }
 
@@ -144,21 +202,36 @@ fn rooms() -> Vec<Limit> {
         limit("apply", name, buffers, vec![("rows", 1), ("year", 2007)])
     };
     let merged = |first: usize, name: &str| {
-        let buffers = vec![("first", batch(&change, first)), ("second", batch(&change, 1))];
+        let buffers = vec![
+            ("first", batch(&change, first)),
+            ("second", batch(&change, 1)),
+        ];
         limit("merge", name, buffers, vec![])
     };
     vec![
         with_row(MOST, "room for a row above the limit"),
-        with_row(MOST - 1, "room for as many rows as there can be, no verdicts"),
+        with_row(
+            MOST - 1,
+            "room for as many rows as there can be, no verdicts",
+        ),
         merged(MOST, "a detail too many together"),
-        merged(MOST - 1, "as many details as there can be together, no output"),
+        merged(
+            MOST - 1,
+            "as many details as there can be together, no output",
+        ),
     ]
 }
 
 /// All of them; both processes have the same list.
 pub fn limits() -> &'static [Limit] {
     static LIMITS: OnceLock<Vec<Limit>> = OnceLock::new();
-    LIMITS.get_or_init(|| masters().into_iter().chain(files()).chain(rooms()).collect())
+    LIMITS.get_or_init(|| {
+        masters()
+            .into_iter()
+            .chain(files())
+            .chain(rooms())
+            .collect()
+    })
 }
 
 /// Makes the call of one.
@@ -189,8 +262,13 @@ pub unsafe fn run(function: *const (), limit: &Limit) -> Outcome {
     }
     // SAFETY: the caller's.
     let answer = unsafe { system::call(function, &words) };
-    let changed = lent.iter().filter(|(_, wide, mapping)| !wide.is_whole(mapping));
-    let bytes: Vec<u8> = results.iter().flat_map(|number| number.to_le_bytes()).collect();
+    let changed = lent
+        .iter()
+        .filter(|(_, wide, mapping)| !wide.is_whole(mapping));
+    let bytes: Vec<u8> = results
+        .iter()
+        .flat_map(|number| number.to_le_bytes())
+        .collect();
     Outcome {
         answer,
         numbers: numbers_of(&bytes, 8),

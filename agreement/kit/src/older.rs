@@ -53,12 +53,15 @@ impl Older {
                 ours,
             });
         }
-        let is_large = |value: &Value| matches!(value, Value::Bytes(bytes) if bytes.len() > MOST * 132);
+        let is_large =
+            |value: &Value| matches!(value, Value::Bytes(bytes) if bytes.len() > MOST * 132);
         if ours.values.iter().any(is_large) {
             return None;
         }
         let has_batch = ours.has("batch") && ours.has("master");
-        if has_batch && (self.request < 7 && names_adm(&ours) || self.request < 3 && names_matter(&ours)) {
+        if has_batch
+            && (self.request < 7 && names_adm(&ours) || self.request < 3 && names_matter(&ours))
+        {
             return None;
         }
         if self.request < 6 && ours.has("master") {
@@ -131,7 +134,10 @@ fn details(case: &Case) -> usize {
 
 /// A list of 32-bit numbers as one of 16-bit numbers.
 fn narrowed(bytes: &[u8]) -> Vec<u8> {
-    let numbers: Vec<u64> = numbers_of(bytes, 4).iter().map(|number| number % 65_536).collect();
+    let numbers: Vec<u64> = numbers_of(bytes, 4)
+        .iter()
+        .map(|number| number % 65_536)
+        .collect();
     number_bytes(&numbers, 2)
 }
 
@@ -158,7 +164,10 @@ fn blank_cents(master: &mut [u8], rows: usize) {
 /// Page numbers of five digits.
 fn five_digits(pages: &mut [u8]) {
     let cases = generator::text::text("CASES ");
-    for line in pages.chunks_exact_mut(132).filter(|line| line[..6] == cases[..]) {
+    for line in pages
+        .chunks_exact_mut(132)
+        .filter(|line| line[..6] == cases[..])
+    {
         line.copy_within(7..12, 6);
         line[11] = 0x40;
     }

@@ -186,7 +186,9 @@ impl Running<'_, '_> {
                 return false;
             };
             let count = codes(&both.case, &both.wanted);
-            let is_same = both.difference.is_some_and(|difference| difference.kind == *kind);
+            let is_same = both
+                .difference
+                .is_some_and(|difference| difference.kind == *kind);
             if is_same && count <= most {
                 most = count;
             }
@@ -194,7 +196,8 @@ impl Running<'_, '_> {
         };
         let small = shrink(case, &mut keeps);
         let both = self.pair.run(&small);
-        both.and_then(|both| found(both, large.first)).unwrap_or(large)
+        both.and_then(|both| found(both, large.first))
+            .unwrap_or(large)
     }
 }
 

@@ -97,7 +97,9 @@ pub fn shrink(case: &Case, keeps: &mut dyn FnMut(&Case) -> bool) -> Case {
 /// A case with outputs as much shorter as so many records less ask for.
 fn fitted(case: &Case, name: &str, records: usize) -> Case {
     let outputs: &[(&str, usize)] = match (case.call().name, name) {
-        ("apply" | "apply_journaled", "batch") => &[("verdicts", 8), ("rejects", 245), ("journal", 205)],
+        ("apply" | "apply_journaled", "batch") => {
+            &[("verdicts", 8), ("rejects", 245), ("journal", 205)]
+        }
         ("merge", _) => &[("out", 245)],
         ("post", "file") => &[("lines", 4)],
         ("contacts_update", "file") => &[("faulty", 4)],

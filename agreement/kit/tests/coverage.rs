@@ -55,7 +55,11 @@ fn without() -> Vec<[String; 3]> {
     lines
         .map(|line| {
             let mut parts = line.splitn(3, " | ").map(str::to_string);
-            std::array::from_fn(|_| parts.next().unwrap_or_else(|| panic!("no-case.txt: {line}")))
+            std::array::from_fn(|_| {
+                parts
+                    .next()
+                    .unwrap_or_else(|| panic!("no-case.txt: {line}"))
+            })
         })
         .collect()
 }
@@ -73,8 +77,14 @@ fn every_sentence_has_a_case_or_a_reason() {
             .iter()
             .any(|[of, start, _]| *of == section && (start == "*" || words.starts_with(start)));
         let has_case = cited.contains(&words);
-        assert!(has_case || excused, "no case and no reason: {section} | {words}");
-        assert!(!(has_case && excused), "a case and a reason why none: {section} | {words}");
+        assert!(
+            has_case || excused,
+            "no case and no reason: {section} | {words}"
+        );
+        assert!(
+            !(has_case && excused),
+            "a case and a reason why none: {section} | {words}"
+        );
     }
 }
 
@@ -83,8 +93,16 @@ fn every_case_and_reason_names_a_sentence() {
     let known: BTreeSet<(String, String)> = known().into_iter().collect();
     let mut names = BTreeSet::new();
     for case in cases() {
-        assert!(!case.sentences.is_empty(), "{} names no sentence", case.name);
-        assert!(names.insert(case.name.clone()), "{} stands twice", case.name);
+        assert!(
+            !case.sentences.is_empty(),
+            "{} names no sentence",
+            case.name
+        );
+        assert!(
+            names.insert(case.name.clone()),
+            "{} stands twice",
+            case.name
+        );
         for sentence in &case.sentences {
             let parts: Vec<&str> = sentence.splitn(3, " | ").collect();
             let [document, section, words] = parts[..] else {
@@ -92,12 +110,18 @@ fn every_case_and_reason_names_a_sentence() {
             };
             let is_there = known.contains(&(section.to_string(), words.to_string()));
             assert!(is_there, "{}: no such sentence: {sentence}", case.name);
-            let wanted = if section.starts_with("item ") { "02" } else { "01" };
+            let wanted = if section.starts_with("item ") {
+                "02"
+            } else {
+                "01"
+            };
             assert_eq!(document, wanted, "{}", case.name);
         }
     }
     for [section, start, _] in without() {
-        let fits = |(of, words): &(String, String)| *of == section && (start == "*" || words.starts_with(&start));
+        let fits = |(of, words): &(String, String)| {
+            *of == section && (start == "*" || words.starts_with(&start))
+        };
         assert!(known.iter().any(fits), "no-case.txt: {section} | {start}");
     }
 }

@@ -4,8 +4,8 @@
 //!     faults PROGRAM [LABEL..]
 //!     faults --build LABEL LIBRARY
 //!
-//! Without labels all are planted; --build leaves the library with one fault. PROGRAM is the program fantanolive. For each fault a line: its label, how long `agree` took to
-//! find and shrink it, the details and rows of the largest difference told, and how many fixed cases find it.
+//! Without labels all are planted; --build leaves the library with one fault. PROGRAM is the program fantanolive. For each fault a line: its label, the processor time that `agree` took
+//! to find and shrink it, the details and rows of the largest difference told, and how many fixed cases find it.
 
 mod edit;
 
@@ -13,7 +13,6 @@ use std::env;
 use std::fs;
 use std::path::{Path, PathBuf};
 use std::process::{Command, ExitCode};
-use std::time::Instant;
 
 use edit::Edit;
 
@@ -28,6 +27,19 @@ const MOST_DETAILS: usize = 3;
 const MOST_ROWS: usize = 3;
 /// Of a hundred faults so many must be found by the fixed cases.
 const BY_CASES: usize = 95;
+
+extern "C" {
+    fn getrusage(whose: i32, usage: *mut [i64; 18]) -> i32;
+}
+
+/// The processor time of all processes that were started and have ended, in seconds.
+fn processor_seconds() -> f64 {
+    const CHILDREN: i32 = -1;
+    let mut usage = [0; 18];
+    // SAFETY: a struct rusage has two times of two numbers, then fourteen numbers.
+    unsafe { getrusage(CHILDREN, &mut usage) };
+    (usage[0] + usage[2]) as f64 + (usage[1] + usage[3]) as f64 / 1e6
+}
 
 fn root() -> PathBuf {
     Path::new(env!("CARGO_MANIFEST_DIR")).join("../../..")
@@ -124,7 +136,7 @@ fn agree(program: &Path, library: &Path, options: &[&str]) -> Result<(i32, Strin
 }
 
 fn find(program: &Path, library: &Path) -> Result<Found, String> {
-    let start = Instant::now();
+    let start = processor_seconds();
     let mut json = String::new();
     for options in ROUNDS {
         let (code, text) = agree(program, library, options)?;
@@ -133,7 +145,7 @@ fn find(program: &Path, library: &Path) -> Result<Found, String> {
             break;
         }
     }
-    let seconds = start.elapsed().as_secs_f64();
+    let seconds = processor_seconds() - start;
     let differences = json.split("\"seen\":").next().unwrap_or_default();
     let cases = root().join("agreement/cases");
     let by_cases = match cases.is_dir() {
