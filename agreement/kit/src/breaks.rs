@@ -358,6 +358,39 @@ fn break_character(rng: &mut Rng, case: &mut Case) {
     }
 }
 
+/// Puts a text at the start or at the end of a field of 35 columns, blank otherwise.
+fn place_text(rng: &mut Rng, record: &mut [u8], column: usize, text: &str) {
+    record[column - 1..column + 34].fill(0x40);
+    let last = 36 - text.len();
+    put_text(record, column - 1 + rng.pick(&[1, 1, last]), text);
+}
+
+/// An agency name with or without what it must contain.
+fn touch_agency(rng: &mut Rng, record: &mut [u8]) {
+    let names = [
+        "CHILD SUPPORT",
+        "FAMILY SUPPORT",
+        "CHILD  SUPPORT",
+        "CHILDSUPPORT",
+        "XFAMILY SUPPORTX",
+        "CHILD SUPPOR",
+        "FAMILY CHILD",
+        "IRS CHILD SUPPORT",
+        "FIRST CHILD SUPPORT",
+    ];
+    let name = rng.pick(&names);
+    place_text(rng, record, 42, name);
+}
+
+/// An address line with a run of letters that is IRS or FMS, or nearly.
+fn touch_line(rng: &mut Rng, record: &mut [u8]) {
+    let texts = [
+        "IRS", "FMS", "FIRST", "IRS1", "(FMS)", "AIRS", "IRSA", "I RS",
+    ];
+    let (column, text) = (rng.pick(&[77, 112, 147, 182]), rng.pick(&texts));
+    place_text(rng, record, column, text);
+}
+
 /// A contact record that is faulty by one rule, or just not.
 pub fn touch_contact(rng: &mut Rng, record: &mut [u8]) {
     match rng.below(14) {
@@ -379,32 +412,8 @@ pub fn touch_contact(rng: &mut Rng, record: &mut [u8]) {
             38,
             rng.pick(&["    ", "1   ", "1234", " 1  ", "1 2 ", "A   ", "12A "]),
         ),
-        6 | 7 => {
-            record[41..76].fill(0x40);
-            let names = [
-                "CHILD SUPPORT",
-                "FAMILY SUPPORT",
-                "CHILD  SUPPORT",
-                "CHILDSUPPORT",
-                "XFAMILY SUPPORTX",
-                "CHILD SUPPOR",
-                "FAMILY CHILD",
-                "IRS CHILD SUPPORT",
-                "FIRST CHILD SUPPORT",
-            ];
-            let name = rng.pick(&names);
-            let last = 36 - name.len();
-            put_text(record, 41 + rng.pick(&[1, 1, last]), name);
-        }
-        8 | 9 => {
-            let column = rng.pick(&[77, 112, 147, 182]);
-            record[column - 1..column + 34].fill(0x40);
-            let text = rng.pick(&[
-                "IRS", "FMS", "FIRST", "IRS1", "(FMS)", "AIRS", "IRSA", "I RS",
-            ]);
-            let last = 36 - text.len();
-            put_text(record, column - 1 + rng.pick(&[1, 1, last]), text);
-        }
+        6 | 7 => touch_agency(rng, record),
+        8 | 9 => touch_line(rng, record),
         10 => {
             record[76..181].fill(0x40);
             record[rng.pick(&[75, 76, 110, 145, 146, 180, 181])] = 0xE7;

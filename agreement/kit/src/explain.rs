@@ -340,6 +340,31 @@ fn of_codes(codes: &[u32], sets: [u64; 2], starts: &mut Vec<&'static str>) {
     }
 }
 
+/// Sentences on a row that a batch left: those of the type of its key's last detail.
+fn of_row(case: &Case, ours: &Outcome, offset: usize, name: &str, starts: &mut Vec<&'static str>) {
+    let master = ours.bytes(case, "master");
+    let row = offset / 200 * 200;
+    let key = master.get(row..row + 12);
+    match key.and_then(|key| type_under(case, key)) {
+        Some(b'A') => starts.extend(field("type A", name)),
+        Some(kind) => {
+            let own = TYPES.iter().find(|(one, _)| *one == kind);
+            starts.extend(own.map(|(_, start)| *start));
+        }
+        None => starts.extend(field(case.call().name, name)),
+    }
+    if name.contains("Cents") {
+        starts.push("A, D and M set the cents");
+    }
+}
+
+/// Whether a byte is one that ours kept.
+fn is_kept(case: &Case, ours: &Outcome, argument: usize, offset: usize) -> bool {
+    let before = crate::case::bytes_of(&case.values[argument]);
+    let after = ours.after(case, argument);
+    case.call().arguments[argument].is_written() && before.get(offset) == after.get(offset)
+}
+
 /// The sentences at stake where two engines part.
 pub fn explain(
     case: &Case,
@@ -347,7 +372,7 @@ pub fn explain(
     ours: &Outcome,
     theirs: &Answered,
 ) -> Vec<&'static Sentence> {
-    let call = case.call().name;
+    let (call, name) = (case.call().name, &difference.kind.field);
     let mut starts: Vec<&'static str> = Vec::new();
     match &difference.at {
         Where::Failure(_) => starts.push("1. the outcome of each public call"),
@@ -364,45 +389,16 @@ pub fn explain(
             };
             of_codes(codes, [set(ours), other], &mut starts);
         }
-        Where::Byte {
-            argument, offset, ..
-        } if case.call().arguments[*argument].name() == "master" && case.has("batch") => {
-            let master = ours.bytes(case, "master");
-            let row = offset / 200 * 200;
-            let kind = master
-                .get(row..row + 12)
-                .and_then(|key| type_under(case, key));
-            let name = &difference.kind.field;
-            match kind {
-                Some(b'A') => starts.extend(field("type A", name)),
-                Some(kind) => {
-                    starts.extend(
-                        TYPES
-                            .iter()
-                            .find(|(one, _)| *one == kind)
-                            .map(|(_, start)| *start),
-                    );
-                }
-                None => starts.extend(field(call, name)),
-            }
-            if name.contains("Cents") {
-                starts.push("A, D and M set the cents");
-            }
+        Where::Byte { offset, .. } if name.starts_with("master ") && case.has("batch") => {
+            of_row(case, ours, *offset, name, &mut starts);
         }
-        Where::Byte { .. } | Where::Number { .. } => {
-            starts.extend(field(call, &difference.kind.field))
-        }
+        Where::Byte { .. } | Where::Number { .. } => starts.extend(field(call, name)),
     }
     if let Where::Byte {
         argument, offset, ..
     } = difference.at
     {
-        let kept = crate::case::bytes_of(&case.values[argument])
-            .get(offset)
-            .copied();
-        if kept == ours.after(case, argument).get(offset).copied()
-            && case.call().arguments[argument].is_written()
-        {
+        if is_kept(case, ours, argument, offset) {
             starts.push("bytes past the last row");
         }
     }

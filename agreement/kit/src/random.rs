@@ -119,76 +119,90 @@ fn second(typed: generator::Case) -> Case {
     }
 }
 
+fn journaled(rng: &mut Rng) -> Case {
+    let typed = journaled_case(rng);
+    let mut numbers = typed.apply.result.to_vec();
+    numbers.push(typed.length);
+    let mut values = apply_values(typed.apply);
+    values.extend([bytes(typed.journal), Value::Result(numbers)]);
+    case("apply_journaled", values)
+}
+
+fn taken_back(rng: &mut Rng) -> Case {
+    let typed = wild_take_back(rng);
+    let values = vec![
+        bytes(typed.master),
+        count(typed.rows),
+        bytes(typed.journal),
+        Value::Result(vec![typed.rows_after]),
+    ];
+    case("take_back", values)
+}
+
+fn many(rng: &mut Rng) -> Case {
+    let typed = many_case(rng);
+    let values = vec![
+        bytes(typed.master),
+        count(typed.rows),
+        bytes(typed.keys),
+        list32(&typed.places),
+        Value::Result(vec![typed.comparisons]),
+    ];
+    case("find_many", values)
+}
+
+fn merged(rng: &mut Rng) -> Case {
+    let typed = merge_case(rng);
+    let values = vec![
+        bytes(typed.first),
+        bytes(typed.second),
+        bytes(typed.out),
+        Value::Result(vec![typed.records]),
+    ];
+    case("merge", values)
+}
+
+fn printed(rng: &mut Rng) -> Case {
+    let typed = pages_case(rng);
+    let values = vec![
+        bytes(typed.master),
+        count(typed.rows),
+        bytes(typed.out),
+        Value::Result(vec![typed.pages]),
+    ];
+    case("pages", values)
+}
+
+fn led(rng: &mut Rng) -> Case {
+    let typed = records_to_case(rng);
+    let values = vec![
+        bytes(typed.row),
+        bytes(typed.wanted),
+        bytes(typed.list),
+        bytes(typed.out),
+        Value::Result(vec![typed.records]),
+    ];
+    case("records_to", values)
+}
+
+fn totalled(rng: &mut Rng) -> Case {
+    let batch = totals_case(rng);
+    let totals = Value::Result(vec![rng.number(); 4]);
+    case("totals", vec![bytes(batch), totals])
+}
+
+/// A random case of one of the later calls.
 fn later(rng: &mut Rng) -> Case {
-    match rng.below(7) {
-        0 => {
-            let typed = journaled_case(rng);
-            let mut numbers = typed.apply.result.to_vec();
-            numbers.push(typed.length);
-            let mut values = apply_values(typed.apply);
-            values.extend([bytes(typed.journal), Value::Result(numbers)]);
-            case("apply_journaled", values)
-        }
-        1 => {
-            let typed = wild_take_back(rng);
-            let rows_after = Value::Result(vec![typed.rows_after]);
-            let journal = bytes(typed.journal);
-            let master = bytes(typed.master);
-            case(
-                "take_back",
-                vec![master, count(typed.rows), journal, rows_after],
-            )
-        }
-        2 => {
-            let typed = many_case(rng);
-            let values = vec![
-                bytes(typed.master),
-                count(typed.rows),
-                bytes(typed.keys),
-                list32(&typed.places),
-                Value::Result(vec![typed.comparisons]),
-            ];
-            case("find_many", values)
-        }
-        3 => {
-            let typed = merge_case(rng);
-            let records = Value::Result(vec![typed.records]);
-            let batches = [bytes(typed.first), bytes(typed.second)];
-            let [first, second] = batches;
-            case("merge", vec![first, second, bytes(typed.out), records])
-        }
-        4 => {
-            let typed = pages_case(rng);
-            let pages = Value::Result(vec![typed.pages]);
-            case(
-                "pages",
-                vec![
-                    bytes(typed.master),
-                    count(typed.rows),
-                    bytes(typed.out),
-                    pages,
-                ],
-            )
-        }
-        5 => {
-            let typed = records_to_case(rng);
-            let values = vec![
-                bytes(typed.row),
-                bytes(typed.wanted),
-                bytes(typed.list),
-                bytes(typed.out),
-                Value::Result(vec![typed.records]),
-            ];
-            case("records_to", values)
-        }
-        _ => {
-            let batch = totals_case(rng);
-            case(
-                "totals",
-                vec![bytes(batch), Value::Result(vec![rng.number(); 4])],
-            )
-        }
-    }
+    let make = rng.pick(&[
+        journaled as fn(&mut Rng) -> Case,
+        taken_back,
+        many,
+        merged,
+        printed,
+        led,
+        totalled,
+    ]);
+    make(rng)
 }
 
 /// A random case of any call: mostly carried out, else damaged, now and then wild or large.
