@@ -57,8 +57,8 @@ pub fn of_command(command: &Command) -> String {
 pub fn of_program() -> String {
     let mut text = String::from(
         "usage: fantanolive COMMAND ..\n\n\
-         Keeps a state's copy of the federal offset case master: the calls of the\n\
-         Fantanolive library over whole files.\n\ncommands:\n",
+         Keeps a state's copy of the federal offset case master: checks and applies\n\
+         batches, posts collections, reconciles, and says what is wrong.\n\ncommands:\n",
     );
     for command in COMMANDS {
         text += &format!("  {:<10} {}\n", command.name, command.purpose);

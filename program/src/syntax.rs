@@ -820,7 +820,7 @@ Status 1 means that they part, 3 that it could not be run.",
         read: &[],
         made: &[],
         help: "\
-Prints what is wrong, where, and how to mend it. Refusals are the numbers of
+Prints what is wrong, where, and how to fix it. Refusals are the numbers of
 whole calls; codes, 1 to 18 (errors), 51 and 52 (warnings), those of a record.",
         statuses: &[Status::Done, Status::Problem],
         run: commands::explain::run,

@@ -14,6 +14,7 @@ pub mod listed;
 pub mod listing;
 pub mod notes;
 pub mod problem;
+pub mod refusal_words;
 pub mod screen;
 pub mod sheet;
 pub mod ssn_fault;

@@ -2,10 +2,11 @@
 
 use std::io::{self, Write};
 
-use fantanolive::{Text, VERSION};
+use fantanolive::{Refusal, Text, VERSION};
 
 use crate::failure::{words, Failure, Status};
 use crate::report::json::Json;
+use crate::report::refusal_words::words_of;
 use crate::report::screen::{report_output, Screen, Style};
 use crate::report::summary::schema_of;
 use crate::terminal;
@@ -30,8 +31,20 @@ pub fn print(command: &str, failure: &Failure, form: Form) {
 
 /// The words of a refusal or code, indented below its first line.
 pub fn put_words<W: Write>(screen: &mut Screen<W>, text: &Text) -> io::Result<()> {
-    screen.wrapped(Style::Plain, "  where: ", text.location, 9)?;
-    screen.wrapped(Style::Plain, "  mend:  ", text.mend, 9)
+    put_both(screen, text.location, text.mend)
+}
+
+fn put_both<W: Write>(screen: &mut Screen<W>, location: &str, fix: &str) -> io::Result<()> {
+    screen.wrapped(Style::Plain, "  where:  ", location, 10)?;
+    screen.wrapped(Style::Plain, "  to fix: ", fix, 10)
+}
+
+/// The words of a refusal for someone who runs the program.
+fn words_for(refusal: Refusal) -> (&'static str, &'static str) {
+    match words_of(refusal) {
+        Some(words) => (words.location, words.fix),
+        None => (refusal.text().location, refusal.text().mend),
+    }
 }
 
 /// The members of an object for the words of a refusal or code, behind its number.
@@ -52,7 +65,8 @@ fn print_text(command: &str, failure: &Failure, full: bool) -> io::Result<()> {
     match failure {
         Failure::Refused { refusal, notes } => {
             screen.wrapped(Style::Error, &start, &refusal.to_string(), 2)?;
-            put_words(&mut screen, refusal.text())?;
+            let (location, fix) = words_for(*refusal);
+            put_both(&mut screen, location, fix)?;
             put_notes(&mut screen, notes)
         }
         other => {
@@ -110,7 +124,10 @@ fn print_json(command: &str, failure: &Failure, form: Form) -> io::Result<()> {
             json.text_of("outcome", outcome(failure.status()))?;
             json.number_of("status", failure.status() as u64)?;
             json.number_of("refusal", refusal.number())?;
-            put_json_words(&mut json, refusal.text())?;
+            let (location, fix) = words_for(*refusal);
+            json.text_of("wrong", refusal.text().wrong)?;
+            json.text_of("where", location)?;
+            json.text_of("mend", fix)?;
             put_json_notes(&mut json, notes)?;
         }
         other => {
