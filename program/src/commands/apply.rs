@@ -2,7 +2,7 @@
 
 use std::path::Path;
 
-use fantanolive::{journal_size, Counts, Refusal, ERRORS, MAX_ROWS, RECORD, ROW};
+use fantanolive::{journal_size, Counts, Refusal, ERRORS, RECORD, ROW};
 
 use crate::arguments::Arguments;
 use crate::code_page::{convert, Charset};
@@ -21,6 +21,7 @@ use crate::progress::Progress;
 use crate::records::columns::control;
 use crate::records::field::{Form, Placeholder};
 use crate::records::kinds::{BATCH, LOCALS};
+use crate::records::room::{adds_in, nearly_full, note_of};
 use crate::report::html::Page;
 use crate::report::listing::Listing;
 use crate::report::summary::Summary;
@@ -233,18 +234,16 @@ fn notes_of(
         Refusal::WrongLocals => notes::of_locals(locals),
         Refusal::WrongMaster => length::of_length(master),
         Refusal::UnsoundRow => notes::of_rows(master, rows, full),
-        Refusal::NoRoom => vec![format!(
-            "{}: {}, and a master may have {}",
-            master.name(),
-            counted(rows as u64, "row"),
-            counted(MAX_ROWS as u64, "row")
-        )],
+        Refusal::NoRoom => {
+            let adds = adds_in(&batch.bytes[..batch.bytes.len() - RECORD]);
+            vec![note_of(&master.name(), rows as u64, adds)]
+        }
         _ => batch_notes::of_batch(refusal, batch),
     }
 }
 
 /// What a person wants to know first of a batch.
-fn verdict_of(command: &str, to_fix: u64, warned: u64) -> String {
+fn verdict_of(command: &str, to_fix: u64, counts: &Counts) -> String {
     let records = |count| counted(count, "record");
     let words = match (command, to_fix) {
         ("check", 0) => "ready to send".to_string(),
@@ -252,10 +251,12 @@ fn verdict_of(command: &str, to_fix: u64, warned: u64) -> String {
         (_, 0) => "carried out, no record rejected".to_string(),
         _ => format!("carried out, {} rejected", records(to_fix)),
     };
-    match warned {
-        0 => words,
-        _ => format!("{words}, {} with a warning", records(warned)),
-    }
+    let warned = match counts.warned {
+        0 => String::new(),
+        warned => format!(", {} with a warning", records(warned)),
+    };
+    let free = nearly_full(counts.rows).map(|free| format!(", {} free", counted(free, "row")));
+    format!("{words}{warned}{}", free.unwrap_or_default())
 }
 
 impl Judged {
@@ -264,7 +265,7 @@ impl Judged {
         let form = Form::new(Charset::Ebcdic, Placeholder::Dot, false);
         let last = self.batch.last().unwrap_or_default();
         let mut summary = Summary::new(command, Status::of_rejects(to_fix > 0))
-            .verdict(verdict_of(command, to_fix, self.counts.warned))
+            .verdict(verdict_of(command, to_fix, &self.counts))
             .text("state", form.field(&control::STATE, last))
             .number("details", self.verdicts.len() as u64)
             .of_which("accepted", self.counts.accepted)
@@ -282,6 +283,10 @@ impl Judged {
         let summary = summary
             .number("rows before", self.rows_before as u64)
             .number("rows", self.counts.rows);
+        let summary = match nearly_full(self.counts.rows) {
+            Some(free) => summary.number("rows free", free),
+            None => summary,
+        };
         match &self.journal {
             Some(journal) => summary.number("journal bytes", journal.len() as u64),
             None => summary,

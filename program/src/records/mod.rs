@@ -18,5 +18,6 @@ pub mod made_up_case;
 pub mod money;
 pub mod name_changes;
 pub mod posting;
+pub mod room;
 pub mod selection;
 pub mod towards_here;
