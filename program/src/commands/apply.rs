@@ -315,7 +315,10 @@ fn stage_reports(
     let listing = &Listing::of(arguments)?;
     let page = Page {
         about: report_files::about(arguments, &shown(arguments.path(1))),
-        chart: ("Codes", chart_of(verdicts)),
+        chart: (
+            "Codes",
+            report_files::chart(arguments, || chart_of(verdicts)),
+        ),
         notes: Vec::new(),
         list: &VerdictsSheet { verdicts, listing },
         full: arguments.flag("--full"),

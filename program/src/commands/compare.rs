@@ -9,10 +9,11 @@ use crate::commands::master::{notes_of, read_master};
 use crate::commands::output::{form_of, print};
 use crate::commands::records::to_charset;
 use crate::commands::report_files::{self, with_reports};
-use crate::failure::{counted, Failure, Status};
+use crate::failure::{counted, shown, Failure, Status};
 use crate::files::length;
 use crate::files::outputs::{Outputs, Wanted};
 use crate::files::read::{read, Input};
+use crate::files::replace::Staged;
 use crate::memory::zeros;
 use crate::progress::Progress;
 use crate::records::compared::{key_of, Compared, Found, Key};
@@ -23,7 +24,7 @@ use crate::records::towards_here::records_for;
 use crate::report::comparison::{chart_of, Comparison};
 use crate::report::html::Page;
 use crate::report::listing::Listing;
-use crate::report::notes::{of_last_record, refused};
+use crate::report::notes::{of_last_record, of_locals, refused};
 use crate::report::summary::Summary;
 
 /// A date; REC records have none of it.
@@ -56,25 +57,10 @@ pub fn run(arguments: &Arguments, progress: &Progress) -> Result<Status, Failure
         summary = made.counted(summary);
         batch = made.batch(arguments, charset)?;
     }
-    let mut staged = Vec::new();
+    let mut staged = stage_reports(&outputs, arguments, progress, &summary, &compared)?;
     if arguments.flag("--records") {
         staged.push(outputs.stage_records("--records", progress, &batch, RECORD)?);
     }
-    let of_files = Form::new(Charset::Ebcdic, Placeholder::Dot, arguments.flag("--full"));
-    let page = Page {
-        about: report_files::about(arguments, &received.name()),
-        chart: ("Fields that differ", chart_of(&compared)),
-        notes: Vec::new(),
-        list: &Comparison {
-            compared: &compared,
-            form: of_files,
-            listing: &listing,
-        },
-        full: arguments.flag("--full"),
-    };
-    staged.extend(report_files::stage(
-        &outputs, arguments, progress, &summary, &page,
-    )?);
     let summary = summary.placed(outputs.put_in_place(staged)?);
     let comparison = Comparison {
         compared: &compared,
@@ -88,6 +74,34 @@ pub fn run(arguments: &Arguments, progress: &Progress) -> Result<Status, Failure
         |screen| comparison.put_text(screen),
         |json| comparison.put_json(json),
     )
+}
+
+/// Writes the reports that are asked for.
+fn stage_reports<'a>(
+    outputs: &Outputs,
+    arguments: &Arguments,
+    progress: &Progress,
+    summary: &Summary,
+    compared: &Compared,
+) -> Result<Vec<Staged<'a>>, Failure> {
+    let full = arguments.flag("--full");
+    let comparison = Comparison {
+        compared,
+        form: Form::new(Charset::Ebcdic, Placeholder::Dot, full),
+        listing: &Listing::of(arguments)?,
+    };
+    let page = Page {
+        about: report_files::about(arguments, &shown(arguments.path(1))),
+        chart: (
+            "Fields that differ",
+            report_files::chart(arguments, || chart_of(compared)),
+        ),
+        notes: Vec::new(),
+        list: &comparison,
+        full,
+    };
+    let staged = report_files::stage(outputs, arguments, progress, summary, &page)?;
+    Ok(staged)
 }
 
 /// The file that was received: records of 245 bytes, an RCT record last.
@@ -161,6 +175,34 @@ fn summary_of(arguments: &Arguments, compared: &Compared) -> Summary {
         )
 }
 
+/// The cases there that differ or are not here, by the numbers of their records, each with the place of its row in the master; those
+/// without a row are left out.
+fn rows_of(compared: &Compared, master: &Input) -> Result<Vec<(usize, u32)>, Failure> {
+    let case = |found: &Found| match *found {
+        Found::Differs(_, there) | Found::OnlyThere(there) => {
+            let key = key_of(compared.there(there));
+            let is_sound = find(&[], 0, &key) != Err(Refusal::UnsoundKey);
+            is_sound.then_some((key, there))
+        }
+        _ => None,
+    };
+    let cases: Vec<(Key, usize)> = compared.found.iter().filter_map(case).collect();
+    let keys: Vec<Key> = cases.iter().map(|(key, _)| *key).collect();
+    let mut places = zeros(keys.len())?;
+    // the master was sound a moment ago, and the keys rise
+    let _ = find_many(
+        &master.bytes,
+        master.records(),
+        keys.as_flattened(),
+        &mut places,
+    );
+    let rows = cases.into_iter().zip(places);
+    let in_master = rows.filter(|(_, place)| *place != NO_PLACE);
+    Ok(in_master
+        .map(|((_, there), place)| (there, place))
+        .collect())
+}
+
 /// The records that lead the other side to the master.
 struct Made {
     details: Vec<u8>,
@@ -176,29 +218,7 @@ impl Made {
             with: 0,
             without: 0,
         };
-        let cases: Vec<(Key, usize)> = compared
-            .found
-            .iter()
-            .filter_map(|found| match *found {
-                Found::Differs(_, there) | Found::OnlyThere(there) => {
-                    Some((key_of(compared.there(there)), there))
-                }
-                _ => None,
-            })
-            .collect();
-        let is_sound = |case: &&(Key, usize)| find(&[], 0, &case.0) != Err(Refusal::UnsoundKey);
-        let keys: Vec<Key> = cases.iter().filter(is_sound).map(|case| case.0).collect();
-        let mut places = zeros(keys.len())?;
-        // the master was sound a moment ago, and the keys rise
-        let _ = find_many(
-            &master.bytes,
-            master.records(),
-            keys.as_flattened(),
-            &mut places,
-        );
-        let sound = cases.iter().filter(is_sound).zip(places);
-        let in_master = sound.filter(|(_, place)| *place != NO_PLACE);
-        for (&(_, there), place) in in_master {
+        for (there, place) in rows_of(compared, master)? {
             let row = master.record(place as usize);
             match records_for(compared.there(there), row, &locals.bytes) {
                 Ok(records) if !records.is_empty() => {
@@ -206,8 +226,7 @@ impl Made {
                     made.with += 1;
                 }
                 Err(Refusal::WrongLocals) => {
-                    let notes = crate::report::notes::of_locals(locals);
-                    return Err(refused(Refusal::WrongLocals, notes));
+                    return Err(refused(Refusal::WrongLocals, of_locals(locals)));
                 }
                 _ => {}
             }

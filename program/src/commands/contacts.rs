@@ -1,6 +1,6 @@
 //! contacts: a contact file read into a table of contact records.
 
-use fantanolive::{Refusal, CONTACT};
+use fantanolive::{ContactCounts, Refusal, CONTACT};
 
 use crate::arguments::Arguments;
 use crate::code_page::Charset;
@@ -57,25 +57,17 @@ pub fn run(arguments: &Arguments, progress: &Progress) -> Result<Status, Failure
         .map_err(|refusal| notes::refused(refusal, notes_of(refusal, &table, &file)))?;
     list.truncate(counts.faulty as usize);
     let records = &table.bytes[..counts.contacts as usize * CONTACT];
-    let summary = Summary::new("contacts", Status::of_rejects(counts.faulty > 0))
-        .verdict(match counts.faulty {
-            0 => "carried out, no record faulty".to_string(),
-            faulty => format!("carried out, {} faulty", counted(faulty, "record")),
-        })
-        .number("records read", sent as u64)
-        .of_which("good", sent as u64 - counts.faulty)
-        .of_which("faulty", counts.faulty)
-        .number("table before", before as u64)
-        .number("table", counts.contacts);
+    let summary = summary_of(&counts, sent as u64, before as u64);
     let form = form_of(arguments, Charset::Ebcdic);
     let reason = |_, record: &[u8]| reason_of(&form, record);
     let listed = Listed {
         most_in_files: listing.most_in_files,
         ..faulty(arguments, &list, &file, &reason)
     };
+    let chart = report_files::chart(arguments, || chart_of(&list, &file));
     let page = Page {
         about: report_files::about(arguments, &file.name()),
-        chart: ("Wrong fields", chart_of(&list, &file)),
+        chart: ("Wrong fields", chart),
         notes: listed.notes.clone(),
         list: &listed,
         full: arguments.flag("--full"),
@@ -90,6 +82,19 @@ pub fn run(arguments: &Arguments, progress: &Progress) -> Result<Status, Failure
         |screen| listed.put_text(screen, &listing),
         |json| listed.put_json(json, &listing),
     )
+}
+
+fn summary_of(counts: &ContactCounts, sent: u64, before: u64) -> Summary {
+    Summary::new("contacts", Status::of_rejects(counts.faulty > 0))
+        .verdict(match counts.faulty {
+            0 => "carried out, no record faulty".to_string(),
+            faulty => format!("carried out, {} faulty", counted(faulty, "record")),
+        })
+        .number("records read", sent)
+        .of_which("good", sent - counts.faulty)
+        .of_which("faulty", counts.faulty)
+        .number("table before", before)
+        .number("table", counts.contacts)
 }
 
 /// Reads the table with room for so many new records; with --new there is none to read.

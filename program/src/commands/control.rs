@@ -33,11 +33,36 @@ pub fn run(arguments: &Arguments, progress: &Progress) -> Result<Status, Failure
         return Err(refused(Refusal::WrongBatch, notes));
     }
     let (wrong, notes) = what_is_wrong(&batch);
+    let summary = put_right(arguments, &mut batch)?.verdict(wrong);
+    if charset.is_ascii() {
+        // the batch came from ASCII, and a control record is text
+        let _ = convert(&mut batch.bytes, charset);
+    }
+    let staged = vec![outputs.stage_records("--out", progress, &batch.bytes, RECORD)?];
+    let summary = summary.placed(outputs.put_in_place(staged)?);
+    print(
+        arguments,
+        progress,
+        &summary,
+        |screen| {
+            let mut notes = notes.iter();
+            notes.try_for_each(|note| screen.wrapped(Style::Plain, "  ", note, 4))
+        },
+        |json| {
+            json.name("notes")?;
+            json.begin_array()?;
+            notes.iter().try_for_each(|note| json.text(note))?;
+            json.end_array()
+        },
+    )
+}
+
+/// Gives a batch the control record that its details ask for, in the place of the one that is there or behind them.
+fn put_right(arguments: &Arguments, batch: &mut Input) -> Result<Summary, Failure> {
     let form = Form::new(Charset::Ebcdic, Placeholder::Dot, false);
-    let has_one = batch
-        .last()
-        .is_some_and(|last| BATCH.marked(last, &form).is_some());
-    let state = state_of(arguments, &batch, has_one)?;
+    let is_marked = |last: &[u8]| BATCH.marked(last, &form).is_some();
+    let has_one = batch.last().is_some_and(is_marked);
+    let state = state_of(arguments, batch, has_one)?;
     if !has_one {
         batch.bytes.extend(argument(&[b' '; RECORD]));
     }
@@ -52,34 +77,12 @@ pub fn run(arguments: &Arguments, progress: &Progress) -> Result<Status, Failure
         return Err(refused(refusal, Vec::new()));
     }
     let mut summary = Summary::new("control", Status::Done)
-        .verdict(wrong)
         .text("state", form.field(&control::STATE, &record))
         .number("details", (details / RECORD) as u64);
     for (field, total) in fields_of(&totals) {
         summary = summary.number(field.name, total);
     }
-    if charset.is_ascii() {
-        // the batch came from ASCII, and a control record is text
-        let _ = convert(&mut batch.bytes, charset);
-    }
-    let staged = vec![outputs.stage_records("--out", progress, &batch.bytes, RECORD)?];
-    let summary = summary.placed(outputs.put_in_place(staged)?);
-    print(
-        arguments,
-        progress,
-        &summary,
-        |screen| {
-            notes
-                .iter()
-                .try_for_each(|note| screen.wrapped(Style::Plain, "  ", note, 4))
-        },
-        |json| {
-            json.name("notes")?;
-            json.begin_array()?;
-            notes.iter().try_for_each(|note| json.text(note))?;
-            json.end_array()
-        },
-    )
+    Ok(summary)
 }
 
 /// What the library says of the batch as it is, and what is known of it.

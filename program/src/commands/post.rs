@@ -231,7 +231,10 @@ impl Posted {
         let listed = self.listed(arguments, &Listing::of(arguments)?, &why);
         let page = Page {
             about: report_files::about(arguments, &self.file.name()),
-            chart: ("Lines not posted", self.chart()),
+            chart: (
+                "Lines not posted",
+                report_files::chart(arguments, || self.chart()),
+            ),
             notes: listed.notes.clone(),
             list: &listed,
             full: arguments.flag("--full"),

@@ -17,6 +17,17 @@ pub fn with_reports(arguments: &Arguments, made: &[&'static str]) -> Vec<&'stati
     made.iter().copied().chain(asked).collect()
 }
 
+/// A chart, where a page is asked for.
+pub fn chart(
+    arguments: &Arguments,
+    make: impl FnOnce() -> Vec<(String, u64, String)>,
+) -> Vec<(String, u64, String)> {
+    match arguments.flag("--html") {
+        true => make(),
+        false => Vec::new(),
+    }
+}
+
 /// What a page says of the files that were read.
 pub fn about(arguments: &Arguments, read: &str) -> String {
     let first = shown(arguments.path(0));

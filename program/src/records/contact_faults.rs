@@ -1,6 +1,6 @@
 //! What of a faulty contact record is wrong: the library is asked about each part with the others right.
 
-use fantanolive::{contacts_update, CONTACT};
+use fantanolive::{contacts_codes, Refusal, CONTACT};
 
 use super::columns::{contact, Field};
 use super::field::text_in;
@@ -22,11 +22,9 @@ const PARTS: [(&[Field], &str); 10] = [
     (&[contact::FILLER], ""),
 ];
 
-/// Whether the library takes a record.
+/// Whether the library takes a record: as a table of one, which has no faulty one.
 fn is_good(record: &[u8]) -> bool {
-    let (mut table, mut faulty) = ([0; CONTACT], [0]);
-    let counts = contacts_update(&mut table, 0, record, &mut faulty);
-    counts.is_ok_and(|counts| counts.faulty == 0)
+    contacts_codes(record, 1, &[], &mut []) != Err(Refusal::WrongContacts)
 }
 
 /// The fields of a record that are wrong with the others right.
