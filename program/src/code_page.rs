@@ -1,5 +1,7 @@
 //! Characters of files in EBCDIC and ASCII. Every code comes from the library's own conversion.
 
+use std::sync::OnceLock;
+
 use fantanolive::{to_ascii, to_ebcdic, NotConverted};
 
 /// What the text of a file is in.
@@ -76,11 +78,16 @@ pub fn convert(bytes: &mut [u8], to: Charset) -> Result<(), u64> {
 
 /// An argument in EBCDIC. A byte without a counterpart becomes 00, which no field may hold, so that the call refuses it.
 pub fn argument(text: &[u8]) -> Vec<u8> {
-    let code = |&byte: &u8| {
-        let mut out = [0];
-        to_ebcdic(&[byte], &mut out).map_or(0, |()| out[0])
-    };
-    text.iter().map(code).collect()
+    static CODES: OnceLock<[u8; 256]> = OnceLock::new();
+    let codes = CODES.get_or_init(|| {
+        let mut codes = [0; 256];
+        for (byte, code) in (0..=255).zip(&mut codes) {
+            let mut out = [0];
+            *code = to_ebcdic(&[byte], &mut out).map_or(0, |()| out[0]);
+        }
+        codes
+    });
+    text.iter().map(|&byte| codes[usize::from(byte)]).collect()
 }
 
 /// Whether bytes are ASCII rather than EBCDIC, for a hint: they are printable there, and the library finds some that are no

@@ -30,8 +30,9 @@ fn is_good(record: &[u8]) -> bool {
 /// The fields of a record that are wrong with the others right.
 pub fn wrong_fields(record: &[u8]) -> Vec<Field> {
     let right = PARTS.map(|(fields, text)| (fields[0], text));
+    let right = text_in(CONTACT, &right);
     let is_wrong = |part: &&(&[Field], &str)| {
-        let mut probe = text_in(CONTACT, &right);
+        let mut probe = right.clone();
         for field in part.0 {
             field.set(&mut probe, field.of(record));
         }
