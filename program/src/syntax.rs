@@ -731,10 +731,10 @@ converted: column 195 of a row is no character.",
         help: "\
 Prints a table: a line per record, a column per field, those that matter first,
 with short names above. Fields are named as `export` names them, letters in
-either case. The last record of a batch, reject, reconciliation or collection file
-stands below it, field by field. Fillers are left out; with --list and --json
-they are shown where they are not blank. A byte that is no character of the
-code page is shown as a full stop, in JSON as \\xNN.
+either case. The last record of a batch, reject, reconciliation or collection
+file stands below it, field by field. Fillers are left out; with --list and
+--json they are shown where they are not blank. A byte that is no character of
+the code page is shown as a full stop, in JSON as \\xNN.
 
 KIND is what FILE holds: master, batch, rejects, reconciliation, contacts (a
 contact file or table), collections or locals. It stops at the first record that
