@@ -85,7 +85,7 @@ fn keys_that_are_none_are_told_and_the_others_answered() {
         "OH345678912A",
         "OH12345678N",
         "OH000456789N",
-        "oh123456789n",
+        "oh123456789x",
         "OH123456789N",
     ];
     let given = folder.run(&with(&["find", "master.bin"], &keys));

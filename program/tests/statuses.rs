@@ -232,14 +232,14 @@ fn refusals_change_nothing() {
         with(&from, &["--state", state, "--date", date])
     };
     unchanged(&folder, &reconcile("ZZ", "20071231"), 2, "refused 12: ");
-    unchanged(&folder, &reconcile("oh", "20071231"), 2, "refused 12: ");
+    unchanged(&folder, &reconcile("zz", "20071231"), 2, "refused 12: ");
     unchanged(&folder, &reconcile("OH", "20070229"), 2, "refused 13: ");
     let find = |key| ["find", "master.bin", key];
     unchanged(&folder, &find("OH123456789A"), 6, "refused 15: ");
     for key in [
         "",
         "OH123456789",
-        "OH123456789n",
+        "OH123456789x",
         "ZZ123456789N",
         "OH000456789N",
     ] {
