@@ -447,11 +447,16 @@ fn simpler(content: Content, field: &Field, present: &[u8]) -> Vec<Vec<u8>> {
     vec![blank, zeros, one, letter, cut]
 }
 
-/// Takes a row's place out of a journal that can be read.
+/// Takes a row's place out of a journal; what stands behind the last entry that can be read stays.
 fn forget_place(journal: &mut Vec<u8>, place: u64) {
-    let Some((before, after, entries)) = read_journal(journal) else {
+    let mut rest = &journal[..];
+    let (Some(before), Some(after)) = (take_number(&mut rest), take_number(&mut rest)) else {
         return;
     };
+    let mut entries = Vec::new();
+    while let Some(entry) = take_entry(&mut rest) {
+        entries.push(entry);
+    }
     let entry = entries.iter().find(|(at, _)| *at == place);
     let was_new = entry.is_some_and(|(_, old)| old.is_none());
     let mut left = Vec::new();
@@ -462,32 +467,25 @@ fn forget_place(journal: &mut Vec<u8>, place: u64) {
         left.push(u8::from(old.is_some()));
         left.extend(old.iter().flatten());
     }
+    left.extend(rest);
     *journal = left;
 }
 
-type Entries = Vec<(u64, Option<Vec<u8>>)>;
-
-fn read_journal(bytes: &[u8]) -> Option<(u64, u64, Entries)> {
-    let mut rest = bytes;
-    let before = take_number(&mut rest)?;
-    let after = take_number(&mut rest)?;
-    let mut entries = Vec::new();
-    while !rest.is_empty() {
-        let place = take_number(&mut rest)?;
-        let (&mark, behind) = rest.split_first()?;
-        rest = behind;
-        let old = match mark {
-            0 => None,
-            1 => {
-                let (old, behind) = rest.split_at_checked(ROW)?;
-                rest = behind;
-                Some(old.to_vec())
-            }
-            _ => return None,
-        };
-        entries.push((place, old));
-    }
-    Some((before, after, entries))
+/// Takes an entry off the front: its place, and the old row of a changed one.
+fn take_entry(bytes: &mut &[u8]) -> Option<(u64, Option<Vec<u8>>)> {
+    let mut rest = *bytes;
+    let place = take_number(&mut rest)?;
+    let (&mark, behind) = rest.split_first()?;
+    let (old, behind) = match mark {
+        0 => (None, behind),
+        1 => {
+            let (old, behind) = behind.split_at_checked(ROW)?;
+            (Some(old.to_vec()), behind)
+        }
+        _ => return None,
+    };
+    *bytes = behind;
+    Some((place, old))
 }
 
 fn take_number(bytes: &mut &[u8]) -> Option<u64> {
