@@ -82,8 +82,8 @@ columns_of 'The control record of a reject file' 245 layout/specs/Chart02.antt
 columns_of 'A REC record of a reconciliation file' 245 layout/specs/Chart06.antt
 columns_of 'The RCT record of a reconciliation file' 245 layout/specs/Chart07.antt
 columns_of 'A contact record' 220 contactrecord/specs/ChartA3.antt
-columns_of 'A line of a collection file' 240 collections/specs/Chart04.antt
-columns_of 'The TOTAL record of a collection file' 240 collections/specs/Chart05.antt
+columns_of 'A line of a collection file' 240 collectionfile/specs/Chart04.antt
+columns_of 'The TOTAL record of a collection file' 240 collectionfile/specs/Chart05.antt
 
 # --- Names of fields: those that the program shows.
 

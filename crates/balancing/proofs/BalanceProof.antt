@@ -13,7 +13,7 @@ use Rattle.casemaster.specs.Rows.{rowWith, withRow}
 use Rattle.text.proofs.SameLaws.{same-eq}
 use Rattle.casemaster.proofs.SearchLaws.{row-with-same, row-with-other}
 use Rattle.casemaster.proofs.RowsLaws.{Fit, rows-rise}
-use Rattle.collections.specs.Line.{lineKey, collected, adjusted}
+use Rattle.collectionfile.specs.Line.{lineKey, collected, adjusted}
 use Rattle.posting.specs.Posting.{balanceAfter, isPostedOn, postedRow, afterLines, postedLines}
 use Rattle.balancing.specs.Balances.{Keys, sumUnder, balances, adjustments, collections, balanceGiven, keyBalance, excess, excessesFrom, Balanced}
 use Rattle.balancing.specs.Under.{linesUnder}

@@ -26,7 +26,7 @@ use Rattle.casemaster.specs.Rows.{rowWith}
 use Rattle.casemaster.proofs.RefusalsLaws.{master-refused}
 use Rattle.casemaster.proofs.RowsLaws.{Fit, rows-rise, same-rows}
 use Rattle.casemaster.proofs.SearchLaws.{rows-head, rows-tail}
-use Rattle.collections.specs.File.{fileRefusal, linesIn, lineCount}
+use Rattle.collectionfile.specs.File.{fileRefusal, linesIn, lineCount}
 use Rattle.posting.specs.Posting.{isPostedIn, afterLine, postedLines, listedFrom}
 use Rattle.balancing.specs.Balances.{oneKey, allKeys, sumUnder, balances, keyBalance, balanceIn}
 use Rattle.posting.specs.Post.{PostCall, PostOutcome, rowsBefore, rowsAfter, lentTo, postRun, refusalOf, postOutcome, IsPosting}

@@ -13,7 +13,7 @@ use Rattle.casemaster.specs.Row.{rowKey, balance}
 use Rattle.casemaster.specs.Rows.{rowWith, withRow}
 use Rattle.casemaster.specs.Master.{keysOf}
 use Rattle.casemaster.proofs.SearchLaws.{row-place, place-inside, place-set}
-use Rattle.collections.specs.Line.{lineKey, collected}
+use Rattle.collectionfile.specs.Line.{lineKey, collected}
 use Rattle.posting.specs.Posting.{balanceAfter, postedRow, afterLine, afterLines}
 use Rattle.balancing.specs.Balances.{Keys, sumUnder, balances, collections, balanceGiven, excess, excessesFrom}
 use Rattle.balancing.specs.Under.{linesUnder}

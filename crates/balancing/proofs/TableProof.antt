@@ -15,8 +15,8 @@ use Rattle.casemaster.specs.Row.{balance, isBalanceZero, isLive, isDeleted, are
 use Rattle.casemaster.specs.Rows.{rowWith, withRow}
 use Rattle.casemaster.specs.Master.{keysOf, areSoundRows}
 use Rattle.casemaster.specs.Refusals.{refusal3, refusal4, masterRefusal}
-use Rattle.collections.specs.Line.{lineKey, isLastDigit, isAmount, amount, amountCents, collected, adjusted, isRight}
-use Rattle.collections.specs.File.{lineCount, linesIn, lastIn, refusal22, linesAbove, isTotal, refusal23, refusal24, fileRefusal}
+use Rattle.collectionfile.specs.Line.{lineKey, isLastDigit, isAmount, amount, amountCents, collected, adjusted, isRight}
+use Rattle.collectionfile.specs.File.{lineCount, linesIn, lastIn, refusal22, linesAbove, isTotal, refusal23, refusal24, fileRefusal}
 use Rattle.posting.specs.Posting.{balanceAfter, isPostedOn, withBalance, postedRow, isPostedIn, afterLine, afterLines, postedLines, listedFrom}
 use Rattle.balancing.specs.Under.{linesUnder}
 use Rattle.balancing.specs.Balances.{balanceGiven, keyBalance, excess, excessesFrom}

@@ -9,7 +9,7 @@ use Rattle.text.proofs.SameLaws.{same-eq}
 use Rattle.casemaster.specs.Rows.{rowWith}
 use Rattle.casemaster.proofs.SearchLaws.{row-with-same, row-with-other}
 use Rattle.casemaster.proofs.RowsLaws.{Fit}
-use Rattle.collections.specs.Line.{lineKey}
+use Rattle.collectionfile.specs.Line.{lineKey}
 use Rattle.posting.specs.Posting.{isPosted, postedRow, isPostedIn, afterLine, afterLines, postedLines}
 use Rattle.balancing.specs.Under.{linesUnder, postedUnder, nextRow, rowThrough, runPosted}
 use Rattle.posting.proofs.TurnLaws.{Turn, posted, left, turn, posted-key, after-fit}

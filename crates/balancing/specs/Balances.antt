@@ -8,7 +8,7 @@ use mathlib.Core.Option.{Option, none, some}
 use Rattle.text.specs.Fields.{sameBytes}
 use Rattle.casemaster.specs.Rows.{rowWith}
 use Rattle.casemaster.specs.Row.{rowKey, balance}
-use Rattle.collections.specs.Line.{lineKey, collected, adjusted}
+use Rattle.collectionfile.specs.Line.{lineKey, collected, adjusted}
 use Rattle.posting.specs.Posting.{balanceAfter}
 use Rattle.balancing.specs.Under.{linesUnder}
 

@@ -8,10 +8,10 @@ use Rattle.answers.specs.Answer.{refused, done}
 use Rattle.text.specs.Characters.{space, zeroDigit, A, D, H, I, L, M, N, O, S, T}
 use Rattle.text.specs.Fields.{digitField, spaces}
 use Rattle.casemaster.specs.Row.{isSoundRow}
-use Rattle.collections.specs.Line.{amountCents}
+use Rattle.collectionfile.specs.Line.{amountCents}
 use Rattle.posting.specs.Posting.{isPostedOn, postedRow, afterLines, listed}
 use Rattle.balancing.specs.Balances.{allKeys, excesses}
-use Rattle.collections.specs.File.{totalText}
+use Rattle.collectionfile.specs.File.{totalText}
 use Rattle.posting.specs.Post.{PostOutcome, postOutcome, postCall}
 
 -- a row of OH, SSN 123456789, N, SMITH

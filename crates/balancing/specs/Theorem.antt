@@ -7,7 +7,7 @@ use lib.ListN.{length}
 use Rattle.answers.specs.Answer.{isCarriedOut}
 use Rattle.casemaster.specs.Master.{rowsOf, keysOf, areSoundRows}
 use Rattle.casemaster.specs.Rows.{rowWith}
-use Rattle.collections.specs.File.{linesIn, lineCount}
+use Rattle.collectionfile.specs.File.{linesIn, lineCount}
 use Rattle.posting.specs.Posting.{afterLines, postedLines}
 use Rattle.balancing.specs.Under.{linesUnder, postedUnder, rowThrough, runPosted}
 use Rattle.balancing.specs.Balances.{oneKey, allKeys, balances, keyBalance, Balanced}

@@ -5,7 +5,7 @@ use mathlib.Core.List.{List, [], _∷_, _++_}
 use mathlib.Core.Bool.{Bool, cond}
 use mathlib.Core.Option.{Option, none, some}
 use Rattle.text.specs.Fields.{sameBytes}
-use Rattle.collections.specs.Line.{lineKey}
+use Rattle.collectionfile.specs.Line.{lineKey}
 use Rattle.posting.specs.Posting.{isPostedOn, isPosted, postedRow, isPostedIn, afterLine}
 
 -- the lines of a key, in file order

@@ -14,19 +14,19 @@ use Rattle.text.specs.Blocks.{joined, over, spliced}
 use Rattle.casemaster.specs.Master.{rowsOf}
 use Rattle.text.proofs.FieldsLaws.{length-columns}
 use Rattle.text.proofs.BlocksLaws.{length-blocks, holds-over}
-use Rattle.reporting.specs.Rejects.{numbers, rejectRecords}
-use Rattle.reporting.specs.Counts.{Counts, countsOf, controlRecord}
-use Rattle.reporting.specs.Tally.{countsIn}
+use Rattle.rejectfile.specs.Rejects.{numbers, rejectRecords}
+use Rattle.rejectfile.specs.Counts.{Counts, countsOf, controlRecord}
+use Rattle.rejectfile.specs.Tally.{countsIn}
 use Rattle.batch.specs.Apply.{ApplyResult, ApplyBuffers, IsOutcome, resultIn, appliedAs, buffersLent, callRows, callVerdicts, applyRun, applyOutcome}
 use Rattle.batch.specs.Journaling.{resultOf, ranAs}
 use Rattle.batch.specs.Progress.{Worked}
-use Rattle.reporting.specs.declared.counts.Tally.{Tally}
+use Rattle.rejectfile.specs.declared.counts.Tally.{Tally}
 use Rattle.batch.specs.declared.apply.RunResult.{RunResult}
 use Rattle.batch.specs.declared.apply.Applied.the-variants.{Refused}
-use Rattle.control.specs.Refusals.{batchRefusal}
-use Rattle.control.proofs.RefusalsLaws.{batch-behind}
+use Rattle.batchfile.specs.Refusals.{batchRefusal}
+use Rattle.batchfile.proofs.RefusalsLaws.{batch-behind}
 use Rattle.casemaster.proofs.RefusalsLaws.{master-passed, master-refused}
-use Rattle.reporting.proofs.CountsLaws.{length-control}
+use Rattle.rejectfile.proofs.CountsLaws.{length-control}
 use Rattle.text.proofs.HoldsLaws.{holds-last}
 use Rattle.batch.proofs.KnownLaws.{Known}
 use Rattle.casemaster.specs.Refusals.{masterRefusal}

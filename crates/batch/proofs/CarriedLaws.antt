@@ -15,8 +15,8 @@ use Rattle.layout.specs.Batch.{detailCount, detailsOf, submittingState}
 use Rattle.casemaster.specs.Master.{rowsOf, keysOf}
 use Rattle.casemaster.proofs.RowsLaws.{Fit, IsWide, rows-rise}
 use Rattle.turns.proofs.UnderLaws.{IsRecord, final-fit}
-use Rattle.reporting.specs.Rejects.{numbers, rejectRecords}
-use Rattle.reporting.specs.Counts.{countsOf, controlRecord}
+use Rattle.rejectfile.specs.Rejects.{numbers, rejectRecords}
+use Rattle.rejectfile.specs.Counts.{countsOf, controlRecord}
 use Rattle.batch.specs.Call.{Call, callSettings}
 use Rattle.batch.specs.Refusals.{applyRefusal}
 use Rattle.batch.specs.Apply.{ApplyOutcome, buffersLent, callRows, callVerdicts, applyRun, applyOutcome, IsOutcome, rowCount, rowsLeft}

@@ -9,7 +9,7 @@ use borrow.Author.Tests.{ltb-false, eqb-true, not-false}
 use Rattle.casemaster.specs.Master.{rowsOf, areSoundRows}
 use Rattle.layout.specs.Locals.{isLocalList}
 use Rattle.text.proofs.BoolLaws.{or-left, or-right}
-use Rattle.control.proofs.RefusalsLaws.{KnownBatch}
+use Rattle.batchfile.proofs.RefusalsLaws.{KnownBatch}
 use Rattle.batch.proofs.PassedLaws.{Passed}
 use Rattle.casemaster.specs.Refusals.{refusal3, refusal4}
 use Rattle.turns.specs.Adds.{addsWithoutRow}

@@ -3,7 +3,7 @@ use mathlib.Core.Path.{_≡_}
 use mathlib.Core.Bool.{false}
 use Rattle.casemaster.specs.Refusals.{refusal3, refusal4, masterRefusal}
 use Rattle.answers.proofs.AnswerLaws.{refuse-none}
-use Rattle.control.proofs.RefusalsLaws.{KnownBatch, batch-known}
+use Rattle.batchfile.proofs.RefusalsLaws.{KnownBatch, batch-known}
 use Rattle.batch.specs.Call.{Call}
 use Rattle.batch.specs.Refusals.{refusal1, refusal2, refusal9, refusal10, refusal11, spaceRefusal, applyRefusal}
 

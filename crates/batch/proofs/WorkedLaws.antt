@@ -13,11 +13,11 @@ use Rattle.keyorder.specs.Runs.{DetailsOrdered}
 use Rattle.keywork.specs.Packed.{Packed, HoldsVerdicts}
 use Rattle.keywork.specs.Worked.{PutBack, UnderAlone, AloneWorked}
 use Rattle.turns.specs.Turns.{verdictsOn}
-use Rattle.reporting.specs.Tally.{AtMost}
+use Rattle.rejectfile.specs.Tally.{AtMost}
 use Rattle.batch.specs.Progress.{Worked}
 use Rattle.keywalk.specs.Walking.{rowsFrom, OrderReady, UnderOrder, AreThere, fixedOf, startOf, newOwnKeys, WalkReady, Walked}
-use Rattle.reporting.specs.Written.{VerdictsWritten}
-use Rattle.reporting.specs.declared.counts.Tally.{Tally}
+use Rattle.rejectfile.specs.Written.{VerdictsWritten}
+use Rattle.rejectfile.specs.declared.counts.Tally.{Tally}
 use Rattle.text.proofs.WidthLaws.{blocks-wide}
 use Rattle.batch.proofs.KnownLaws.{Known}
 use Rattle.turns.specs.Settings.{Settings, settingsOf}

@@ -8,8 +8,8 @@ use Rattle.text.specs.Blocks.{joined, over}
 use Rattle.casemaster.specs.Master.{rowsOf}
 use Rattle.onecase.specs.Verdict.{Judgement}
 use Rattle.turns.specs.Turns.{finalRows, verdictsOn}
-use Rattle.reporting.specs.Rejects.{numbers, rejectRecords}
-use Rattle.reporting.specs.Counts.{Counts, countsOf, controlRecord}
+use Rattle.rejectfile.specs.Rejects.{numbers, rejectRecords}
+use Rattle.rejectfile.specs.Counts.{Counts, countsOf, controlRecord}
 use Rattle.batch.specs.declared.apply.Applied.{Applied}
 use Rattle.batch.specs.declared.apply.Applied.the-variants.{Done, Refused}
 use Rattle.layout.specs.Batch.{detailsOf, submittingState}

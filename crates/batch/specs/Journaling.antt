@@ -8,7 +8,7 @@ use Rattle.casemaster.specs.Master.{rowsOf}
 use Rattle.journal.specs.Numbers.{numberBytes}
 use Rattle.journal.specs.Journal.{journalOf, journalBytes}
 use Rattle.journal.specs.Writing.{Wrote}
-use Rattle.reporting.specs.declared.verdicts.Progress.{Progress}
+use Rattle.rejectfile.specs.declared.verdicts.Progress.{Progress}
 use Rattle.batch.specs.Call.{Call}
 use Rattle.answers.specs.Answer.{Run}
 use Rattle.batch.specs.Apply.{ApplyResult, ApplyBuffers, callRows, applyRun}

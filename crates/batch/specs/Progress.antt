@@ -6,11 +6,11 @@ use mathlib.Core.List.{List}
 use lib.ListN.{length, take, drop}
 use Rattle.text.specs.Blocks.{blocks}
 use Rattle.casemaster.specs.Master.{rowsOf}
-use Rattle.reporting.specs.Rejects.{numbers, rejectRecords}
-use Rattle.reporting.specs.Tally.{countsIn, AtMost}
-use Rattle.reporting.specs.Counts.{countsOf}
+use Rattle.rejectfile.specs.Rejects.{numbers, rejectRecords}
+use Rattle.rejectfile.specs.Tally.{countsIn, AtMost}
+use Rattle.rejectfile.specs.Counts.{countsOf}
 use Rattle.batch.specs.Apply.{callRows, callVerdicts}
-use Rattle.reporting.specs.declared.counts.Tally.{Tally}
+use Rattle.rejectfile.specs.declared.counts.Tally.{Tally}
 use Rattle.layout.specs.Batch.{detailCount, detailsOf}
 use Rattle.batch.specs.Call.{Call}
 

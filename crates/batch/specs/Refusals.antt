@@ -11,7 +11,7 @@ use Rattle.layout.specs.Batch.{detailCount, detailsOf}
 use Rattle.casemaster.specs.Master.{rowsOf}
 use Rattle.casemaster.specs.Refusals.{masterRefusal}
 use Rattle.turns.specs.Adds.{addsWithoutRow}
-use Rattle.control.specs.Refusals.{batchRefusal}
+use Rattle.batchfile.specs.Refusals.{batchRefusal}
 use Rattle.batch.specs.Call.{Call}
 
 -- 1: year outside 1900–9999

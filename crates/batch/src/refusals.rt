@@ -1,6 +1,6 @@
 // The refusals of `apply`, in the order of the paper.
+use batchfile::refusals::batch_refusal;
 use casemaster::refusals::master_refusal;
-use control::refusals::batch_refusal;
 use layout::limits::MAX_ROWS;
 use layout::locals;
 use turns::adds;

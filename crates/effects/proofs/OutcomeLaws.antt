@@ -22,9 +22,9 @@ use Rattle.judging.proofs.CodeSums.{number-none}
 use Rattle.onecase.proofs.JudgementLaws.{name-width}
 use Rattle.onecase.proofs.JudgedLaws.{Judged, isSome, judged}
 use Rattle.turns.specs.Turns.{afterDetail, verdictOn, verdictsOn}
-use Rattle.reporting.specs.Rejects.{numberOf, numbers, fourColumns, rejectRecord, ifAny, rejectRecords}
-use Rattle.reporting.specs.Counts.{countsOf, controlRecord}
-use Rattle.reporting.proofs.RejectColumns.{reject-columns}
+use Rattle.rejectfile.specs.Rejects.{numberOf, numbers, fourColumns, rejectRecord, ifAny, rejectRecords}
+use Rattle.rejectfile.specs.Counts.{countsOf, controlRecord}
+use Rattle.rejectfile.proofs.RejectColumns.{reject-columns}
 use Rattle.effects.specs.TwoBatches.{readVerdicts, verdictsLeft}
 use Rattle.text.proofs.BlocksLaws.{length-blocks}
 use Rattle.text.proofs.WidthLaws.{All, joined-append}

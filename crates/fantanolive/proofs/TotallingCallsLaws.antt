@@ -4,7 +4,7 @@ use mathlib.Core.List.{List}
 use Prim.Native.Nat.{ℕ}
 use Rattle.answers.specs.Answer.{Answer}
 use Rattle.layout.specs.Limits.{maxRows}
-use Rattle.control.specs.Stated.{Stated}
+use Rattle.batchfile.specs.Stated.{Stated}
 use Rattle.totalling.specs.DetailTotals.{totalledAs, totalsAnswer}
 use Rattle.totalling.specs.declared.detail_totals.Totalled.{Totalled}
 use Rattle.fantanolive.specs.TotallingCalls.{totalsLeftBy, totalsLeft}

@@ -4,7 +4,7 @@ use Prim.Native.Nat.{ℕ}
 use mathlib.Core.List.{List, [], _∷_}
 use Rattle.answers.specs.Answer.{Answer, numberOf, numbersOf}
 use Rattle.layout.specs.Limits.{maxRows}
-use Rattle.control.specs.Stated.{Stated}
+use Rattle.batchfile.specs.Stated.{Stated}
 use Rattle.totalling.specs.DetailTotals.{totalsAnswer}
 
 -- the four totals in the control record's order

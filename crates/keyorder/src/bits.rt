@@ -9,7 +9,7 @@
 //                             bits 63 to 40    bits 39 to 19  bits 18 to 0
 //   worked (keywork)          index            high part      low part     of the detail at position p
 //   put back (keywork)        p                high part      low part     of detail p
-//   written (reporting)       the number of detail p's set of codes, alone
+//   written (rejectfile)      the number of detail p's set of codes, alone
 //
 // gives: the detail gives its name; error: it has one but 09 and 17; given: its name is given by a B record of its key. The two parts of a
 // worked number are the verdict: a set of codes is errors alone, which stand in the low part, or warnings alone, which stand in the high

@@ -6,9 +6,9 @@ use Rattle.text.specs.Fields.{isBlank, allDigits, areDigits, number, digitField
 use Rattle.text.specs.Blocks.{blocks, joined, over}
 use Rattle.layout.specs.States.{stateTable, isState}
 use Rattle.layout.specs.Batch.{detailsOf, controlOf}
-use Rattle.control.specs.Totals.{hasCTL, hasState, hasTotals, countOf, amountIn, amountOf, areCountsRight, areAmountsRight}
-use Rattle.control.specs.Refusals.{refusal5, refusal6, refusal20, refusal21, refusal7, refusal8, batchRefusal}
-use Rattle.control.specs.Stated.{totalsRecord}
+use Rattle.batchfile.specs.Totals.{hasCTL, hasState, hasTotals, countOf, amountIn, amountOf, areCountsRight, areAmountsRight}
+use Rattle.batchfile.specs.Refusals.{refusal5, refusal6, refusal20, refusal21, refusal7, refusal8, batchRefusal}
+use Rattle.batchfile.specs.Stated.{totalsRecord}
 use Rattle.merging.specs.Merge.{mergedControl, mergedBatch, refusal32, refusal33, mergeRefusal, mergeOutcome}
 use Rattle.merging.specs.Examples.{detail, stating, batch, batchOfOne, batchOfTwo, emptyBatch, bothBatch, fullBatch, miscounted, missummed, otherState, MergeExamples}
 

@@ -18,17 +18,17 @@ use Rattle.text.proofs.SplicedLaws.{length-spliced, take-through, drop-spliced}
 use Rattle.text.proofs.WidthLaws.{all-append, blocks-joined, joined-append}
 use Rattle.layout.specs.ChartA2.{controlState}
 use Rattle.layout.specs.Batch.{detailCount, detailsOf, controlOf, submittingState}
-use Rattle.control.specs.Totals.{hasCTL, hasState, hasTotals, countOf}
-use Rattle.control.specs.Refusals.{batchRefusal}
-use Rattle.control.proofs.TotalsLaws.{count-sum}
-use Rattle.control.proofs.RefusalsLaws.{KnownBatch, batch-known, batch-behind, not-first}
-use Rattle.control.specs.Stated.{Stated, statedBy, statedSum, totalsRecord}
+use Rattle.batchfile.specs.Totals.{hasCTL, hasState, hasTotals, countOf}
+use Rattle.batchfile.specs.Refusals.{batchRefusal}
+use Rattle.batchfile.proofs.TotalsLaws.{count-sum}
+use Rattle.batchfile.proofs.RefusalsLaws.{KnownBatch, batch-known, batch-behind, not-first}
+use Rattle.batchfile.specs.Stated.{Stated, statedBy, statedSum, totalsRecord}
 use Rattle.answers.specs.Answer.{isCarriedOut}
 use Rattle.answers.proofs.AnswerLaws.{outcome-refused, outcome-done, none-holds}
 use Rattle.merging.specs.Merge.{mergedTotals, mergedControl, mergedBatch, mergedCount, isAboveEleven, refusal32, refusal33, bothRefusal, mergeRefusal, MergeCall, MergeOutcome, mergedAs, mergeRun, mergeOutcome, IsMerge, recordsWritten}
 use Rattle.merging.specs.declared.merge.Merged.the-variants.{Done, Refused}
-use Rattle.control.proofs.PassesLaws.{totalsOf, sum-append, totals-append, totals-right, counts-right, amounts-right, batch-length, details-joined, details-length, details-wide, state-two, first-state, counts-few, known-passes}
-use Rattle.control.proofs.StatedLaws.{length-control, control-columns, has-ctl, has-state, has-totals, stated-back}
+use Rattle.batchfile.proofs.PassesLaws.{totalsOf, sum-append, totals-append, totals-right, counts-right, amounts-right, batch-length, details-joined, details-length, details-wide, state-two, first-state, counts-few, known-passes}
+use Rattle.batchfile.proofs.StatedLaws.{length-control, control-columns, has-ctl, has-state, has-totals, stated-back}
 
 -- ---- two batches merged
 

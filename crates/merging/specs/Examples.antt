@@ -7,7 +7,7 @@ use Rattle.answers.specs.Answer.{refused, done}
 use Rattle.text.specs.Characters.{A, H, L, N, O}
 use Rattle.text.specs.Fields.{digitField, spaces}
 use Rattle.text.specs.Blocks.{joined}
-use Rattle.control.specs.Stated.{Stated, totalsRecord}
+use Rattle.batchfile.specs.Stated.{Stated, totalsRecord}
 use Rattle.merging.specs.Merge.{MergeOutcome, mergeOutcome}
 
 unfoldable pub detail : ℕ → ℕ → List ℕ

@@ -10,8 +10,8 @@ use Rattle.text.specs.Blocks.{joined, over}
 use Rattle.text.specs.Fields.{sameBytes}
 use Rattle.layout.specs.Limits.{maxRows}
 use Rattle.layout.specs.Batch.{detailCount, detailsOf, controlOf, submittingState}
-use Rattle.control.specs.Refusals.{batchRefusal}
-use Rattle.control.specs.Stated.{Stated, statedBy, statedSum, totalsRecord}
+use Rattle.batchfile.specs.Refusals.{batchRefusal}
+use Rattle.batchfile.specs.Stated.{Stated, statedBy, statedSum, totalsRecord}
 use Rattle.merging.specs.declared.merge.Merged.{Merged}
 use Rattle.merging.specs.declared.merge.Merged.the-variants.{Done, Refused}
 

@@ -7,7 +7,7 @@ use mathlib.Core.Bool.{true}
 use lib.ListN.{take}
 use Rattle.answers.specs.Answer.{isCarriedOut}
 use Rattle.layout.specs.Batch.{detailsOf, submittingState}
-use Rattle.control.specs.Refusals.{batchRefusal}
+use Rattle.batchfile.specs.Refusals.{batchRefusal}
 use Rattle.merging.specs.Merge.{MergeCall, MergeOutcome, IsMerge, recordsWritten}
 
 -- the batch that a merge wrote: as many records as its result says

@@ -1,6 +1,6 @@
 // Two batches into one: the first's details, the second's, and a control record with summed totals.
-use control::refusals;
-use control::stated;
+use batchfile::refusals;
+use batchfile::stated;
 use layout::chart_a2;
 use layout::limits::MAX_RECORDS;
 use layout::records;
@@ -12,7 +12,7 @@ ghost use lib.ListN.{length, take, drop};
 ghost use Rattle.text.specs.Blocks.{over, spliced};
 ghost use Rattle.layout.specs.Limits.{maxRows};
 ghost use Rattle.layout.specs.Batch.{controlOf};
-ghost use Rattle.control.specs.Refusals.{batchRefusal};
+ghost use Rattle.batchfile.specs.Refusals.{batchRefusal};
 ghost use Rattle.merging.specs.Merge.{mergedControl, mergedBatch, mergedCount, refusal32, mergeRefusal, mergeCall, mergedAs, IsMerge};
 
 // The answer of the call: how many records the merged batch has, or the number of the refusal.

@@ -14,7 +14,7 @@ use Rattle.casemaster.specs.Row.{rowKey, balance, isLive, isSoundRow}
 use Rattle.text.proofs.NumberLaws.{length-digits, digits-digits, number-digits, number-not-zero}
 use Rattle.text.proofs.ColumnsLaws.{Put, put, written, length-written, columns-written, columns-free, AllFit}
 use Rattle.casemaster.proofs.SoundLaws.{sound-columns, written-sound}
-use Rattle.collections.specs.Line.{collected, adjusted, isRight}
+use Rattle.collectionfile.specs.Line.{collected, adjusted, isRight}
 use Rattle.posting.specs.Posting.{most, balanceAfter, isPostedOn, withBalance, postedRow}
 use Rattle.posting.specs.Parts.{IsTurn}
 use Rattle.posting.specs.declared.turn.Turn.{Turn}

@@ -18,7 +18,7 @@ use Rattle.text.proofs.BlocksLaws.{length-blocks, blocks-get, take-blocks, drop
 use Rattle.text.proofs.BlocksLaws.{blocks-split, kept-further}
 use Rattle.casemaster.proofs.SearchLaws.{place-row, no-place-row, place-inside, place-set}
 use Rattle.casemaster.specs.Row.{isSoundRow}
-use Rattle.collections.specs.Line.{lineKey}
+use Rattle.collectionfile.specs.Line.{lineKey}
 use Rattle.posting.specs.Posting.{isPostedOn, postedRow, isPostedIn, afterLine}
 use Rattle.posting.specs.Parts.{IsTurn, IsPut, LineDone}
 use Rattle.posting.specs.declared.turn.Turn.{Turn}

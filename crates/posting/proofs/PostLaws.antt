@@ -12,7 +12,7 @@ use Rattle.casemaster.specs.Master.{rowsOf}
 use Rattle.casemaster.specs.Refusals.{masterRefusal}
 use Rattle.casemaster.proofs.RefusalsLaws.{master-rows, master-sound}
 use Rattle.casemaster.proofs.RowsLaws.{Fit}
-use Rattle.collections.specs.File.{lineCount, linesIn}
+use Rattle.collectionfile.specs.File.{lineCount, linesIn}
 use Rattle.posting.specs.Post.{PostCall, listedNumbers, rowsAfter, lentTo, postRun, refusalOf, postOutcome, postedAs, IsPosting}
 use Rattle.posting.specs.Parts.{LinesDone}
 use Rattle.posting.proofs.LineLaws.{fit-of}

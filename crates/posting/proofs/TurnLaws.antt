@@ -15,8 +15,8 @@ use Rattle.text.proofs.FieldsLaws.{and-right, and-left}
 use Rattle.text.proofs.WidthLaws.{every-all}
 use Rattle.casemaster.proofs.SearchLaws.{row-key, with-sound}
 use Rattle.casemaster.proofs.RowsLaws.{IsWide, Fit, each-some, found-all, all-put, each-sound}
-use Rattle.collections.specs.Line.{lineKey, collected, adjusted, isRight}
-use Rattle.collections.proofs.AmountLaws
+use Rattle.collectionfile.specs.Line.{lineKey, collected, adjusted, isRight}
+use Rattle.collectionfile.proofs.AmountLaws
 use Rattle.posting.specs.Posting.{most, balanceAfter, isPostedOn, postedRow, isPostedIn, afterLine, afterLines}
 use Rattle.posting.proofs.BalanceLaws.{with-width, with-key, with-balance, sound-with}
 

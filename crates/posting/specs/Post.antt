@@ -8,7 +8,7 @@ use Rattle.layout.specs.Limits.{maxRows}
 use Rattle.text.specs.Blocks.{joined, over}
 use Rattle.casemaster.specs.Master.{rowsOf}
 use Rattle.casemaster.specs.Refusals.{masterRefusal}
-use Rattle.collections.specs.File.{linesIn, fileRefusal}
+use Rattle.collectionfile.specs.File.{linesIn, fileRefusal}
 use Rattle.posting.specs.Posting.{afterLines, listed}
 use Rattle.posting.specs.declared.post.Posted.{Posted}
 use Rattle.posting.specs.declared.post.Posted.the-variants.{Done, Refused}

@@ -8,7 +8,7 @@ use Rattle.text.specs.Characters.{space, D}
 use Rattle.text.specs.Fields.{placed, digitField}
 use Rattle.casemaster.specs.Rows.{rowWith, withRow}
 use Rattle.casemaster.specs.Row.{balance, isLive}
-use Rattle.collections.specs.Line.{lineKey, collected, adjusted, isRight}
+use Rattle.collectionfile.specs.Line.{lineKey, collected, adjusted, isRight}
 
 -- 99,999,999.99
 abbrev pub most : ℕ

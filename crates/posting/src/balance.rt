@@ -2,7 +2,7 @@
 use crate::money;
 use crate::money::Dollars;
 use casemaster::row;
-use collections::cents::Cents;
+use collectionfile::cents::Cents;
 use text::fields;
 ghost use mathlib.Core.Path.{_≡_};
 ghost use mathlib.Core.Bool.{true, cond};

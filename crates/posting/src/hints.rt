@@ -1,7 +1,7 @@
 // Where the rows of sixteen lines are likely to be: their keys are looked for side by side, so that the waits for memory overlap.
 // A hint may be any place: whoever takes one compares the key of the row there.
 use casemaster::master::ROW_WIDTH;
-use collections::line::LINE_WIDTH;
+use collectionfile::line::LINE_WIDTH;
 use text::byte_order;
 use text::words;
 ghost use Prim.Native.Nat.{_+_, _-_, _*_, _/_, _≤_, _<_};

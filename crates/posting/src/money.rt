@@ -1,5 +1,5 @@
 // Dollars on the master, cents in the collection file; here alone the one becomes the other.
-use collections::cents::Cents;
+use collectionfile::cents::Cents;
 ghost use mathlib.Core.Path.{_≡_};
 ghost use Prim.Native.Nat.{_+_, _*_, _/_, _%_, _<_};
 

@@ -2,7 +2,7 @@
 use crate::balance;
 use crate::balance::MOST;
 use casemaster::row;
-use collections::line;
+use collectionfile::line;
 ghost use mathlib.Core.Path.{_≡_};
 ghost use mathlib.Core.Bool.{true};
 ghost use lib.ListN.{length};

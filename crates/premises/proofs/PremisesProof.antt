@@ -36,11 +36,11 @@ use Rattle.onecase.specs.Table.{base, ofName, ofYear, liveRow, ohio}
 use Rattle.turns.specs.Turns.{afterDetail, verdictOn, finalRows, verdictsOn}
 use Rattle.turns.specs.Under.{isUnder, detailsUnder}
 use Rattle.turns.specs.Adds.{addsWithoutRow}
-use Rattle.control.specs.Totals.{hasCTL, hasState, hasTotals, countOf, amountIn, amountOf, areCountsRight, areAmountsRight}
-use Rattle.control.specs.Refusals.{refusal5, refusal6, refusal20, refusal21, refusal7, refusal8, batchRefusal}
-use Rattle.control.specs.Stated.{totalsRecord}
-use Rattle.reporting.specs.Rejects.{numbers, rejectRecord, rejectRecords}
-use Rattle.reporting.specs.Counts.{howMany, countsOf, controlRecord}
+use Rattle.batchfile.specs.Totals.{hasCTL, hasState, hasTotals, countOf, amountIn, amountOf, areCountsRight, areAmountsRight}
+use Rattle.batchfile.specs.Refusals.{refusal5, refusal6, refusal20, refusal21, refusal7, refusal8, batchRefusal}
+use Rattle.batchfile.specs.Stated.{totalsRecord}
+use Rattle.rejectfile.specs.Rejects.{numbers, rejectRecord, rejectRecords}
+use Rattle.rejectfile.specs.Counts.{howMany, countsOf, controlRecord}
 use Rattle.batch.specs.Refusals.{refusal1, refusal2, refusal9, refusal10, refusal11, spaceRefusal, applyRefusal}
 use Rattle.batch.specs.Apply.{applyRun, applyOutcome}
 use Rattle.effects.specs.TwoBatches.{readVerdicts}

@@ -8,8 +8,8 @@ use Rattle.text.specs.Characters.{A, B, D, E, J, L, M, N, O, S}
 use Rattle.text.specs.Fields.{placed, digitField, spaces}
 use Rattle.text.specs.Blocks.{joined}
 use Rattle.onecase.specs.Table.{base, ofName, ofYear, liveRow, ohio}
-use Rattle.control.specs.Totals.{countOf, amountOf}
-use Rattle.control.specs.Stated.{totalsRecord}
+use Rattle.batchfile.specs.Totals.{countOf, amountOf}
+use Rattle.batchfile.specs.Stated.{totalsRecord}
 use Rattle.batch.specs.Call.{Call}
 use Rattle.batch.specs.Apply.{applyOutcome}
 use Rattle.effects.specs.Several.{Sent, IsApplied, WasCarriedOut, SameState, SameYear, SameCodes, EachSent, masterFound, OneBehindTheOther, detailsSent, joinedDetails, NoBInTwo, SameAsWhole}

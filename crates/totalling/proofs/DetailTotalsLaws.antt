@@ -7,9 +7,9 @@ use native.Mathlib.Omega.{arith}
 use Rattle.answers.proofs.AnswerLaws.{answer-refused, answer-done}
 use Rattle.text.specs.Blocks.{blocks}
 use Rattle.layout.specs.Batch.{detailCount, detailsOf}
-use Rattle.control.specs.Refusals.{refusal5}
-use Rattle.control.specs.TotalsParts.{AreTotals}
-use Rattle.control.specs.declared.totals.Totals.{Totals}
+use Rattle.batchfile.specs.Refusals.{refusal5}
+use Rattle.batchfile.specs.TotalsParts.{AreTotals}
+use Rattle.batchfile.specs.declared.totals.Totals.{Totals}
 use Rattle.totalling.specs.DetailTotals.{detailTotals, totalledAs, totalsAnswer}
 use Rattle.totalling.specs.declared.detail_totals.Totalled.the-variants.{Done, Refused}
 

@@ -5,10 +5,10 @@ use mathlib.Core.List.{List}
 use Rattle.answers.specs.Answer.{done}
 use Rattle.answers.proofs.AnswerLaws.{answer-done}
 use Rattle.layout.specs.Batch.{detailsOf, controlOf}
-use Rattle.control.specs.Refusals.{batchRefusal}
-use Rattle.control.specs.Stated.{statedBy}
-use Rattle.control.proofs.RefusalsLaws.{batch-known}
-use Rattle.control.proofs.PassesLaws.{totals-right, counts-right, amounts-right, whole-length}
+use Rattle.batchfile.specs.Refusals.{batchRefusal}
+use Rattle.batchfile.specs.Stated.{statedBy}
+use Rattle.batchfile.proofs.RefusalsLaws.{batch-known}
+use Rattle.batchfile.proofs.PassesLaws.{totals-right, counts-right, amounts-right, whole-length}
 use Rattle.totalling.specs.DetailTotals.{detailTotals, totalsAnswer}
 use Rattle.totalling.specs.Theorem.{TotalsWanted}
 

@@ -5,9 +5,9 @@ use mathlib.Core.List.{List}
 use Rattle.answers.specs.Answer.{refuseIf, Answer, refused, done, answerBy}
 use Rattle.text.specs.Characters.{A, N}
 use Rattle.layout.specs.Batch.{detailsOf}
-use Rattle.control.specs.Totals.{countOf, amountOf}
-use Rattle.control.specs.Refusals.{refusal5}
-use Rattle.control.specs.Stated.{Stated}
+use Rattle.batchfile.specs.Totals.{countOf, amountOf}
+use Rattle.batchfile.specs.Refusals.{refusal5}
+use Rattle.batchfile.specs.Stated.{Stated}
 use Rattle.totalling.specs.declared.detail_totals.Totalled.{Totalled}
 use Rattle.totalling.specs.declared.detail_totals.Totalled.the-variants.{Done, Refused}
 

@@ -5,9 +5,9 @@ use mathlib.Core.List.{List}
 use mathlib.Core.Bool.{true}
 use Rattle.answers.specs.Answer.{done}
 use Rattle.layout.specs.Batch.{controlOf}
-use Rattle.control.specs.Totals.{areCountsRight, areAmountsRight}
-use Rattle.control.specs.Refusals.{batchRefusal}
-use Rattle.control.specs.Stated.{statedBy}
+use Rattle.batchfile.specs.Totals.{areCountsRight, areAmountsRight}
+use Rattle.batchfile.specs.Refusals.{batchRefusal}
+use Rattle.batchfile.specs.Stated.{statedBy}
 use Rattle.totalling.specs.DetailTotals.{detailTotals, totalsAnswer}
 
 pub record TotalsWanted : Type 0 where

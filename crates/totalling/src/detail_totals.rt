@@ -1,10 +1,10 @@
 // The totals that the details of a batch give, whatever its last record says.
-use control::totals;
+use batchfile::totals;
 use layout::limits::MAX_RECORDS;
 use layout::records::RECORD_WIDTH;
 ghost use mathlib.Core.Path.{_≡_};
 ghost use Rattle.layout.specs.Limits.{maxRows};
-ghost use Rattle.control.specs.Refusals.{refusal5};
+ghost use Rattle.batchfile.specs.Refusals.{refusal5};
 ghost use Rattle.totalling.specs.DetailTotals.{totalledAs, totalsAnswer};
 
 // The answer of the call: the two counts and the two amounts, or the number of the refusal.

@@ -6,8 +6,8 @@ use Prim.Native.Nat.{ℕ, _*_}
 use native.Mathlib.Omega.{arith}
 use lib.ListN.{length}
 use denote.Ref.{now}
-use Rattle.reporting.specs.Counts.{controlRecord}
-use Rattle.reporting.specs.Tally.{countsIn}
+use Rattle.rejectfile.specs.Counts.{controlRecord}
+use Rattle.rejectfile.specs.Tally.{countsIn}
 use Rattle.text.specs.Blocks.{spliced}
 use Rattle.text.specs.Fields.{columns}
 use Rattle.batch.proofs.ApplyLaws.{ran, state-two}

@@ -4,7 +4,7 @@ use native.Mathlib.Omega.{arith}
 use borrow.Author.Needs.{needs}
 use Rattle.batch.proofs.ApplyLaws.{first-opening, first-master, first-batch, first-space}
 use Rattle.layout.specs.Limits.{maxRows}
-use Rattle.control.proofs.RefusalsLaws.{batch-known}
+use Rattle.batchfile.proofs.RefusalsLaws.{batch-known}
 use Rattle.casemaster.proofs.RefusalsLaws.{master-rows, master-sound}
 use Rattle.batch.proofs.refusals.first_refusal.Statement.{statement}
 use Rattle.batch.proofs.refusals.first_refusal.Tie as tie

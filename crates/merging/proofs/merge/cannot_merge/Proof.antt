@@ -3,12 +3,12 @@ use Rattle.layout.specs.Limits.{maxRows}
 use Rattle.layout.specs.ChartA2.{controlState}
 use Rattle.layout.proofs.LimitsLaws.{max-records}
 use Rattle.text.specs.Fields.{sameBytes}
-use Rattle.control.specs.Stated.{statedBy, statedSum, totalsIn}
+use Rattle.batchfile.specs.Stated.{statedBy, statedSum, totalsIn}
 use mathlib.Core.Path.{_∙_, sym, ap, ap₂}
 use mathlib.Core.List.{List}
 use Prim.Native.Nat.{ℕ}
-use Rattle.control.specs.Totals.{hasTotals}
-use Rattle.control.proofs.RefusalsLaws.{batch-known}
+use Rattle.batchfile.specs.Totals.{hasTotals}
+use Rattle.batchfile.proofs.RefusalsLaws.{batch-known}
 use Rattle.merging.proofs.MergeLaws.{cannot-told}
 use borrow.Author.Needs.{needs}
 use Rattle.merging.proofs.merge.cannot_merge.Statement.{statement}

@@ -2,8 +2,8 @@
 use Rattle.layout.specs.Limits.{maxRows}
 use native.Mathlib.Omega.{arith}
 use Rattle.layout.specs.Batch.{controlOf}
-use Rattle.control.proofs.RefusalsLaws.{batch-known}
-use Rattle.control.proofs.PassesLaws.{batch-length}
+use Rattle.batchfile.proofs.RefusalsLaws.{batch-known}
+use Rattle.batchfile.proofs.PassesLaws.{batch-length}
 use Rattle.merging.proofs.merge.control_of.Statement.{statement}
 use Rattle.merging.proofs.merge.control_of.Tie as tie
 

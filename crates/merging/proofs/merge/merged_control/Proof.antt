@@ -4,12 +4,12 @@ use mathlib.Core.Path.{_∙_, ap, ap₂}
 use Prim.Native.Nat.{ℕ}
 use mathlib.Core.List.{List}
 use lib.ListN.{length}
-use Rattle.control.specs.Totals.{hasTotals}
-use Rattle.control.proofs.RefusalsLaws.{batch-known}
+use Rattle.batchfile.specs.Totals.{hasTotals}
+use Rattle.batchfile.proofs.RefusalsLaws.{batch-known}
 use Rattle.layout.specs.ChartA2.{controlState}
-use Rattle.control.specs.Stated.{statedBy, statedSum, totalsRecord}
+use Rattle.batchfile.specs.Stated.{statedBy, statedSum, totalsRecord}
 use Rattle.merging.specs.Merge.{mergedControl}
-use Rattle.control.proofs.PassesLaws.{state-two}
+use Rattle.batchfile.proofs.PassesLaws.{state-two}
 use borrow.Author.Needs.{needs}
 use Rattle.merging.proofs.merge.merged_control.Statement.{statement}
 use Rattle.merging.proofs.merge.merged_control.Tie as tie

@@ -1,7 +1,7 @@
 -- `merge::merged_count`: both batches have a record to take off. Assumes nothing.
 use Rattle.layout.specs.Limits.{maxRows}
 use native.Mathlib.Omega.{arith}
-use Rattle.control.proofs.RefusalsLaws.{batch-known}
+use Rattle.batchfile.proofs.RefusalsLaws.{batch-known}
 use borrow.Author.Needs.{needs}
 use Rattle.merging.proofs.merge.merged_count.Statement.{statement}
 use Rattle.merging.proofs.merge.merged_count.Tie as tie

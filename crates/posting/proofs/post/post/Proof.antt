@@ -4,11 +4,11 @@ use native.Mathlib.Omega.{arith}
 use denote.Ref.{now}
 use lib.ListN.{length}
 use Rattle.layout.specs.Limits.{maxRows}
-use Rattle.collections.specs.File.{fileRefusal}
+use Rattle.collectionfile.specs.File.{fileRefusal}
 use Rattle.posting.specs.Post.{postCall}
 use Rattle.posting.proofs.PostLaws.{rows-inside, rows-fit, post-refused, post-done}
 use Rattle.casemaster.proofs.RefusalsLaws.{master-passed, master-refused}
-use Rattle.collections.proofs.FileLaws.{file-whole, file-room}
+use Rattle.collectionfile.proofs.FileLaws.{file-whole, file-room}
 use borrow.Author.Needs.{needs}
 use Rattle.posting.proofs.post.post.Statement.{statement}
 use Rattle.posting.proofs.post.post.Tie as tie

@@ -6,7 +6,7 @@ use Rattle.casemaster.specs.Master.{rowsOf}
 use Rattle.casemaster.specs.Search.{IsPlace}
 use Rattle.casemaster.specs.declared.search.Place.{Place}
 use Rattle.casemaster.proofs.RowsLaws.{rows-rise}
-use Rattle.collections.proofs.LineLaws.{key-length}
+use Rattle.collectionfile.proofs.LineLaws.{key-length}
 use Rattle.posting.proofs.LineLaws.{fit-of, line-missing, line-found, place-within, place-sound}
 use borrow.Author.Needs.{needs}
 use Rattle.posting.proofs.post.post_line.Statement.{statement}

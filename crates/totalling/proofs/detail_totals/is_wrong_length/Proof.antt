@@ -1,6 +1,6 @@
 -- `detail_totals::is_wrong_length`: the code's limit is the definition's number. Assumes nothing.
 use Rattle.layout.proofs.LimitsLaws.{max-records}
-use Rattle.control.specs.Refusals.{refusal5}
+use Rattle.batchfile.specs.Refusals.{refusal5}
 use Rattle.totalling.proofs.detail_totals.is_wrong_length.Statement.{statement}
 use Rattle.totalling.proofs.detail_totals.is_wrong_length.Tie as tie
 

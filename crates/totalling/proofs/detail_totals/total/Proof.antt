@@ -5,7 +5,7 @@ use native.Mathlib.Omega.{arith}
 use borrow.Author.Needs.{needs}
 use Rattle.layout.specs.Limits.{maxRows}
 use Rattle.layout.proofs.LimitsLaws.{few-records}
-use Rattle.control.proofs.RefusalsLaws.{whole-batch}
+use Rattle.batchfile.proofs.RefusalsLaws.{whole-batch}
 use Rattle.totalling.proofs.DetailTotalsLaws.{totals-refused, totals-done}
 use Rattle.totalling.proofs.detail_totals.total.Statement.{statement}
 use Rattle.totalling.proofs.detail_totals.total.Tie as tie
