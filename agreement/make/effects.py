@@ -11,7 +11,7 @@ END = {0: {3: "111223333"}, 1: {3: "123456789", 16: "NEW CASE ID", 66: "00000200
 # Item 10: a file, and the same sent as two; each part begins with the master that the one before left.
 SEVERAL = ["for every list of batches whose details joined", "offices break a long file up"]
 apply(book, "several-whole", SEVERAL, [FIRST, NEW, SECOND], [[], [], []], after=END, result=[3, 0, 0, 0, 2])
-apply(book, "several-first-part", SEVERAL + ["where it and all of the list are carried out"], [FIRST, NEW], [[], []], result=[2, 0, 0, 0, 2],
+apply(book, "several-first-part", SEVERAL + ["where it and … all of the list are carried out"], [FIRST, NEW], [[], []], result=[2, 0, 0, 0, 2],
       after={0: {3: "111223333"}, 1: {66: "00000200"}})
 apply(book, "several-second-part", ["one behind the other from the same master", "the master and verdicts are the single batch's", "with the same state, year and codes"],
       [SECOND], [[]], rows=[row("111223333"), row(owed=200)], space=0, after=END, result=[1, 0, 0, 0, 2])

@@ -152,7 +152,7 @@ for date, codes in [("20070131", []), ("        ", []), ("20000229", []), ("1900
                     ("20070930", []), ("20071031", []), ("20071131", [15]), ("20071231", []), ("20071301", [15]), ("20070001", [15]),
                     ("20070100", [15]), ("20070132", [15]), ("2007013 ", [15]), (" 2007013", [15]), ("200701A1", [15]), ("20070331", []),
                     ("20070531", [])]:
-    one("15-" + date.replace(" ", "_"), ["15 (A)", "item 2|for each year of 1900", "a month's length by arithmetic"], detail("A", {180: date}, ssn=NEW), codes)
+    one("15-" + date.replace(" ", "_"), ["15 (A)", "item 2|for each year of 1900", "however the calendar check finds"], detail("A", {180: date}, ssn=NEW), codes)
 one("15-not-of-m", "15 (A)", detail("M", {180: "BAD DATE"}), [])
 
 # 16: the field, and by hand the set that is stored, or none
