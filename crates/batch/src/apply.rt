@@ -168,7 +168,7 @@ pub fn run(
     finish(p, state, rejects, d, s.written)
 }
 
-// Applies a batch to a master of so many rows.
+// Applies a batch to a master with `rows` rows.
 pub fn apply(
     master: &mut [u8],
     rows: usize,

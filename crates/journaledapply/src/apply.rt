@@ -30,7 +30,7 @@ fn is_short(batch: &[u8], journal: &[u8]) -> bool
     journal.len() < 12 + 205 * d
 }
 
-// Applies a batch to a master of so many rows, and writes its journal.
+// Applies a batch to a master with `rows` rows, and writes its journal.
 pub fn apply_journaled(
     master: &mut [u8],
     rows: usize,

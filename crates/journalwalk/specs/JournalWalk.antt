@@ -30,7 +30,7 @@ pub record KeyJournaled (f : Fixed) (s s′ : Stand) (wanted : Bool) (journal : 
 abbrev pub journalPart : Bool → List (List ℕ) → List (List ℕ) → List ℕ
 journalPart wanted old rows = cond wanted (entriesBytes (entriesFrom 0 old rows)) []
 
--- room for the entry of each of so many details, over any limit: a place takes so many groups
+-- room for the entries of `own` details, over any limit: a place has at most one group more than `groups`
 pub record JournalRoom (wanted : Bool) (own end at : ℕ) (journal : List ℕ) : Type 0 where
   pub groups : ℕ
   pub places : end < 128 ^ suc groups

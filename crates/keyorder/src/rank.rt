@@ -19,7 +19,7 @@ fn type_rank(b: u8) -> u64
     if b == 0xD5 { 1 } else { 0 }
 }
 
-// The rank of a sound key of the state: its SSN and its case type; the state has no say but in the promise.
+// The rank of a sound key of the state: its SSN and its case type; the state is there for the promise alone.
 fn own_rank(state: &[u8], key: &[u8]) -> u64
     requires { ⌜ isOwnKey (now state) (now key) ≡ true ⌝ }
     ensures { λ r. ⌜ (r ≡ rankOf (now (state .entry)) (now (key .entry))) × (r < 2 ^ 31) ⌝ }

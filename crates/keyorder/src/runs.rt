@@ -1,4 +1,4 @@
-// Where the own keys end in the key order, and where each key's details end: told by the ranks, no record is read.
+// Where the own keys end in the key order, and where each key's details end. The ranks are enough: no record is read.
 use crate::rank;
 use crate::tagged;
 ghost use Prim.Native.Nat.{_≤_, _<_};

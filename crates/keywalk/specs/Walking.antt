@@ -95,7 +95,7 @@ fixedOf state year list batch own end =
       end = end;
     }
 
--- where the walk stands: the position in the key order, the first row not yet passed, the place that the next row goes to, the master's
+-- how far the walk has come: the position in the key order, the first row not yet passed, the place that the next row goes to, the master's
 -- bytes and the numbers of the verdict list
 pub record Stand : Type 0 where
   pub position : ℕ

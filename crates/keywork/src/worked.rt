@@ -103,7 +103,7 @@ pub fn put_back(numbers: &mut [u64], d: usize)
     sort(&mut numbers[0..d]);
 }
 
-// The details at positions p up to e, each on no row; no name given has a say there.
+// The details at positions p up to e, each on no row, where the names given make no difference.
 pub fn work_alone(
     batch: &[u8],
     numbers: &mut [u64],

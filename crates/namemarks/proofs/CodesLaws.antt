@@ -1,4 +1,4 @@
--- Laws of a detail's code: names of one number are one name, and a giver's code tells exactly whose name it gives. Assumes nothing.
+-- Laws of a detail's code: names of one number are one name, and the code of a detail that gives a name says exactly which. Assumes nothing.
 use Prim.Native.Nat.{ℕ, suc, _+_, _*_, _/_, _%_, _^_, _≤_, _<_, suc-le-suc}
 use mathlib.Core.Path.{_≡_, refl, sym, ap, _∙_}
 use mathlib.Core.Bool.{Bool, true, false, cond, _&&_}
@@ -116,7 +116,7 @@ module _ (state batch : List ℕ) where
       go false =
           ne-eqb (bytesNumber (nameAt batch (indexPart m)) * 2 + 1) (bytesNumber (nameAt batch (indexPart n)) * 2) (λ e. omega arith)
 
-  -- so the codes of all details tell whether a name is matched
+  -- so the codes of all details say whether a name is matched
   pub codes-tell : (s : List ℕ) (n : ℕ) → AreBytes batch → ((q : ℕ) → q < length s → indexPart (getD s q 0) * 245 + 245 ≤ length batch) → indexPart n * 245 + 245 ≤ length batch
       → hasGiver (map (nameCode state batch) s) (nameCode state batch n) ≡ isMatched state batch s n
   unfolding hasGiver

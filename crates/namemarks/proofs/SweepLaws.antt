@@ -1,4 +1,4 @@
--- Laws of the sweep: in numbers that do not fall the last name given before a number, itself with them, tells whether its own is given.
+-- Laws of the sweep: in numbers that do not fall, the last name given up to a number says whether its own is given.
 -- Assumes nothing.
 use Prim.Native.Nat.{ℕ, _+_, _*_, _/_, _%_, _^_, _≤_, _<_}
 use mathlib.Core.Path.{_≡_, refl, sym, _∙_}
@@ -79,7 +79,7 @@ module _ (s : List ℕ) (k given given′ : ℕ) (level : NotFalling (length s) 
       same (inl w) h = absurd (omega arith)
       same (inr w) h = omega (arith, w .gives, w .is, up-to s k (w .place) level l (w .before))
 
-  -- the last given tells whether the name of the number at k is given
+  -- the last name given says whether the name of the number at k is given
   pub last-tells : eqb (getD s k 0 / 2 ^ 32 * 2 + 1) given′ ≡ hasGiver s (getD s k 0)
   unfolding hasGiver
   last-tells = go (eqb (getD s k 0 / 2 ^ 32 * 2 + 1) given′) refl (last-next .from)

@@ -1,4 +1,4 @@
-// The details of one key marked: sorted by name, those that give it first, one sweep tells; sorted again they stand as before.
+// The details of one key marked: sorted by name, those that give it first, and swept once; sorted again they are in their order of before.
 use crate::codes;
 use keyorder::tagged;
 use sorting::sorting::sort;

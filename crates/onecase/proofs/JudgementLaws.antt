@@ -243,7 +243,7 @@ none-dead : isLiveRow none ≡ false
 unfolding isLiveRow
 none-dead = refl
 
--- without a row the names given have no say
+-- without a row the names given make no difference
 module _ (state : List ℕ) (year : ℕ) (list rec : List ℕ) (names₁ names₂ : List (List ℕ)) where
   abbrev first : Setting
   first = settingOf state year list names₁

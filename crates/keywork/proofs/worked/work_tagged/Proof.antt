@@ -1,4 +1,4 @@
--- `worked::work_tagged`: the step of the record, whose other errors, warning and mark the number tells. Assumes nothing.
+-- `worked::work_tagged`: the step of the record; its other errors, its warning and its mark are read from the number. Assumes nothing.
 use denote.Ref.{now}
 use Rattle.onecase.specs.Machine.{rowOf}
 use Rattle.keywork.proofs.WorkedLaws.{work-one}

@@ -1,4 +1,4 @@
--- `codes::given_by`: bit 31 tells whether the code gives its name. Assumes nothing.
+-- `codes::given_by`: bit 31 says whether the code gives its name. Assumes nothing.
 use borrow.Author.Tests.{eq-eqb, ne-eqb}
 use borrow.Author.Needs.{needs}
 use Rattle.namemarks.proofs.codes.given_by.Statement.{statement}

@@ -1,4 +1,4 @@
--- `codes::sweep`: the first k codes are swept, and the last name given among them is known; as no code falls, it tells of every giver.
+-- `codes::sweep`: the first k codes are swept, and the last name given among them is known; as no code falls, no earlier name is needed.
 -- Assumes nothing.
 use Prim.Native.Nat.{_-_}
 use lib.ListN.{length}

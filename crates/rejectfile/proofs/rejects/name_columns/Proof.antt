@@ -1,4 +1,4 @@
--- `rejects::name_columns`: each answer of the machine is told apart, and only the third has a name. Assumes nothing.
+-- `rejects::name_columns`: each answer of the machine is a case of its own, and only the third has a name. Assumes nothing.
 use mathlib.Core.Path.{sym, ap}
 use borrow.Author.Needs.{needs}
 use Rattle.rejectfile.specs.Rejects.{fourColumns}
