@@ -78,7 +78,7 @@ module _ {R : Type 0} (refusal : ℕ) (result : R) where
       go true e k = eqb-true refusal 0 e
       go false e k = absurd (false≢true k)
 
--- ---- what a C function returns, of an answer that was told apart
+-- ---- what a C function returns, by the case of the answer
 pub returned-by : {E R N B : Type 0} (outcome : E → Outcome R B) (f : R → N) (kept : N) (o : Outcome R B) (answer told : E)
     → outcome answer ≡ o → answer ≡ told → returned f kept (outcome told) ≡ returned f kept o
 returned-by outcome f kept o answer told e t = ap (λ a. returned f kept (outcome a)) (sym t) ∙ ap (λ p. returned f kept p) e

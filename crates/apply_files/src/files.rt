@@ -3,7 +3,7 @@ use crate::limits::Input;
 ghost use Prim.Native.Nat.{_≤_};
 ghost use lib.ListN.{length};
 
-// One read into buf from `done` on. A read that fails is told apart from the end of the file.
+// One read into buf from `done` on. A read that fails is not taken for the end of the file.
 fn read_some(fd: i32, buf: &mut [u8], done: usize) -> Input
     requires { ⌜ done ≤ length (now buf) ⌝ }
 {

@@ -13,7 +13,7 @@ use limits::Input;
 use outcome::length_of;
 use outcome::outcome_of;
 
-// Writes the files of a run; a refusal writes none. Whether that is done.
+// Writes the files of a run; a refusal writes none. False where a file can't be written.
 fn write_files(files: NewFiles, master: &[u8; 40001], rejects: &[u8; 24745]) -> bool {
     match files {
         NewFiles::NoFile => true,

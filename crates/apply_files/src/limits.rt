@@ -13,7 +13,7 @@ pub const LOCALS_SPACE: usize = 3000;
 pub enum Input {
     // It is missing, or it can't be read.
     Missing,
-    // So many bytes, at the front of the buffer.
+    // The number of bytes read, at the front of the buffer.
     Bytes(usize),
 }
 

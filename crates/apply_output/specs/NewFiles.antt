@@ -32,11 +32,11 @@ abbrev pub filesBy : Answer ApplyResult → (details : ℕ) → ApplyBuffers →
 filesBy (refused n) details buffers = noFile
 filesBy (done r) details buffers = bothFiles (masterFile (r .rows) (buffers .master)) (rejectFile details (buffers .verdicts) (buffers .rejects))
 
--- the files of a call with so many details, from its outcome
+-- the files of a call with `details` details, from its outcome
 abbrev pub filesOf : ℕ → ApplyOutcome → Files
 filesOf details o = filesBy (o .answer) details (o .buffers)
 
--- what each answer stands for: so many bytes at the front of the two buffers
+-- what each answer stands for: none, or bytes at the front of the two buffers
 abbrev pub filesIn : NewFiles → (master rejects : List ℕ) → Files
 filesIn NoFile master rejects = noFile
 filesIn (Both m r) master rejects = bothFiles (take m master) (take r rejects)

@@ -16,7 +16,7 @@ ghost use Rattle.layout.specs.Batch.{detailCount};
 pub enum NewFiles {
     // A refusal writes no file.
     NoFile,
-    // So many bytes at the front of each.
+    // The bytes that are written, at the front of each.
     Both { master: usize, rejects: usize },
 }
 

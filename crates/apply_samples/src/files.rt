@@ -26,7 +26,7 @@ pub fn is_there(path: &[u8]) -> bool {
     true
 }
 
-// Shows a file: none, as it was, or so many bytes.
+// Shows a file: none, as it was, or its number of bytes.
 pub fn show(path: &[u8], before: &[u8]) {
     text(b"  ");
     text(path);

@@ -40,7 +40,7 @@ rows-rise (row ∷ rows) i zero r h l = absurd (not-suc-le-zero h)
 rows-rise (row ∷ rows) zero (suc j) r h l = rows-head row rows r j (le-of-suc-le-suc l)
 rows-rise (row ∷ rows) (suc i) (suc j) r h l = rows-rise rows i j (rows-tail row rows r) (le-of-suc-le-suc h) (le-of-suc-le-suc l)
 
--- what the order at place p tells
+-- what follows from the order at place p
 module _ (key : List ℕ) (rows : List (List ℕ)) (r : rising (keysOf rows) ≡ true) (p : ℕ) (l : p < length rows) where
   found-less : orderOf (rowKey (getD rows p [])) key ≡ less → KeysBelow key rows (p + 1)
   unfolding isLess

@@ -1,4 +1,4 @@
--- Laws of rows under their keys, for whatever holds of each row; and rows in rising order of key are told apart by what is found under each
+-- Laws of rows under their keys, for whatever holds of each row; and rows in rising order of key are the same where the same is found under each
 -- key. Assumes nothing.
 use Prim.Native.Nat.{ℕ}
 use mathlib.Core.Path.{_≡_, refl, sym, _∙_}

@@ -107,7 +107,7 @@ module _ (code : ℕ → Option ℕ) (input out : List ℕ) where
   abbrev run : Run NoResult (List ℕ)
   run = conversionRun code input out
 
-  -- where every byte has a counterpart no place is told, and 17 alone is left
+  -- where every byte has a counterpart there is no place to give, and 17 alone is left
   conversion-by : (answer : Answer NoResult) (left : List ℕ) → placeWithout code input ≡ none
       → record { answer = answer; buffers = left } ≡ outcomeBy (conversionRefusal code input out) out run
       → record { outcome = record { answer = answer; buffers = left }; place = none } ≡ conversionOutcome code input out

@@ -1,4 +1,4 @@
--- Request 1, the characters: the letters, digits, space and `-,.()/&'#`, each with its ASCII code and its EBCDIC code, which is that of
+-- Document 02, item 1, the characters: the letters, digits, space and `-,.()/&'#`, each with its ASCII code and its EBCDIC code, which is that of
 -- the published code page 037. Letters are upper case alone: 46 characters. Assumes nothing.
 use Prim.Native.Nat.{ℕ}
 use mathlib.Core.List.{List, [], _∷_}

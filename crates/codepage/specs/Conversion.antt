@@ -1,4 +1,4 @@
--- Request 1: the conversion of a file, in either direction. `code` is what is said of a byte: its counterpart, or none.
+-- Document 02, item 1: the conversion of a file, in either direction. `code` is what is said of a byte: its counterpart, or none.
 -- Assumes nothing.
 use Prim.Native.Nat.{ℕ, suc}
 use mathlib.Core.Path.{_≡_}

@@ -1,4 +1,4 @@
--- Request 1: a table of 256 entries each way gives the code or says there is none. Assumes nothing.
+-- Document 02, item 1: a table of 256 entries each way gives the code or says there is none. Assumes nothing.
 use Prim.Native.Nat.{ℕ, zero, suc, _<_}
 use mathlib.Core.Path.{_≡_}
 use mathlib.Core.List.{List, [], _∷_}

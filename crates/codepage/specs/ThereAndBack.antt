@@ -1,4 +1,4 @@
--- Request 1: conversion there and back is the identity on every file it accepts. Over two whole calls. Assumes nothing.
+-- Document 02, item 1: conversion there and back is the identity on every file it accepts. Over two whole calls. Assumes nothing.
 use Prim.Native.Nat.{ℕ, _≤_}
 use mathlib.Core.Path.{_≡_}
 use mathlib.Core.List.{List}

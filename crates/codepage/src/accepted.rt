@@ -1,4 +1,4 @@
-// Whether every byte of a file has a counterpart. The tests are by ranges and the loops have no way out in the middle: they run over
+// Whether every byte of a file has a counterpart. The tests are by ranges and the loops never end early: they run over
 // several bytes at a time, as look-ups in a table can't.
 ghost use mathlib.Core.Path.{_≡_};
 ghost use Rattle.codepage.specs.CodePage.{ebcdicOf, asciiOf};

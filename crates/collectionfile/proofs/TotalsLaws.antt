@@ -12,7 +12,7 @@ use Rattle.text.specs.Fields.{areDigits, allDigits, number}
 use Rattle.text.proofs.BlocksLaws.{length-blocks, blocks-next, part-width}
 use Rattle.collectionfile.specs.File.{linesAbove, isTotal}
 
--- so many found among the lines before i, and those from it on
+-- the number found among the lines before i, and those from it on
 module _ (of : List ℕ → ℕ) (count : ℕ) (file : List ℕ) where
   pub count-next : (i : ℕ) → i < count
       → linesAbove of (drop i (blocks 240 count file)) ≡ cond (ltb 0 (of (take 240 (drop (i * 240) file)))) 1 0 + linesAbove of (drop (i + 1) (blocks 240 count file))

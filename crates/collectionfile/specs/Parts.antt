@@ -33,7 +33,7 @@ pub record AreLineTotals (lines : List (List ℕ)) (t : Totals) : Type 0 where
   pub adjustments-are : t .adjustments ≡ linesAbove adjusted lines
   pub collections-are : t .collections ≡ linesAbove collected lines
 
--- the record behind so many lines
+-- the record behind `count` lines
 abbrev pub lastBehind : ℕ → List ℕ → List ℕ
 lastBehind count file = take 240 (drop (count * 240) file)
 

@@ -1,4 +1,4 @@
--- Laws of a record's key: a good record has a sound one, it is the state and the code, and its bytes tell whether it is sound.
+-- Laws of a record's key: a good record has a sound one, it is the state and the code, and its bytes say whether it is sound.
 -- Assumes nothing.
 use mathlib.Core.Path.{_≡_, sym, ap, _∙_}
 use mathlib.Core.Bool.{true, false, not, _&&_}

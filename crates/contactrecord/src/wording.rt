@@ -56,7 +56,7 @@ fn ends_run(word: &[u8], run: &[u8], letter: bool) -> bool
     fields::same(word, run)
 }
 
-// Whether a word of three bytes stands at some place of s. No way out in the middle: several places are looked at at a time.
+// Whether a word of three bytes stands at some place of s. The loop never ends early: several places are looked at at a time.
 fn holds_three(s: &[u8], word: &[u8]) -> bool
     requires { ⌜ length (now word) ≡ 3 ⌝ }
     ensures { λ r. ⌜ r ≡ contains (now (word .entry)) (now (s .entry)) ⌝ }
@@ -96,7 +96,7 @@ fn compares_runs(s: &[u8], word: &[u8]) -> bool
 }
 
 // Whether the word, which isn't empty, is a whole run of letters of s. Where s doesn't hold it, it is none of the runs: most fields don't
-// hold a word of three letters, and that is told sooner than the runs.
+// hold a word of three letters, and that is found sooner than the runs.
 pub fn has_run(s: &[u8], word: &[u8]) -> bool
     requires { ⌜ 0 < length (now word) ⌝ }
     ensures { λ r. ⌜ r ≡ hasRun (now (word .entry)) (now (s .entry)) ⌝ }

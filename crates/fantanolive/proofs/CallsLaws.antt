@@ -13,7 +13,7 @@ use Rattle.reconciliation.specs.declared.reconcile.Reconciled.{Reconciled}
 use Rattle.fantanolive.specs.Calls.{applyNumbers, applyLeft, findLeftBy, findLeft, reconcileLeft}
 use Rattle.batch.specs.Call.{Call}
 
--- of an answer told apart
+-- by the case of the answer
 pub apply-left : (c : Call) (master verdicts rejects result : List ℕ) (answer told : Applied)
     → IsOutcome c (appliedAs answer master verdicts rejects) → answer ≡ told
     → returned applyNumbers result (appliedAs told master verdicts rejects) ≡ applyLeft c result

@@ -1,4 +1,4 @@
--- From the outcome of a call with a journal and of taking back to what its C function leaves, of an answer told apart. Assumes nothing.
+-- From the outcome of a call with a journal and of taking back to what its C function leaves, by the case of the answer. Assumes nothing.
 use Prim.Native.Nat.{ℕ}
 use mathlib.Core.Path.{_≡_, ap, _∙_, sym}
 use mathlib.Core.List.{List}

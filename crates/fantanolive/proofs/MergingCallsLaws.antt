@@ -8,7 +8,7 @@ use Rattle.merging.specs.Merge.{MergeCall, mergedAs, mergeOutcome, IsMerge}
 use Rattle.merging.specs.declared.merge.Merged.{Merged}
 use Rattle.fantanolive.specs.MergingCalls.{mergeLeft}
 
--- of an answer told apart
+-- by the case of the answer
 pub merge-left : (c : MergeCall) (out : List ℕ) (records : ℕ) (answer told : Merged) → IsMerge c (mergedAs answer out) → answer ≡ told
     → returned (λ n. n) records (mergedAs told out) ≡ mergeLeft c records
 unfolding mergeLeft

@@ -9,7 +9,7 @@ use Rattle.totalling.specs.DetailTotals.{totalledAs, totalsAnswer}
 use Rattle.totalling.specs.declared.detail_totals.Totalled.{Totalled}
 use Rattle.fantanolive.specs.TotallingCalls.{totalsLeftBy, totalsLeft}
 
--- of an answer told apart
+-- by the case of the answer
 pub totals-left : (batch kept : List ℕ) (answer told : Totalled) → totalledAs answer ≡ totalsAnswer maxRows batch → answer ≡ told
     → totalsLeftBy (totalledAs told) kept ≡ totalsLeft batch kept
 unfolding totalsLeft

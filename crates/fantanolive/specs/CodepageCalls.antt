@@ -1,4 +1,4 @@
--- The exported C functions of request 1: what each returns and what it leaves in the place and the output, over the outcome of the call
+-- The exported C functions of document 02, item 1: what each returns and what it leaves in the place and the output, over the outcome of the call
 -- beneath it. Assumes nothing.
 use Prim.Native.Nat.{ℕ}
 use mathlib.Core.List.{List}

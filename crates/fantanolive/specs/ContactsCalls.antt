@@ -1,4 +1,4 @@
--- The exported C functions of request 4: what each returns and what it leaves in its result numbers and every buffer lent, over the
+-- The exported C functions of document 02, item 4: what each returns and what it leaves in its result numbers and every buffer lent, over the
 -- outcome of the call beneath it. Assumes nothing.
 use Prim.Native.Nat.{ℕ}
 use mathlib.Core.List.{List, [], _∷_}

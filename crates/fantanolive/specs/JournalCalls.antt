@@ -1,4 +1,4 @@
--- The exported C functions of request 8: what each returns and what it leaves in every buffer lent, over the outcome of the call beneath it.
+-- The exported C functions of document 02, item 8: what each returns and what it leaves in every buffer lent, over the outcome of the call beneath it.
 -- Assumes nothing.
 use Prim.Native.Nat.{ℕ}
 use mathlib.Core.List.{List, [], _∷_, _++_}

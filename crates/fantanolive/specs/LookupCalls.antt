@@ -1,4 +1,4 @@
--- The exported C function of request 9: what it returns and what it leaves in its result number and every buffer lent, over the outcome of
+-- The exported C function of document 02, item 9: what it returns and what it leaves in its result number and every buffer lent, over the outcome of
 -- the call beneath it. Assumes nothing.
 use Prim.Native.Nat.{ℕ}
 use mathlib.Core.List.{List}

@@ -1,4 +1,4 @@
--- The exported C function of request 6 that posts: what it returns and what it leaves in every buffer lent, over the outcome of the call
+-- The exported C function of document 02, item 6, that posts: what it returns and what it leaves in every buffer lent, over the outcome of the call
 -- beneath it. Assumes nothing.
 use Prim.Native.Nat.{ℕ}
 use Rattle.answers.specs.Answer.{Returned, returned}

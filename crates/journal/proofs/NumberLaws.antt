@@ -110,7 +110,7 @@ read-shortest (b ∷ bs) a n behind e =
         let g : before (b - 128) (readNumber bs) ≡ read n behind = sym (read-high b bs (ltb-false b 128 t)) ∙ e in
         more m r (eqb m 0) refl (ltb-false b 128 t) (ih m r f) (rw f at g)
 
--- a number below 128 to some power has at most so many groups
+-- a number below 128 to the power k + 1 has at most k + 1 groups
 groups-length : (k most n : ℕ) → n < 128 ^ suc k → length (groups most n) ≤ suc k
 unfolding groups
 groups-length k zero n h = omega arith

@@ -90,7 +90,7 @@ abbrev pub entriesBehind : (List ℕ → Option (List Entry)) → ReadEntry → 
 entriesBehind others noEntry = none
 entriesBehind others (oneEntry e bytes) = beforeOthers e (others bytes)
 
--- entries to the end of some bytes, at most so many
+-- entries to the end of some bytes, at most a given number of them
 unfoldable pub entriesUpTo : ℕ → List ℕ → Option (List Entry)
 entriesUpTo zero [] = some []
 entriesUpTo zero (b ∷ bs) = none

@@ -13,7 +13,7 @@ pub max-records : maxRows + 1 ≡ 16777216
 unfolding maxRows
 max-records = refl
 
--- so many records can be counted, and their amounts added up, in 64 bits
+-- as many records as the limit allows can be counted, and their amounts added up, in 64 bits
 pub few-records : maxRows + 1 ≤ 2 ^ 32
 unfolding maxRows
 few-records = lit≤ tt

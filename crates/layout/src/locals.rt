@@ -34,7 +34,7 @@ fn likely_place(code: &[u8], list: &[u8]) -> usize
     lo
 }
 
-// A list of at most so many bytes, 64 codes, is read about as soon as it is halved.
+// The bytes of 64 codes: a list of at most this length is read through about as fast as it is halved.
 const SHORT: usize = 192;
 
 // Whether the list is long, and the code stands at its likely place in it.

@@ -226,7 +226,7 @@ module _ (limit : ℕ) (first second out : List ℕ) (a : ℕ) (ea : a ≡ batch
         unfolding refusal33
         answer-0 l = sym (past-both ∙ rw (no32, le-ltb (length out) (length (mergedBatch first second)) (omega (arith, long))))
 
--- refusal 32, as the code tells it
+-- refusal 32, as the code tests it
 pub cannot-told : (limit : ℕ) (first second : List ℕ) (same : Bool) (most n : ℕ) (t : Stated) → most ≡ limit + 1
     → same ≡ sameBytes (submittingState first) (submittingState second) → n ≡ mergedCount first second
     → t ≡ mergedTotals first second

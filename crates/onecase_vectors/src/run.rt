@@ -1,4 +1,4 @@
-// The lines of the vectors, told by their first byte. Each is written back, a record's with its answer.
+// The lines of the vectors; the first byte says of which kind a line is. Each is written back, a record's with its answer.
 //   # ..               a heading
 //   control OH 2007    the control record's state and the year; the list is empty with `, none listed` behind, else it has 001 and 005
 //   no row             the vectors below start from no row

@@ -33,7 +33,7 @@ pub record IsHeading (number : ℕ) (line : List ℕ) : Type 0 where
   pub digits : columns 7 (6 + pageDigits) line ≡ digitField pageDigits number
   pub filler : columns (7 + pageDigits) 132 line ≡ spaces (lineWidth - 6 - pageDigits)
 
--- the foot of a page with so many lines
+-- the foot of a page with `lines` lines
 pub record IsFoot (lines : ℕ) (line : List ℕ) : Type 0 where
   pub wide : length line ≡ lineWidth
   pub word : columns 1 5 line ≡ TOTAL

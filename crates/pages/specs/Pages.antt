@@ -24,7 +24,7 @@ unfoldable pub firstPages : ℕ → List (List ℕ) → List (List (List ℕ))
 firstPages zero lines = []
 firstPages (suc n) lines = take 58 lines ∷ firstPages n (drop 58 lines)
 
--- how many pages so many lines take: on the last page perhaps fewer than 58, never none
+-- how many pages a number of lines takes: on the last page perhaps fewer than 58, never none
 abbrev pub pageCount : ℕ → ℕ
 pageCount lines = (lines + 57) / 58
 

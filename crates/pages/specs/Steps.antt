@@ -1,5 +1,5 @@
 -- For the contracts of inner functions; no rule of the papers stands here.
--- The pages line by line: what each row adds where a page has so many rows already. Assumes nothing.
+-- The pages line by line: what each row adds behind the rows that its page has already. Assumes nothing.
 use Prim.Native.Nat.{ℕ, _+_}
 use mathlib.Core.Path.{_≡_}
 use mathlib.Core.List.{List, [], _∷_, _++_}

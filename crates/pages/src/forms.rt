@@ -81,7 +81,7 @@ pub fn heading_of(number: u64) -> [u8; 132]
     line
 }
 
-// The foot of a page with so many lines.
+// The foot of a page with `lines` lines.
 pub fn foot_of(lines: usize) -> [u8; 132]
     ensures { λ r. ⌜ r ≡ foot lines ⌝ }
 {

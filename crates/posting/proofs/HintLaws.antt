@@ -1,4 +1,4 @@
--- Laws of places among n rows: written one by one they stay within, and the key found at one tells that it is the row's. Assumes nothing.
+-- Laws of places among n rows: written one by one they stay within, and a place where the key is found is the row's. Assumes nothing.
 use Prim.Native.Nat.{ℕ, zero, suc, _+_, _-_, _*_, _/_, _≤_, _<_}
 use mathlib.Core.Path.{_≡_, refl, sym, _∙_}
 use mathlib.Core.List.{List, [], _∷_}

@@ -3,6 +3,6 @@ use Prim.Native.Nat.{ℕ, _+_, _≤_}
 use mathlib.Core.List.{List}
 use lib.ListN.{getD}
 
--- behind each place there are still so many of n rows
+-- behind each place there are still `left` of n rows
 abbrev pub Within : ℕ → ℕ → List ℕ → Type 0
 Within n left places = (k : ℕ) → getD places k 0 + left ≤ n

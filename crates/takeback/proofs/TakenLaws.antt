@@ -95,7 +95,7 @@ unfolding keysOf belowFirst
 below-behind key row [] h b = refl
 below-behind key row (r ∷ rows) h b = less-trans key (rowKey row) (rowKey r) h b
 
--- a row at entry whose key is below the rest has no say there
+-- a row at entry whose key is below the rest makes no difference there
 old-behind : (o : List ℕ) (os rows : List (List ℕ)) → belowFirst (rowKey o) (keysOf rows) ≡ true → rising (keysOf rows) ≡ true
     → oldOf (o ∷ os) rows ≡ oldOf os rows
 unfolding keysOf belowFirst

@@ -37,7 +37,7 @@ pub record PlaceRestored (m : List ℕ) (p : ℕ) (journal : List ℕ) (s : Posi
   pub to-low : r .to ≤ p + 1
   pub to-high : s .to ≤ r .to
 
--- all rows restored: so many at the front, and the bytes behind them kept
+-- all rows restored: `count` rows at the front, and the bytes behind them kept
 pub record AllRestored (m : List ℕ) (n : ℕ) (m′ : List ℕ) (count : ℕ) (entries : List Entry) : Type 0 where
   pub rows-are : rowsOf count m′ ≡ restoredFrom 0 entries (rowsOf n m)
   pub rest-kept : drop (count * 200) m′ ≡ drop (count * 200) m

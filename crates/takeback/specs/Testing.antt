@@ -32,7 +32,7 @@ isAfter (some last) key = isLess (orderOf last key)
 unfoldable pub soundBehind : Option (List ℕ) → List (List ℕ) → Bool
 soundBehind last rows = every isSoundRow rows && rising (withLast last (keysOf rows))
 
--- the tests that are left from place p of n on, so many marks 00 having been met: over the entries still to come and the rows from p on
+-- the tests that are left from place p of n on, where `marks` marks 00 were met before: over the entries still to come and the rows from p on
 unfoldable pub passes : ℕ → ℕ → ℕ → ℕ → Option (List ℕ) → Option (List Entry) → List (List ℕ) → Bool
 passes n before p marks last none rows = false
 passes n before p marks last (some es) rows =

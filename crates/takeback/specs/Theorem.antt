@@ -26,7 +26,7 @@ pub record Follows (old new : List (List ℕ)) : Type 0 where
   pub stays : (key : List ℕ) → rowWith key new ≡ none → rowWith key old ≡ none
 
 -- For every batch carried out, taking it back with its journal, from the master it left, gives the old row count and rows; bytes past them are
--- kept as the batch left them. The rows at entry are sound and 200 bytes wide, the master that the batch left has so many rows, which 3 and 4
+-- kept as the batch left them. The rows at entry are sound and 200 bytes wide, the master that the batch left has `rows` rows, which 3 and 4
 -- don't refuse; nothing is said of the limit or of the journal's buffer.
 pub record IsLeftBy (limit : ℕ) (old : List (List ℕ)) (master : List ℕ) (rows : ℕ) : Type 0 where
   pub wide : AreWide old

@@ -52,7 +52,7 @@ pub fn copy(dst: &mut [u8], to: Columns, src: &[u8], from: Columns)
     put(dst, to, field(src, from));
 }
 
-// Whether every byte is b. No way out in the middle: the loop runs over several bytes at a time.
+// Whether every byte is b. The loop never ends early, so that it runs over several bytes at a time.
 pub fn all_are(s: &[u8], b: u8) -> bool
     ensures { λ r. ⌜ r ≡ every (isByte b) (now (s .entry)) ⌝ }
 {
@@ -79,7 +79,7 @@ pub fn is_zero(s: &[u8]) -> bool
     all_are(s, 0xF0)
 }
 
-// Whether every byte is a digit. No way out in the middle either.
+// Whether every byte is a digit. The loop never ends early either.
 pub fn all_digits(s: &[u8]) -> bool
     ensures { λ r. ⌜ r ≡ allDigits (now (s .entry)) ⌝ }
 {
@@ -139,7 +139,7 @@ pub fn put_number(dst: &mut [u8], c: Columns, n: u64)
     }
 }
 
-// Whether two runs of bytes are the same. No way out in the middle either.
+// Whether two runs of bytes are the same. The loop never ends early either.
 pub fn same(a: &[u8], b: &[u8]) -> bool
     ensures { λ r. ⌜ r ≡ sameBytes (now (a .entry)) (now (b .entry)) ⌝ }
 {

@@ -1,4 +1,4 @@
--- `fantanolive_to_ebcdic` meets its contract: what the call leaves, with its answer told as a number and a place. Assumes nothing.
+-- `fantanolive_to_ebcdic` meets its contract: what the call leaves, with its answer as a number and a place. Assumes nothing.
 use borrow.Author.Needs.{needs}
 use Rattle.fantanolive.proofs.CodepageCallsLaws.{conversion-left}
 use Rattle.fantanolive.proofs.codepage_calls.fantanolive_to_ebcdic.Statement.{statement}
