@@ -5,6 +5,7 @@ use journal::writing;
 use journalwalk::walk;
 use keyorder::order;
 use keywalk::counting;
+use keywork::batch_order;
 use keywork::worked;
 use layout::chart_a2;
 use layout::records;
@@ -107,7 +108,7 @@ fn work(
         wanted,
     );
     worked::work_alone(batch, verdicts, own, d, state, year, list);
-    worked::put_back(verdicts, d);
+    batch_order::put_back(verdicts, d);
     let progress = verdicts::write_verdicts(rows, batch, d, verdicts, rejects);
     JournaledWork { progress, written }
 }

@@ -18,6 +18,7 @@ use text::words;
 ghost use mathlib.Core.Path.{_≡_};
 ghost use mathlib.Core.Bool.{_&&_};
 ghost use lib.Dec.{ltb};
+ghost use lib.ListN.{length};
 ghost use Rattle.text.specs.Characters;
 ghost use Rattle.text.specs.Fields.{columns, areDigits, number};
 ghost use Rattle.exclusionsets.specs.Exclusions.{exclusionsOf};
@@ -106,7 +107,8 @@ pub fn has_08(rec: &[u8; 245]) -> bool
 }
 
 // Error 09 (all but A): no live row with this key.
-pub fn has_09(rec: &[u8; 245], held: bool, row: &[u8; 200]) -> bool
+pub fn has_09(rec: &[u8; 245], held: bool, row: &[u8]) -> bool
+    requires { ⌜ length (now row) ≡ 200 ⌝ }
     ensures { λ r. ⌜ r ≡ error09 (rowIf held (now (row .entry))) (now (rec .entry)) ⌝ }
 {
     !(rec[72] == record::ADD) & !(held & row::is_live(row))
@@ -257,7 +259,8 @@ pub fn has_16(rec: &[u8; 245]) -> bool
 }
 
 // Error 17 (all but A, B): the name is not the stored one, and not `given` by a B record of the key.
-pub fn has_17(rec: &[u8; 245], held: bool, row: &[u8; 200], given: bool) -> bool
+pub fn has_17(rec: &[u8; 245], held: bool, row: &[u8], given: bool) -> bool
+    requires { ⌜ length (now row) ≡ 200 ⌝ }
     ensures { λ r. ⌜ UnderNames given (now (rec .entry)) (λ names. r ≡ error17 names (rowIf held (now (row .entry))) (now (rec .entry))) ⌝ }
 {
     let t = rec[72];

@@ -2,6 +2,7 @@
 use crate::errors;
 ghost use mathlib.Core.Path.{_≡_};
 ghost use Prim.Native.Nat.{_≤_, _<_, _^_};
+ghost use lib.ListN.{length};
 ghost use Rattle.layout.specs.Codes.{numberOfCodes};
 ghost use Rattle.judging.specs.Errors.{code};
 ghost use Rattle.judging.specs.Parts.{UnderNames, IsFirst, IsLast, IsJudged, firstCodes, codes06to08, codes10to13, codes14to16, lastCodes};
@@ -84,13 +85,8 @@ pub struct LastErrors {
     pub filler: bool,
 }
 
-fn judge_last(
-    f: FirstErrors,
-    rec: &[u8; 245],
-    held: bool,
-    row: &[u8; 200],
-    given: bool,
-) -> LastErrors
+fn judge_last(f: FirstErrors, rec: &[u8; 245], held: bool, row: &[u8], given: bool) -> LastErrors
+    requires { ⌜ length (now row) ≡ 200 ⌝ }
     ensures { λ r. ⌜ UnderNames given (now (rec .entry)) (λ names. IsLast f names (rowIf held (now (row .entry))) (now (rec .entry)) r) ⌝ }
 {
     let judged = !f.kind & !(f.state | f.ssn | f.case_type);
@@ -114,12 +110,13 @@ fn set_last(b: LastErrors) -> u64
 pub fn judge(
     rec: &[u8; 245],
     held: bool,
-    row: &[u8; 200],
+    row: &[u8],
     given: bool,
     state: &[u8],
     year: u64,
     list: &[u8],
 ) -> Judged
+    requires { ⌜ length (now row) ≡ 200 ⌝ }
     ensures { λ r. ⌜ UnderNames given (now (rec .entry)) (λ names.
         IsJudged (settingOf (now (state .entry)) year (now (list .entry)) names) (rowIf held (now (row .entry))) (now (rec .entry)) r) ⌝ }
 {

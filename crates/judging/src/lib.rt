@@ -2,5 +2,4 @@
 pub mod errors;
 pub mod front;
 pub mod judge;
-pub mod names;
 pub mod warnings;

@@ -7,6 +7,7 @@ use layout::record;
 use text::fields;
 ghost use mathlib.Core.Path.{_≡_};
 ghost use mathlib.Core.Option.{some};
+ghost use lib.ListN.{length};
 ghost use Rattle.layout.specs.Codes.{numberOfCodes};
 ghost use Rattle.judging.specs.Warnings.{warning51, isRenamed, warning52, warnings};
 ghost use Rattle.judging.specs.State.{rowIf};
@@ -24,7 +25,8 @@ pub fn has_51(rec: &[u8; 245], list: &[u8]) -> bool
 }
 
 // Whether the first or the last name differs from a row's, which is live.
-fn is_renamed(rec: &[u8; 245], row: &[u8; 200]) -> bool
+fn is_renamed(rec: &[u8; 245], row: &[u8]) -> bool
+    requires { ⌜ length (now row) ≡ 200 ⌝ }
     ensures { λ r. ⌜ r ≡ isRenamed (some (now (row .entry))) (now (rec .entry)) ⌝ }
 {
     let last = fields::same(
@@ -39,7 +41,8 @@ fn is_renamed(rec: &[u8; 245], row: &[u8; 200]) -> bool
 }
 
 // Warning 52 (A): the first or the last name differs from a live row's.
-pub fn has_52(rec: &[u8; 245], held: bool, row: &[u8; 200]) -> bool
+pub fn has_52(rec: &[u8; 245], held: bool, row: &[u8]) -> bool
+    requires { ⌜ length (now row) ≡ 200 ⌝ }
     ensures { λ r. ⌜ r ≡ warning52 (rowIf held (now (row .entry))) (now (rec .entry)) ⌝ }
 {
     let t = rec[72];
@@ -51,7 +54,8 @@ pub fn has_52(rec: &[u8; 245], held: bool, row: &[u8; 200]) -> bool
 }
 
 // The set of a record's warnings.
-pub fn warned(rec: &[u8; 245], held: bool, row: &[u8; 200], list: &[u8]) -> u64
+pub fn warned(rec: &[u8; 245], held: bool, row: &[u8], list: &[u8]) -> u64
+    requires { ⌜ length (now row) ≡ 200 ⌝ }
     ensures { λ r. ⌜ r ≡ numberOfCodes (warnings (now (list .entry)) (rowIf held (now (row .entry))) (now (rec .entry))) ⌝ }
 {
     judge::flag(has_51(rec, list), 51) + judge::flag(has_52(rec, held, row), 52)

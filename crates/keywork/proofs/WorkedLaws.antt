@@ -1,18 +1,15 @@
--- Laws of a run worked detail by detail, and of worked numbers put back. Assumes nothing.
+-- Laws of a run worked detail by detail. Assumes nothing.
 use Prim.Native.Nat.{ℕ, suc, _+_, _-_, _≤_, _<_}
 use mathlib.Core.Path.{_≡_, refl, sym, ap, _∙_}
 use mathlib.Core.Bool.{Bool, true, false, not}
-use mathlib.Core.List.{List, _++_}
+use mathlib.Core.List.{List}
 use mathlib.Core.Logic.{_⊎_, inl, inr}
 use mathlib.Core.Option.{Option, none}
 use native.Mathlib.Omega.{arith}
 use borrow.Author.Tests.{ltb-true, ltb-false, not-false, eqb-true}
 use lib.Dec.{eqb, ltb}
-use lib.ListN.{length, take, drop, getD, set, length-set, length-append, length-drop}
-use lib.Seq.{getD-set-same, getD-set-other, getD-take, length-take-le, take-at, drop-at}
-use Rattle.sorting.specs.Sorting.{sorted}
-use Rattle.sorting.proofs.SortingLaws.{length-sorted}
-use Rattle.sorting.proofs.PlaceLaws.{place-part, place-of}
+use lib.ListN.{length, getD, set, length-set}
+use lib.Seq.{getD-set-same, getD-set-other}
 use Rattle.layout.specs.Batch.{recordAt}
 use Rattle.layout.specs.Codes.{numberOfCodes}
 use Rattle.judging.specs.Errors.{isGiven}
@@ -21,14 +18,15 @@ use Rattle.judging.specs.Setting.{Setting, settingOf}
 use Rattle.judging.specs.Warnings.{warning51}
 use Rattle.judging.specs.declared.front.FrontErrors.{FrontErrors}
 use Rattle.judging.proofs.NamesLaws.{some-names}
-use Rattle.onecase.specs.Known.{UnderKnown}
+use Rattle.onecase.specs.Known.{UnderKnown, IsStepIn}
+use Rattle.onecase.specs.declared.known.StepIn.{StepIn}
+use Rattle.judging.specs.State.{rowIf}
 use Rattle.onecase.proofs.JudgementLaws.{alone-judged}
-use Rattle.onecase.specs.declared.case.Step.{Step}
 use Rattle.onecase.specs.Verdict.{judgement, meaning}
-use Rattle.onecase.specs.Machine.{next, rowOf, IsStep}
-use Rattle.keywork.specs.Packed.{placeIn, Packed}
+use Rattle.onecase.specs.Machine.{next}
+use Rattle.keywork.specs.Packed.{Packed}
 use Rattle.keyorder.specs.Tagged.{indexPart, flagLocal, flagWrong, flagGiven, recordIn}
-use Rattle.keywork.specs.Worked.{UnderTag, OneWorked, UnderTags, rowAfter, RunWorked, AllPlaces, PutBack, UnderAlone, AloneWorked}
+use Rattle.keywork.specs.Worked.{UnderTag, OneWorked, UnderTags, rowAfter, RunWorked, UnderAlone, AloneWorked}
 use Rattle.keywork.specs.declared.worked.After.{After}
 
 -- no error where the flag says so
@@ -95,15 +93,15 @@ module _ (setting : Setting) (batch : List ℕ) (p : ℕ) (row : Option (List �
 -- ---- one detail, as the code puts it together
 
 pub work-one : (state : List ℕ) (year : ℕ) (list batch : List ℕ) (x i : ℕ) (rec : List ℕ) (row : Option (List ℕ))
-    (f : FrontErrors) (local given : Bool) (st : Step) (n : ℕ)
+    (f : FrontErrors) (local given : Bool) (left : List ℕ) (st : StepIn) (n : ℕ)
     → i ≡ indexPart x → rec ≡ recordAt batch i
     → (flagWrong x ≡ not (eqb (numberOfCodes (frontErrors state year list rec)) 0) → IsFront state year list rec f)
     → local ≡ flagLocal x → given ≡ flagGiven x
-    → UnderKnown f local given list rec (λ setting. IsStep setting row rec st)
+    → UnderKnown f local given list rec (λ setting. IsStepIn setting row rec left st)
     → Packed n i (meaning (st .verdict))
     → UnderTag state year list (recordAt batch (indexPart x)) x
-    (λ setting. OneWorked setting row (recordAt batch (indexPart x)) (indexPart x) (record { case = st .case; number = n }))
-work-one state year list batch x i rec row f local given st n ei er hf el eg hs hp names k g =
+    (λ setting. OneWorked setting row (recordAt batch (indexPart x)) (indexPart x) left (record { held = st .held; number = n }))
+work-one state year list batch x i rec row f local given left st n ei er hf el eg hs hp names k g =
     let e : recordAt batch (indexPart x) ≡ rec = ap (recordAt batch) (sym ei) ∙ sym er in
     let w : flagWrong x ≡ not (eqb (numberOfCodes (frontErrors state year list rec)) 0) = rw e at (k .wrong-is) in
     let l : flagLocal x ≡ warning51 list rec = rw e at (k .local-is) in
@@ -116,16 +114,16 @@ work-one state year list batch x i rec row f local given st n ei er hf el eg hs 
 
 -- ---- one detail more of a run
 
-pub run-turn : (state : List ℕ) (year : ℕ) (list batch : List ℕ) (p e q : ℕ) (row r : Option (List ℕ)) (numbers s : List ℕ) (a : After)
+pub run-turn : (state : List ℕ) (year : ℕ) (list batch : List ℕ) (p e q : ℕ) (row r : Option (List ℕ)) (numbers s left : List ℕ) (a : After)
     → p ≤ q → q < e → e ≤ length numbers → getD s q 0 ≡ getD numbers q 0
     → UnderTags state year list batch numbers p e (λ setting. RunWorked setting batch p q row r numbers s)
     → UnderTag state year list (recordAt batch (indexPart (getD s q 0))) (getD s q 0)
-    (λ setting. OneWorked setting r (recordAt batch (indexPart (getD s q 0))) (indexPart (getD s q 0)) a)
-    → UnderTags state year list batch numbers p e (λ setting. RunWorked setting batch p (q + 1) row (rowOf (a .case)) numbers (set s q (a .number)))
-run-turn state year list batch p e q row r numbers s a lp le room same run one names kn mk =
+    (λ setting. OneWorked setting r (recordAt batch (indexPart (getD s q 0))) (indexPart (getD s q 0)) left a)
+    → UnderTags state year list batch numbers p e (λ setting. RunWorked setting batch p (q + 1) row (rowIf (a .held) left) numbers (set s q (a .number)))
+run-turn state year list batch p e q row r numbers s left a lp le room same run one names kn mk =
     let o = one names (rw same (kn q lp le)) (rw same (mk q lp le)) in
     let setting = settingOf state year list names in
-    run-step setting batch p row numbers q (a .number) r (rowOf (a .case)) s lp (omega arith) (run names kn mk)
+    run-step setting batch p row numbers q (a .number) r (rowIf (a .held) left) s lp (omega arith) (run names kn mk)
     (rw same at (o .row-is)) (rw same at (o .packed))
 
 -- ---- details on no row
@@ -135,18 +133,18 @@ module _ (state : List ℕ) (year : ℕ) (list batch : List ℕ) (p : ℕ) (numb
   alone-none e names kn = record { packed = λ q a b. absurd (omega arith); kept = λ q o. refl; width = refl }
 
   -- one detail more: of its own mark there are names, and on no row all names judge alike
-  pub alone-turn : (e q : ℕ) (s : List ℕ) (a : After) (row : Option (List ℕ)) → row ≡ none
+  pub alone-turn : (e q : ℕ) (s left : List ℕ) (a : After)
       → p ≤ q → q < e → e ≤ length numbers → getD s q 0 ≡ getD numbers q 0
       → UnderAlone state year list batch numbers p e (λ setting. AloneWorked setting batch p q numbers s)
       → UnderTag state year list (recordAt batch (indexPart (getD s q 0))) (getD s q 0)
-      (λ setting. OneWorked setting row (recordAt batch (indexPart (getD s q 0))) (indexPart (getD s q 0)) a)
+      (λ setting. OneWorked setting none (recordAt batch (indexPart (getD s q 0))) (indexPart (getD s q 0)) left a)
       → UnderAlone state year list batch numbers p e (λ setting. AloneWorked setting batch p (q + 1) numbers (set s q (a .number)))
-  alone-turn e q s a row is lp le room same run one names kn =
+  alone-turn e q s left a lp le room same run one names kn =
       let w = run names kn in
       let t = some-names (recordIn batch numbers q) (flagGiven (getD numbers q 0)) in
       let o = one (t .0) (rw same (kn q lp le)) (rw same (t .1)) in
       let pl : Packed (a .number) (indexPart (getD numbers q 0)) (judgement (settingOf state year list (t .0)) none (recordIn batch numbers q)) =
-      rw (same, is) at (o .packed) in
+      rw same at (o .packed) in
       let pm : Packed (a .number) (indexPart (getD numbers q 0)) (judgement (settingOf state year list names) none (recordIn batch numbers q)) =
       rw (alone-judged state year list (recordIn batch numbers q) (t .0) names) at pl in
       let ls : q < length s = rw (w .width) (omega arith) in
@@ -175,59 +173,3 @@ module _ (state : List ℕ) (year : ℕ) (list batch : List ℕ) (p : ℕ) (numb
       at k b c ls pm w false f =
           let l : k ≡ q = omega (arith, ltb-false k q f) in
           rw (l, getD-set-same s q (a .number) 0 ls) pm
-
--- ---- put back in batch order
-
-module _ (d : ℕ) (before part : List ℕ) (room : d ≤ length before) (e : part ≡ sorted (take (d - 0) before)) where
-  abbrev back-list : List ℕ
-  back-list = part ++ drop (d - 0) before
-
-  whole : d - 0 ≡ d
-  whole = omega arith
-
-  part-is : part ≡ sorted (take d before)
-  part-is = e ∙ ap (λ (z : ℕ). sorted (take z before)) whole
-
-  part-width : length part ≡ d
-  part-width = ap length part-is ∙ length-sorted (take d before) ∙ length-take-le d before room
-
-  front-is : take d back-list ≡ sorted (take d before)
-  front-is = take-at part (drop (d - 0) before) d part-width ∙ part-is
-
-  at-is : (i : ℕ) → i < d → getD back-list i 0 ≡ getD (sorted (take d before)) i 0
-  at-is i l = sym (getD-take d back-list i 0 l) ∙ ap (λ (z : List ℕ). getD z i 0) front-is
-
-  taken : length (take d before) ≡ d
-  taken = length-take-le d before room
-
-  place-rises : (x y : ℕ) → x ≤ y → placeIn x ≤ placeIn y
-  place-rises x y l = omega arith
-
-  module _ (h : AllPlaces d before) where
-    inside-taken : (p : ℕ) → p < length (take d before) → placeIn (getD (take d before) p 0) < length (take d before)
-    inside-taken p l = let m : p < d = rw taken at l in rw (taken, getD-take d before p 0 m) (h .inside p m)
-
-    apart-taken : (q p : ℕ) → q < p → p < length (take d before) → placeIn (getD (take d before) q 0) ≡ placeIn (getD (take d before) p 0) → ⊥
-    apart-taken q p l m x =
-        let mp : p < d = rw taken at m in
-        let mq : q < d = omega arith in
-        h .apart q p l mp (sym (ap placeIn (getD-take d before q 0 mq)) ∙ x ∙ ap placeIn (getD-take d before p 0 mp))
-
-    back-place : (i : ℕ) → i < d → placeIn (getD back-list i 0) ≡ i
-    back-place i l = ap placeIn (at-is i l) ∙ place-part placeIn place-rises (take d before) inside-taken apart-taken i (rw taken l)
-
-    back-number : (q : ℕ) → q < d → getD back-list (placeIn (getD before q 0)) 0 ≡ getD before q 0
-    back-number q l =
-        let g : getD (take d before) q 0 ≡ getD before q 0 = getD-take d before q 0 l in
-        at-is (placeIn (getD before q 0)) (h .inside q l)
-        ∙ ap (λ (x : ℕ). getD (sorted (take d before)) (placeIn x) 0) (sym g)
-        ∙ place-of placeIn place-rises (take d before) inside-taken apart-taken q (rw taken l) ∙ g
-
-  pub put-back : PutBack d before (part ++ drop (d - 0) before)
-  put-back =
-      record {
-        place = back-place;
-        number = back-number;
-        kept = drop-at part (drop (d - 0) before) d part-width ∙ ap (λ (z : ℕ). drop z before) whole;
-        width = simp (length-append, length-drop) (omega (arith, part-width));
-      }

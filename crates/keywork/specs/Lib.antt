@@ -1,3 +1,4 @@
 pub mod Packed
 pub mod Worked
+pub mod BatchOrder
 pub mod KeyWork

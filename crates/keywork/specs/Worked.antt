@@ -9,7 +9,8 @@ use lib.ListN.{length, drop, getD}
 use Rattle.judging.specs.Errors.{isGiven}
 use Rattle.judging.specs.Setting.{Setting, settingOf}
 use Rattle.onecase.specs.Verdict.{judgement}
-use Rattle.onecase.specs.Machine.{next, rowOf}
+use Rattle.judging.specs.State.{rowIf}
+use Rattle.onecase.specs.Machine.{next}
 use Rattle.keywork.specs.Packed.{placeIn, Packed}
 use Rattle.keyorder.specs.Tagged.{indexPart, flagGiven, Known, recordIn}
 use Rattle.keywork.specs.declared.worked.After.{After}
@@ -19,9 +20,9 @@ abbrev pub UnderTag : List ℕ → ℕ → List ℕ → List ℕ → ℕ → (Se
 UnderTag state year list rec n holds =
     (names : List (List ℕ)) → Known state year list rec n → flagGiven n ≡ isGiven names rec → holds (settingOf state year list names)
 
--- one detail worked
-pub record OneWorked (setting : Setting) (row : Option (List ℕ)) (rec : List ℕ) (i : ℕ) (r : After) : Type 0 where
-  pub row-is : rowOf (r .case) ≡ next setting row rec
+-- one detail worked, and the bytes that it leaves of the row
+pub record OneWorked (setting : Setting) (row : Option (List ℕ)) (rec : List ℕ) (i : ℕ) (left : List ℕ) (r : After) : Type 0 where
+  pub row-is : rowIf (r .held) left ≡ next setting row rec
   pub packed : Packed (r .number) i (judgement setting row rec)
 
 -- it holds in the settings of which the numbers from p up to e say so

@@ -1,14 +1,12 @@
 // The details of one key, at the positions of one rank, worked through the machine: each verdict at its detail's own position, below the
-// index, so that sorting the numbers puts the verdicts back in batch order.
+// index.
 use crate::packed;
 use judging::front;
 use judging::front::FrontErrors;
 use keyorder::tagged;
 use layout::records;
-use onecase::case;
 use onecase::case::Case;
 use onecase::known;
-use sorting::sorting::sort;
 ghost use mathlib.Core.Path.{_≡_};
 ghost use mathlib.Core.Bool.{not};
 ghost use Prim.Native.Nat.{ℕ, _+_, _*_, _^_, _≤_, _<_};
@@ -17,9 +15,10 @@ ghost use lib.ListN.{length, getD};
 ghost use Rattle.layout.specs.Batch.{recordAt};
 ghost use Rattle.layout.specs.Codes.{numberOfCodes};
 ghost use Rattle.judging.specs.Front.{frontErrors, IsFront};
+ghost use Rattle.judging.specs.State.{rowIf};
 ghost use Rattle.onecase.specs.Machine.{rowOf};
 ghost use Rattle.keyorder.specs.Tagged.{indexPart, flagWrong, flagGiven};
-ghost use Rattle.keywork.specs.Worked.{UnderTag, OneWorked, UnderTags, RunWorked, PutBack, UnderAlone, AloneWorked};
+ghost use Rattle.keywork.specs.Worked.{UnderTag, OneWorked, UnderTags, RunWorked, UnderAlone, AloneWorked};
 
 // Whether the name of a detail is given.
 pub fn flag_given(number: u64) -> bool
@@ -40,31 +39,36 @@ fn front_of(x: u64, rec: &[u8; 245], state: &[u8], year: u64, list: &[u8]) -> Fr
     }
 }
 
-// The new state, and the number with the verdict.
+// Whether a row is held after a detail, and the number with the verdict.
 pub struct After {
-    pub case: Case,
+    pub held: bool,
     pub number: u64,
 }
 
-// The detail of a number on one row or none.
-fn work_tagged(case: Case, batch: &[u8], x: u64, state: &[u8], year: u64, list: &[u8]) -> After
-    requires { ⌜ indexPart x * 245 + 245 ≤ length (now batch) ⌝ }
+// The detail of a number on one row or none, in place.
+fn work_tagged(
+    row: &mut [u8],
+    held: bool,
+    batch: &[u8],
+    x: u64,
+    state: &[u8],
+    year: u64,
+    list: &[u8],
+) -> After
+    requires { ⌜ (length (now row) ≡ 200) × (indexPart x * 245 + 245 ≤ length (now batch)) ⌝ }
     ensures { λ r. ⌜ UnderTag (now (state .entry)) year (now (list .entry)) (recordAt (now (batch .entry)) (indexPart x)) x (λ setting.
-        OneWorked setting (rowOf case) (recordAt (now (batch .entry)) (indexPart x)) (indexPart x) r) ⌝ }
+        OneWorked setting (rowIf held (now (row .entry))) (recordAt (now (batch .entry)) (indexPart x)) (indexPart x) (now (row .exit)) r) ⌝ }
 {
     let i = tagged::index_part(x);
     let rec = records::record_at(batch, i);
     let f = front_of(x, &rec, state, year, list);
     let local = tagged::flag_local(x);
     let given = flag_given(x);
-    let held = case.held;
-    let row = case.row;
-    let step = known::step_known(held, row, &rec, f, local, given, list);
+    let step = known::step_known(row, held, &rec, f, local, given, list);
     let verdict = step.verdict;
-    let after = step.case;
     let number = packed::with_verdict(i, verdict);
     After {
-        case: after,
+        held: step.held,
         number,
     }
 }
@@ -84,23 +88,16 @@ pub fn work_run(
     ensures { λ r. ⌜ UnderTags (now (state .entry)) year (now (list .entry)) (now (batch .entry)) (now (numbers .entry)) p e (λ setting.
         RunWorked setting (now (batch .entry)) p e (rowOf case) (rowOf r) (now (numbers .entry)) (now (numbers .exit))) ⌝ }
 {
-    let mut c = case;
+    let mut row = case.row;
+    let mut held = case.held;
     let mut q = p;
     while q < e {
-        let after = work_tagged(c, batch, numbers[q], state, year, list);
+        let after = work_tagged(&mut row, held, batch, numbers[q], state, year, list);
         numbers[q] = after.number;
-        c = after.case;
+        held = after.held;
         q += 1;
     }
-    c
-}
-
-// The numbers of d worked details put back in batch order: each at the place of its index.
-pub fn put_back(numbers: &mut [u64], d: usize)
-    requires { ⌜ d ≤ length (now numbers) ⌝ }
-    ensures { λ _. ⌜ PutBack d (now (numbers .entry)) (now (numbers .exit)) ⌝ }
-{
-    sort(&mut numbers[0..d]);
+    Case { held, row }
 }
 
 // The details at positions p up to e, each on no row, where the names given make no difference.
@@ -119,7 +116,8 @@ pub fn work_alone(
 {
     let mut q = p;
     while q < e {
-        let after = work_tagged(case::no_case(), batch, numbers[q], state, year, list);
+        let mut row = [0x40u8; 200];
+        let after = work_tagged(&mut row, false, batch, numbers[q], state, year, list);
         numbers[q] = after.number;
         q += 1;
     }

@@ -1,44 +1,49 @@
 -- The rows that an A leaves, from the steps in which they are written. Assumes nothing.
-use Prim.Native.Nat.{ℕ}
-use mathlib.Core.Path.{_≡_}
-use mathlib.Core.List.{List}
+use Prim.Native.Nat.{ℕ, _+_}
+use mathlib.Core.Path.{_≡_, ap, _∙_}
+use mathlib.Core.List.{List, _++_}
+use mathlib.Core.List.{append-nil}
+use native.Mathlib.Omega.{arith}
+use lib.ListN.{length, drop-of-length-le}
+use Rattle.text.specs.Blocks.{spliced}
 use Rattle.text.specs.Fields.{placed, isBlank, spaces}
-use Rattle.layout.specs.ChartA1.{caseId, lastName, firstName, arrearage, dateIssued}
+use Rattle.layout.specs.ChartA1.{caseId, dateIssued}
 use Rattle.layout.specs.Record.{recordKey}
-use Rattle.casemaster.specs.Row.{withZeroCents}
-use Rattle.onecase.specs.Changes.{zeros, address, exclusionByte, addedLocalCode, placedUnless, freshRow, recertified}
+use Rattle.onecase.specs.Changes.{zeros, address, addedLocalCode, placedUnless, freshRow, recertified}
+use Rattle.onecase.specs.Copies.{withExclusions, withNames, freshEnd}
 
-pub fresh-steps : (list rec set key blank a b c d e f g h i r : List ℕ)
-    → blank ≡ withZeroCents (spaces 200)
-    → set ≡ exclusionByte rec
-    → a ≡ placed 195 195 set blank
+-- bytes as many as there are take the place of all
+pub spliced-whole : (d s : List ℕ) → length s ≡ length d → spliced d 0 s ≡ s
+unfolding spliced
+spliced-whole d s h = ap (λ (z : List ℕ). s ++ z) (drop-of-length-le d {i = 0 + length s} (omega arith)) ∙ append-nil s
+
+pub fresh-end-steps : (rec blank a b c r : List ℕ)
+    → blank ≡ spaces 200
+    → a ≡ withExclusions rec blank
     → b ≡ placed 187 194 (dateIssued rec) a
     → c ≡ placed 91 186 (address rec) b
-    → d ≡ placed 79 90 (zeros 12) c
-    → e ≡ placed 66 73 (arrearage rec) d
-    → f ≡ placed 51 65 (firstName rec) e
-    → g ≡ placed 31 50 (lastName rec) f
-    → h ≡ placed 16 30 (caseId rec) g
-    → i ≡ placed 13 15 (addedLocalCode list rec) h
+    → r ≡ placed 79 90 (zeros 12) c
+    → r ≡ freshEnd rec
+fresh-end-steps rec blank a b c r e ea eb ec er = rw (er, ec, eb, ea, e)
+
+pub fresh-steps : (list rec key a b c d r : List ℕ)
+    → a ≡ freshEnd rec
+    → b ≡ withNames rec a
+    → c ≡ placed 16 30 (caseId rec) b
+    → d ≡ placed 13 15 (addedLocalCode list rec) c
     → key ≡ recordKey rec
-    → r ≡ placed 1 12 key i
+    → r ≡ placed 1 12 key d
     → r ≡ freshRow list rec
 unfolding freshRow
-fresh-steps list rec set key blank a b c d e f g h i r ew es ea eb ec ed ee ef eg eh ei ek er =
-    rw (er, ek, ei, eh, eg, ef, ee, ed, ec, eb, ea, es, ew)
+fresh-steps list rec key a b c d r ea eb ec ed ek er = rw (er, ek, ed, ec, eb, ea)
 
-pub recertified-steps : (list rec row whole set a b c d e f g r : List ℕ)
-    → whole ≡ withZeroCents row
-    → set ≡ exclusionByte rec
-    → a ≡ placed 195 195 set whole
+pub recertified-steps : (list rec row a b c d e r : List ℕ)
+    → a ≡ withExclusions rec row
     → b ≡ placedUnless (isBlank (dateIssued rec)) 187 194 (dateIssued rec) a
     → c ≡ placedUnless (isBlank (address rec)) 91 186 (address rec) b
-    → d ≡ placed 66 73 (arrearage rec) c
-    → e ≡ placed 51 65 (firstName rec) d
-    → f ≡ placed 31 50 (lastName rec) e
-    → g ≡ placedUnless (isBlank (caseId rec)) 16 30 (caseId rec) f
-    → r ≡ placed 13 15 (addedLocalCode list rec) g
+    → d ≡ withNames rec c
+    → e ≡ placedUnless (isBlank (caseId rec)) 16 30 (caseId rec) d
+    → r ≡ placed 13 15 (addedLocalCode list rec) e
     → r ≡ recertified list rec row
 unfolding recertified
-recertified-steps list rec row whole set a b c d e f g r ew es ea eb ec ed ee ef eg er =
-    rw (er, eg, ef, ee, ed, ec, eb, ea, es, ew)
+recertified-steps list rec row a b c d e r ea eb ec ed ee er = rw (er, ee, ed, ec, eb, ea)

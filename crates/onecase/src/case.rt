@@ -7,12 +7,11 @@ use judging::judge;
 use judging::warnings;
 use layout::record;
 ghost use mathlib.Core.Path.{_≡_};
-ghost use mathlib.Core.List.{List};
 ghost use mathlib.Core.Option.{none};
-ghost use Prim.Native.Nat.{ℕ};
-ghost use Rattle.onecase.specs.Machine.{applied, next, rowOf, IsStep};
+ghost use lib.ListN.{length};
+ghost use Rattle.onecase.specs.Machine.{applied, rowOf, IsStep};
 ghost use Rattle.onecase.specs.Verdict.{IsRejection};
-ghost use Rattle.judging.specs.State.{rowIf, isHeld};
+ghost use Rattle.judging.specs.State.{rowIf};
 ghost use Rattle.judging.specs.Setting.{settingOf};
 ghost use Rattle.judging.specs.Parts.{UnderNames};
 
@@ -36,32 +35,40 @@ pub fn no_case() -> Case
     Case { held: false, row }
 }
 
-// The row that a record without an error leaves.
-pub fn applied_row(held: bool, row: [u8; 200], rec: &[u8; 245], list: &[u8]) -> Case
-    ensures { λ r. ⌜ rowOf r ≡ applied (now (list .entry)) (rowIf held row) (now (rec .entry)) ⌝ }
+// What a record without an error leaves of one row or none, in place; answers whether a row is held then.
+pub fn apply_in(row: &mut [u8], held: bool, rec: &[u8; 245], list: &[u8]) -> bool
+    requires { ⌜ length (now row) ≡ 200 ⌝ }
+    ensures { λ r. ⌜ rowIf r (now (row .exit)) ≡ applied (now (list .entry)) (rowIf held (now (row .entry))) (now (rec .entry)) ⌝ }
 {
     let t = rec[72];
     if t == record::ADD {
-        if held & row::is_live(&row) {
-            let next = changes::recertified_row(row, rec, list);
-            return Case {
-                held: true,
-                row: next,
-            };
+        if held & row::is_live(row) {
+            changes::recertify(row, rec, list);
+            return true;
         }
-        let fresh = changes::fresh_row(rec, list);
-        return Case {
-            held: true,
-            row: fresh,
-        };
+        changes::make_fresh(row, rec, list);
+        return true;
     }
-    let next = changes::changed_row(row, rec);
-    Case { held, row: next }
+    changes::change(row, rec);
+    held
+}
+
+// The same of a row by value.
+fn applied_row(held: bool, row: [u8; 200], rec: &[u8; 245], list: &[u8]) -> Case
+    ensures { λ r. ⌜ rowOf r ≡ applied (now (list .entry)) (rowIf held row) (now (rec .entry)) ⌝ }
+{
+    let mut out = row;
+    let left = apply_in(&mut out, held, rec, list);
+    Case {
+        held: left,
+        row: out,
+    }
 }
 
 // The verdict on a record with the errors given.
-pub fn rejection(set: u64, named: bool, row: [u8; 200]) -> Verdict
-    ensures { λ r. ⌜ IsRejection set named row r ⌝ }
+pub fn rejection(set: u64, named: bool, row: &[u8]) -> Verdict
+    requires { ⌜ length (now row) ≡ 200 ⌝ }
+    ensures { λ r. ⌜ IsRejection set named (now (row .entry)) r ⌝ }
 {
     if named {
         Verdict::RejectedWithName(set, verdict::stored_name(row))
@@ -94,23 +101,9 @@ fn step_row(
         };
     }
     let named = judged.named;
-    let verdict = rejection(set, named, row);
+    let verdict = rejection(set, named, &row);
     let case = Case { held, row };
     Step { case, verdict }
-}
-
-// Whether a record makes a row where there is none: an A without an error, whatever names are given. Nothing is written for it.
-pub fn makes_row(rec: &[u8; 245], state: &[u8], year: u64, list: &[u8]) -> bool
-    ensures { λ r. ⌜ ((names : List (List ℕ)) → r ≡ isHeld (next (settingOf (now (state .entry)) year (now (list .entry)) names) none (now (rec .entry)))) ⌝ }
-{
-    let t = rec[72];
-    if t == record::ADD {
-        let row = [0x40u8; 200];
-        let judged = judge::judge(rec, false, &row, false, state, year, list);
-        judged.set == 0
-    } else {
-        false
-    }
 }
 
 impl Case {

@@ -1,4 +1,4 @@
-// What a record without an error does to its row, type by type.
+// What a record without an error does to its row, type by type, in place.
 use casemaster::row;
 use exclusionsets::exclusions;
 use exclusionsets::exclusions::Exclusions;
@@ -12,40 +12,34 @@ ghost use Prim.Native.Nat.{_+_};
 ghost use lib.ListN.{length};
 ghost use Rattle.text.specs.Fields.{columns, placed, isBlank};
 ghost use Rattle.casemaster.specs.Row.{withZeroCents};
-ghost use Rattle.onecase.specs.Copies.{InRow, InRecord};
+ghost use Rattle.onecase.specs.Copies.{InRow, InRecord, withExclusions, withNames, freshEnd};
 ghost use Rattle.onecase.specs.Machine.{changed};
 ghost use Rattle.onecase.specs.Changes.{placedUnless, exclusionByte, addedLocalCode, freshRow, recertified, renamed, reidentified, deleted, relocated, amended, excluded, paid, transferred, readdressed};
 
-// The row with columns `from` of the record in its columns `to`, which are as many.
-fn copied(row: [u8; 200], to: Columns, rec: &[u8; 245], from: Columns) -> [u8; 200]
-    requires { ⌜ InRow to × InRecord from × (to .last + from .first ≡ from .last + to .first) ⌝ }
-    ensures { λ r. ⌜ r ≡ placed (to .first) (to .last) (columns (from .first) (from .last) (now (rec .entry))) row ⌝ }
+// Copies the columns `from` of the record into the row's columns `to`, which are as many.
+fn copy(row: &mut [u8], to: Columns, rec: &[u8; 245], from: Columns)
+    requires { ⌜ (length (now row) ≡ 200) × InRow to × InRecord from × (to .last + from .first ≡ from .last + to .first) ⌝ }
+    ensures { λ _. ⌜ now (row .exit) ≡ placed (to .first) (to .last) (columns (from .first) (from .last) (now (rec .entry))) (now (row .entry)) ⌝ }
 {
-    let mut out = row;
-    fields::copy(&mut out, to, rec, from);
-    out
+    fields::copy(row, to, rec, from);
 }
 
 // The same, unless those columns of the record are blank.
-fn copied_unless_blank(row: [u8; 200], to: Columns, rec: &[u8; 245], from: Columns) -> [u8; 200]
-    requires { ⌜ InRow to × InRecord from × (to .last + from .first ≡ from .last + to .first) ⌝ }
-    ensures { λ r. ⌜ r ≡ placedUnless (isBlank (columns (from .first) (from .last) (now (rec .entry)))) (to .first) (to .last) (columns (from .first) (from .last) (now (rec .entry))) row ⌝ }
+fn copy_unless_blank(row: &mut [u8], to: Columns, rec: &[u8; 245], from: Columns)
+    requires { ⌜ (length (now row) ≡ 200) × InRow to × InRecord from × (to .last + from .first ≡ from .last + to .first) ⌝ }
+    ensures { λ _. ⌜ now (row .exit) ≡ placedUnless (isBlank (columns (from .first) (from .last) (now (rec .entry)))) (to .first) (to .last) (columns (from .first) (from .last) (now (rec .entry))) (now (row .entry)) ⌝ }
 {
-    if fields::is_blank(fields::field(rec, from)) {
-        row
-    } else {
-        copied(row, to, rec, from)
+    if !fields::is_blank(fields::field(rec, from)) {
+        copy(row, to, rec, from);
     }
 }
 
-// The row with the bytes in its columns `to`, which are as many.
-fn written(row: [u8; 200], to: Columns, bytes: &[u8]) -> [u8; 200]
-    requires { ⌜ InRow to × (to .last + 1 ≡ to .first + length (now bytes)) ⌝ }
-    ensures { λ r. ⌜ r ≡ placed (to .first) (to .last) (now (bytes .entry)) row ⌝ }
+// Writes the bytes into the row's columns `to`, which are as many.
+fn write(row: &mut [u8], to: Columns, bytes: &[u8])
+    requires { ⌜ (length (now row) ≡ 200) × InRow to × (to .last + 1 ≡ to .first + length (now bytes)) ⌝ }
+    ensures { λ _. ⌜ now (row .exit) ≡ placed (to .first) (to .last) (now (bytes .entry)) (now (row .entry)) ⌝ }
 {
-    let mut out = row;
-    fields::put(&mut out, to, bytes);
-    out
+    fields::put(row, to, bytes);
 }
 
 // The exclusion set of a record as one byte.
@@ -58,161 +52,194 @@ fn exclusion_byte(rec: &[u8; 245]) -> [u8; 1]
     }
 }
 
-// The row with the local code that an A stores: as sent if listed, else 000.
-fn with_local_code(row: [u8; 200], rec: &[u8; 245], list: &[u8]) -> [u8; 200]
-    ensures { λ r. ⌜ r ≡ placed 13 15 (addedLocalCode (now (list .entry)) (now (rec .entry))) row ⌝ }
+// Writes the local code that an A stores: as sent if listed, else 000.
+fn put_local_code(row: &mut [u8], rec: &[u8; 245], list: &[u8])
+    requires { ⌜ length (now row) ≡ 200 ⌝ }
+    ensures { λ _. ⌜ now (row .exit) ≡ placed 13 15 (addedLocalCode (now (list .entry)) (now (rec .entry))) (now (row .entry)) ⌝ }
 {
     if locals::listed(fields::field(rec, chart_a1::LOCAL_CODE), list) {
-        copied(row, row::LOCAL_CODE, rec, chart_a1::LOCAL_CODE)
+        copy(row, row::LOCAL_CODE, rec, chart_a1::LOCAL_CODE);
     } else {
-        written(row, row::LOCAL_CODE, b"\xF0\xF0\xF0")
+        write(row, row::LOCAL_CODE, b"\xF0\xF0\xF0");
     }
 }
 
-// The row with 00 for its cents.
-fn with_zero_cents(row: [u8; 200]) -> [u8; 200]
-    ensures { λ r. ⌜ r ≡ withZeroCents row ⌝ }
+// Writes 00 for the cents.
+fn zero_cents(row: &mut [u8])
+    requires { ⌜ length (now row) ≡ 200 ⌝ }
+    ensures { λ _. ⌜ now (row .exit) ≡ withZeroCents (now (row .entry)) ⌝ }
 {
-    written(row, row::CENTS, b"\xF0\xF0")
+    write(row, row::CENTS, b"\xF0\xF0");
 }
 
-// A with no row, or a deleted one: a fresh row.
-pub fn fresh_row(rec: &[u8; 245], list: &[u8]) -> [u8; 200]
-    ensures { λ r. ⌜ r ≡ freshRow (now (list .entry)) (now (rec .entry)) ⌝ }
+// What an A writes first: 00 for the cents, and the exclusion set.
+fn put_exclusions(row: &mut [u8], rec: &[u8; 245])
+    requires { ⌜ length (now row) ≡ 200 ⌝ }
+    ensures { λ _. ⌜ now (row .exit) ≡ withExclusions (now (rec .entry)) (now (row .entry)) ⌝ }
 {
-    let blank = with_zero_cents([0x40u8; 200]);
+    zero_cents(row);
     let set = exclusion_byte(rec);
-    let a = written(blank, row::EXCLUSIONS, &set);
-    let b = copied(a, row::DATE_ISSUED, rec, chart_a1::DATE_ISSUED);
-    let c = copied(b, row::ADDRESS, rec, chart_a1::ADDRESS);
-    let d = written(
-        c,
+    write(row, row::EXCLUSIONS, &set);
+}
+
+// And then: the arrearage and both names.
+fn put_names(row: &mut [u8], rec: &[u8; 245])
+    requires { ⌜ length (now row) ≡ 200 ⌝ }
+    ensures { λ _. ⌜ now (row .exit) ≡ withNames (now (rec .entry)) (now (row .entry)) ⌝ }
+{
+    copy(row, row::ARREARAGE, rec, chart_a1::ARREARAGE);
+    copy(row, row::FIRST_NAME, rec, chart_a1::FIRST_NAME);
+    copy(row, row::LAST_NAME, rec, chart_a1::LAST_NAME);
+}
+
+// A fresh row's end, from the payment fields on, and spaces before it.
+fn start_fresh(row: &mut [u8], rec: &[u8; 245])
+    requires { ⌜ length (now row) ≡ 200 ⌝ }
+    ensures { λ _. ⌜ now (row .exit) ≡ freshEnd (now (rec .entry)) ⌝ }
+{
+    fields::copy_in(row, 0, &[0x40u8; 200]);
+    put_exclusions(row, rec);
+    copy(row, row::DATE_ISSUED, rec, chart_a1::DATE_ISSUED);
+    copy(row, row::ADDRESS, rec, chart_a1::ADDRESS);
+    write(
+        row,
         row::PAYMENT_FIELDS,
         b"\xF0\xF0\xF0\xF0\xF0\xF0\xF0\xF0\xF0\xF0\xF0\xF0",
     );
-    let e = copied(d, row::ARREARAGE, rec, chart_a1::ARREARAGE);
-    let f = copied(e, row::FIRST_NAME, rec, chart_a1::FIRST_NAME);
-    let g = copied(f, row::LAST_NAME, rec, chart_a1::LAST_NAME);
-    let h = copied(g, row::CASE_ID, rec, chart_a1::CASE_ID);
-    let i = with_local_code(h, rec, list);
+}
+
+// A with no row, or a deleted one: a fresh row over whatever stands there.
+pub fn make_fresh(row: &mut [u8], rec: &[u8; 245], list: &[u8])
+    requires { ⌜ length (now row) ≡ 200 ⌝ }
+    ensures { λ _. ⌜ now (row .exit) ≡ freshRow (now (list .entry)) (now (rec .entry)) ⌝ }
+{
+    start_fresh(row, rec);
+    put_names(row, rec);
+    copy(row, row::CASE_ID, rec, chart_a1::CASE_ID);
+    put_local_code(row, rec, list);
     let key = record::record_key(rec);
-    written(i, row::KEY, &key)
+    write(row, row::KEY, &key);
 }
 
 // A on a live row.
-pub fn recertified_row(row: [u8; 200], rec: &[u8; 245], list: &[u8]) -> [u8; 200]
-    ensures { λ r. ⌜ r ≡ recertified (now (list .entry)) (now (rec .entry)) row ⌝ }
+pub fn recertify(row: &mut [u8], rec: &[u8; 245], list: &[u8])
+    requires { ⌜ length (now row) ≡ 200 ⌝ }
+    ensures { λ _. ⌜ now (row .exit) ≡ recertified (now (list .entry)) (now (rec .entry)) (now (row .entry)) ⌝ }
 {
-    let whole = with_zero_cents(row);
-    let set = exclusion_byte(rec);
-    let a = written(whole, row::EXCLUSIONS, &set);
-    let b = copied_unless_blank(a, row::DATE_ISSUED, rec, chart_a1::DATE_ISSUED);
-    let c = copied_unless_blank(b, row::ADDRESS, rec, chart_a1::ADDRESS);
-    let d = copied(c, row::ARREARAGE, rec, chart_a1::ARREARAGE);
-    let e = copied(d, row::FIRST_NAME, rec, chart_a1::FIRST_NAME);
-    let f = copied(e, row::LAST_NAME, rec, chart_a1::LAST_NAME);
-    let g = copied_unless_blank(f, row::CASE_ID, rec, chart_a1::CASE_ID);
-    with_local_code(g, rec, list)
+    put_exclusions(row, rec);
+    copy_unless_blank(row, row::DATE_ISSUED, rec, chart_a1::DATE_ISSUED);
+    copy_unless_blank(row, row::ADDRESS, rec, chart_a1::ADDRESS);
+    put_names(row, rec);
+    copy_unless_blank(row, row::CASE_ID, rec, chart_a1::CASE_ID);
+    put_local_code(row, rec, list);
 }
 
 // B: both names.
-fn renamed_row(row: [u8; 200], rec: &[u8; 245]) -> [u8; 200]
-    ensures { λ r. ⌜ r ≡ renamed (now (rec .entry)) row ⌝ }
+fn rename(row: &mut [u8], rec: &[u8; 245])
+    requires { ⌜ length (now row) ≡ 200 ⌝ }
+    ensures { λ _. ⌜ now (row .exit) ≡ renamed (now (rec .entry)) (now (row .entry)) ⌝ }
 {
-    let last = copied(row, row::LAST_NAME, rec, chart_a1::LAST_NAME);
-    copied(last, row::FIRST_NAME, rec, chart_a1::FIRST_NAME)
+    copy(row, row::LAST_NAME, rec, chart_a1::LAST_NAME);
+    copy(row, row::FIRST_NAME, rec, chart_a1::FIRST_NAME);
 }
 
 // C: the case ID.
-fn reidentified_row(row: [u8; 200], rec: &[u8; 245]) -> [u8; 200]
-    ensures { λ r. ⌜ r ≡ reidentified (now (rec .entry)) row ⌝ }
+fn reidentify(row: &mut [u8], rec: &[u8; 245])
+    requires { ⌜ length (now row) ≡ 200 ⌝ }
+    ensures { λ _. ⌜ now (row .exit) ≡ reidentified (now (rec .entry)) (now (row .entry)) ⌝ }
 {
-    copied(row, row::CASE_ID, rec, chart_a1::CASE_ID)
+    copy(row, row::CASE_ID, rec, chart_a1::CASE_ID);
 }
 
 // D: arrearage zero, deleted.
-fn deleted_row(row: [u8; 200]) -> [u8; 200]
-    ensures { λ r. ⌜ r ≡ deleted row ⌝ }
+fn delete(row: &mut [u8])
+    requires { ⌜ length (now row) ≡ 200 ⌝ }
+    ensures { λ _. ⌜ now (row .exit) ≡ deleted (now (row .entry)) ⌝ }
 {
-    let whole = with_zero_cents(row);
-    let zero = written(whole, row::ARREARAGE, b"\xF0\xF0\xF0\xF0\xF0\xF0\xF0\xF0");
-    written(zero, row::STATUS, b"\xC4")
+    zero_cents(row);
+    write(row, row::ARREARAGE, b"\xF0\xF0\xF0\xF0\xF0\xF0\xF0\xF0");
+    write(row, row::STATUS, b"\xC4");
 }
 
 // L: the local code, blank becoming 000.
-fn relocated_row(row: [u8; 200], rec: &[u8; 245]) -> [u8; 200]
-    ensures { λ r. ⌜ r ≡ relocated (now (rec .entry)) row ⌝ }
+fn relocate(row: &mut [u8], rec: &[u8; 245])
+    requires { ⌜ length (now row) ≡ 200 ⌝ }
+    ensures { λ _. ⌜ now (row .exit) ≡ relocated (now (rec .entry)) (now (row .entry)) ⌝ }
 {
     if fields::is_blank(fields::field(rec, chart_a1::LOCAL_CODE)) {
-        written(row, row::LOCAL_CODE, b"\xF0\xF0\xF0")
+        write(row, row::LOCAL_CODE, b"\xF0\xF0\xF0");
     } else {
-        copied(row, row::LOCAL_CODE, rec, chart_a1::LOCAL_CODE)
+        copy(row, row::LOCAL_CODE, rec, chart_a1::LOCAL_CODE);
     }
 }
 
 // M: the arrearage; zero also deletes.
-fn amended_row(row: [u8; 200], rec: &[u8; 245]) -> [u8; 200]
-    ensures { λ r. ⌜ r ≡ amended (now (rec .entry)) row ⌝ }
+fn amend(row: &mut [u8], rec: &[u8; 245])
+    requires { ⌜ length (now row) ≡ 200 ⌝ }
+    ensures { λ _. ⌜ now (row .exit) ≡ amended (now (rec .entry)) (now (row .entry)) ⌝ }
 {
-    let whole = with_zero_cents(row);
-    let next = copied(whole, row::ARREARAGE, rec, chart_a1::ARREARAGE);
+    zero_cents(row);
+    copy(row, row::ARREARAGE, rec, chart_a1::ARREARAGE);
     if fields::is_zero(fields::field(rec, chart_a1::ARREARAGE)) {
-        written(next, row::STATUS, b"\xC4")
-    } else {
-        next
+        write(row, row::STATUS, b"\xC4");
     }
 }
 
 // R: the exclusion set.
-fn excluded_row(row: [u8; 200], rec: &[u8; 245]) -> [u8; 200]
-    ensures { λ r. ⌜ r ≡ excluded (now (rec .entry)) row ⌝ }
+fn exclude(row: &mut [u8], rec: &[u8; 245])
+    requires { ⌜ length (now row) ≡ 200 ⌝ }
+    ensures { λ _. ⌜ now (row .exit) ≡ excluded (now (rec .entry)) (now (row .entry)) ⌝ }
 {
     let set = exclusion_byte(rec);
-    written(row, row::EXCLUSIONS, &set)
+    write(row, row::EXCLUSIONS, &set);
 }
 
 // S: the payment year and amount.
-fn paid_row(row: [u8; 200], rec: &[u8; 245]) -> [u8; 200]
-    ensures { λ r. ⌜ r ≡ paid (now (rec .entry)) row ⌝ }
+fn pay(row: &mut [u8], rec: &[u8; 245])
+    requires { ⌜ length (now row) ≡ 200 ⌝ }
+    ensures { λ _. ⌜ now (row .exit) ≡ paid (now (rec .entry)) (now (row .entry)) ⌝ }
 {
-    let year = copied(row, row::PAYMENT_YEAR, rec, chart_a1::PROCESS_YEAR);
-    copied(year, row::PAYMENT, rec, chart_a1::ARREARAGE)
+    copy(row, row::PAYMENT_YEAR, rec, chart_a1::PROCESS_YEAR);
+    copy(row, row::PAYMENT, rec, chart_a1::ARREARAGE);
 }
 
 // T: the transfer state, and the transfer local code unless blank.
-fn transferred_row(row: [u8; 200], rec: &[u8; 245]) -> [u8; 200]
-    ensures { λ r. ⌜ r ≡ transferred (now (rec .entry)) row ⌝ }
+fn transfer(row: &mut [u8], rec: &[u8; 245])
+    requires { ⌜ length (now row) ≡ 200 ⌝ }
+    ensures { λ _. ⌜ now (row .exit) ≡ transferred (now (rec .entry)) (now (row .entry)) ⌝ }
 {
-    let state = copied(row, row::TRANSFER_STATE, rec, chart_a1::TRANSFER_STATE);
-    copied_unless_blank(
-        state,
+    copy(row, row::TRANSFER_STATE, rec, chart_a1::TRANSFER_STATE);
+    copy_unless_blank(
+        row,
         row::TRANSFER_LOCAL_CODE,
         rec,
         chart_a1::TRANSFER_LOCAL_CODE,
-    )
+    );
 }
 
 // Z: the address.
-fn readdressed_row(row: [u8; 200], rec: &[u8; 245]) -> [u8; 200]
-    ensures { λ r. ⌜ r ≡ readdressed (now (rec .entry)) row ⌝ }
+fn readdress(row: &mut [u8], rec: &[u8; 245])
+    requires { ⌜ length (now row) ≡ 200 ⌝ }
+    ensures { λ _. ⌜ now (row .exit) ≡ readdressed (now (rec .entry)) (now (row .entry)) ⌝ }
 {
-    copied(row, row::ADDRESS, rec, chart_a1::ADDRESS)
+    copy(row, row::ADDRESS, rec, chart_a1::ADDRESS);
 }
 
 // A record of any type but A on its row.
-pub fn changed_row(row: [u8; 200], rec: &[u8; 245]) -> [u8; 200]
-    ensures { λ r. ⌜ r ≡ changed (now (rec .entry)) row ⌝ }
+pub fn change(row: &mut [u8], rec: &[u8; 245])
+    requires { ⌜ length (now row) ≡ 200 ⌝ }
+    ensures { λ _. ⌜ now (row .exit) ≡ changed (now (rec .entry)) (now (row .entry)) ⌝ }
 {
     let t = rec[72];
     match t {
-        record::RENAME => renamed_row(row, rec),
-        record::CASE_ID => reidentified_row(row, rec),
-        record::DELETE => deleted_row(row),
-        record::LOCAL_CODE => relocated_row(row, rec),
-        record::MODIFY => amended_row(row, rec),
-        record::EXCLUDE => excluded_row(row, rec),
-        record::PAYMENT => paid_row(row, rec),
-        record::TRANSFER => transferred_row(row, rec),
-        _ => readdressed_row(row, rec),
+        record::RENAME => rename(row, rec),
+        record::CASE_ID => reidentify(row, rec),
+        record::DELETE => delete(row),
+        record::LOCAL_CODE => relocate(row, rec),
+        record::MODIFY => amend(row, rec),
+        record::EXCLUDE => exclude(row, rec),
+        record::PAYMENT => pay(row, rec),
+        record::TRANSFER => transfer(row, rec),
+        _ => readdress(row, rec),
     }
 }

@@ -1,5 +1,6 @@
 // The verdict on a record.
 ghost use mathlib.Core.Path.{_≡_};
+ghost use lib.ListN.{length};
 ghost use Rattle.text.specs.Fields.{columns};
 ghost use Rattle.onecase.specs.Verdict.{fourBytes};
 
@@ -22,8 +23,9 @@ pub enum Verdict {
 }
 
 // The first four characters of a row's last name.
-pub fn stored_name(row: [u8; 200]) -> FourBytes
-    ensures { λ r. ⌜ fourBytes r ≡ columns 31 34 row ⌝ }
+pub fn stored_name(row: &[u8]) -> FourBytes
+    requires { ⌜ length (now row) ≡ 200 ⌝ }
+    ensures { λ r. ⌜ fourBytes r ≡ columns 31 34 (now (row .entry)) ⌝ }
 {
     FourBytes {
         a: row[30],

@@ -1,6 +1,6 @@
--- Records of type A: a batch adds at most one row for each, and none without. Assumes nothing.
+-- Records of type A: a batch adds at most one row for each. Assumes nothing.
 use Prim.Native.Nat.{ℕ, _+_, _*_, _≤_, _<_}
-use mathlib.Core.Path.{_≡_, refl, ap, _∙_}
+use mathlib.Core.Path.{_≡_, ap, _∙_}
 use mathlib.Core.Bool.{Bool, true, false, cond, _&&_}
 use mathlib.Core.List.{List, [], _∷_}
 use native.Mathlib.Omega.{arith}
@@ -9,17 +9,8 @@ use Rattle.text.specs.Characters.{A}
 use Rattle.text.specs.Blocks.{blocks}
 use Rattle.text.proofs.BlocksLaws.{length-blocks, blocks-next}
 use Rattle.layout.specs.Record.{isType, recordKey}
-use Rattle.text.proofs.BoolLaws.{or-left, or-right}
 use Rattle.casemaster.specs.Rows.{rowWith}
-use Rattle.turns.specs.Adds.{hasNoRow, addsWithoutRow, hasAdd, addCount}
-
-pub no-add-new : (rows details : List (List ℕ)) → hasAdd details ≡ false → addsWithoutRow rows details ≡ 0
-unfolding hasAdd addsWithoutRow
-no-add-new rows [] e = refl
-no-add-new rows (detail ∷ details) e =
-    let a : isType A detail ≡ false = or-left (isType A detail) (hasAdd details) e in
-    let b : hasAdd details ≡ false = or-right (isType A detail) (hasAdd details) e in
-    rw (a, no-add-new rows details b)
+use Rattle.turns.specs.Adds.{hasNoRow, addsWithoutRow, addCount}
 
 both-most : (a b : Bool) → cond (a && b) 1 0 ≤ cond a 1 0
 both-most true true = omega arith
@@ -37,19 +28,6 @@ new-most-adds rows (detail ∷ details) =
 module _ (batch : List ℕ) (d : ℕ) where
   abbrev details : List (List ℕ)
   details = blocks 245 d batch
-
-  module _ (i : ℕ) (l : i < d) where
-    pub add-here : isType A (take 245 (drop (i * 245) batch)) ≡ true → hasAdd (drop i details) ≡ true
-    unfolding hasAdd
-    add-here e = ap hasAdd (blocks-next 245 d batch i l) ∙ rw e
-
-    pub add-later : isType A (take 245 (drop (i * 245) batch)) ≡ false → hasAdd (drop i details) ≡ hasAdd (drop (i + 1) details)
-    unfolding hasAdd
-    add-later e = ap hasAdd (blocks-next 245 d batch i l) ∙ rw e
-
-  pub add-end : (i : ℕ) → d ≤ i → hasAdd (drop i details) ≡ false
-  unfolding hasAdd
-  add-end i l = ap hasAdd (drop-of-length-le details {i = i} (rw (length-blocks 245 d batch) l))
 
   pub adds-next : (i : ℕ) → i < d
       → addCount (drop i details) ≡ cond (isType A (take 245 (drop (i * 245) batch))) 1 0 + addCount (drop (i + 1) details)

@@ -1,7 +1,7 @@
 -- Document 01, refusal 9: the A records of a batch, and those whose key has no row. Assumes nothing.
 use Prim.Native.Nat.{ℕ, _+_}
 use mathlib.Core.List.{List, [], _∷_}
-use mathlib.Core.Bool.{Bool, true, false, cond, _&&_, _||_}
+use mathlib.Core.Bool.{Bool, true, false, cond, _&&_}
 use mathlib.Core.Option.{Option, none, some}
 use Rattle.text.specs.Characters.{A}
 use Rattle.layout.specs.Record.{recordKey, isType}
@@ -20,11 +20,6 @@ isNew rows detail = isType A detail && hasNoRow (rowWith (recordKey detail) rows
 unfoldable pub addsWithoutRow : List (List ℕ) → List (List ℕ) → ℕ
 addsWithoutRow rows [] = 0
 addsWithoutRow rows (detail ∷ details) = cond (isNew rows detail) 1 0 + addsWithoutRow rows details
-
--- one of some details is of type A
-unfoldable pub hasAdd : List (List ℕ) → Bool
-hasAdd [] = false
-hasAdd (detail ∷ details) = isType A detail || hasAdd details
 
 -- how many of some details are of type A
 unfoldable pub addCount : List (List ℕ) → ℕ

@@ -14,7 +14,7 @@ ghost use Rattle.text.specs.Blocks.{blocks};
 ghost use Rattle.text.specs.Characters;
 ghost use Rattle.casemaster.specs.Master.{rowsOf, areSoundRows};
 ghost use Rattle.layout.specs.Record.{isType};
-ghost use Rattle.turns.specs.Adds.{addsWithoutRow, hasAdd, addCount};
+ghost use Rattle.turns.specs.Adds.{addsWithoutRow, addCount};
 
 // 1 where it holds, else 0.
 pub fn one_if(holds: bool) -> usize
@@ -29,21 +29,6 @@ fn is_add(batch: &[u8], i: usize) -> bool
     ensures { λ r. ⌜ r ≡ isType Characters.A (take 245 (drop (i * 245) (now (batch .entry)))) ⌝ }
 {
     batch[i * RECORD_WIDTH + 72] == record::ADD
-}
-
-// Whether one of the first d records is of type A.
-pub fn has_add(batch: &[u8], d: usize) -> bool
-    requires { ⌜ d * 245 ≤ length (now batch) ⌝ }
-    ensures { λ r. ⌜ r ≡ hasAdd (blocks 245 d (now (batch .entry))) ⌝ }
-{
-    let mut i: usize = 0;
-    while i < d {
-        if is_add(batch, i) {
-            return true;
-        }
-        i += 1;
-    }
-    false
 }
 
 // How many of the first d records are of type A.

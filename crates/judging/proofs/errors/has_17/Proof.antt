@@ -20,7 +20,7 @@ same-requires c κs = search needs
 
 returns : tie.Need-returns
 unfolding error17
-returns c names g = rw (other-held (c .before .before .before .before .before .before .args .held) (c .before .before .before .before .before .before .args .row .now) (c .before .before .before .before .before .before .args .rec .now), c .same .ensures, c .before .field2 .ensures, c .before .before .before .field .ensures, sym g)
+returns c names g = rw (other-held (c .before .before .before .before .before .before .args .held) (c .before .before .before .before .before .before .args .row .now) (c .before .before .before .before .before .before .args .rec .now), c .same .ensures, c .before .field2 .ensures, c .before .before .field .ensures, sym g)
 
 pub has-17-spec : {M : Type 1} → statement M
 has-17-spec =

@@ -41,7 +41,7 @@ add-set c = search needs
 
 returns : tie.Need-returns
 returns c names g =
-    let a = c .before .before .before .before .before .before .before .before .before .before .args in
+    let a = c .before .before .before .before .before .before .before .before .before .before .before .args in
     let setting = settingOf (a .state .now) (a .year) (a .list .now) names in
     let row = rowIf (a .held) (a .row .now) in
     let f = c .before .before .before .before .before .before .before .judge-first in

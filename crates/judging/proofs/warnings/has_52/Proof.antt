@@ -15,7 +15,7 @@ is-renamed-requires c κs = search needs
 returns : tie.Need-returns
 unfolding warning52
 returns c =
-    let a = c .before .before .before .args in
+    let a = c .before .before .before .before .args in
     rw (eq-eqb _ _ (c .before .if1 .taken), renamed-held (a .held) (a .row .now) (a .rec .now), c .is-renamed .ensures)
 
 returns-2 : tie.Need-returns-2

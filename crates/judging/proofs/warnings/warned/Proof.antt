@@ -28,7 +28,7 @@ add-result c = search needs
 returns : tie.Need-returns
 unfolding warnings
 returns c =
-    (sum-code 51 (warning51 (c .before .before .before .before .before .args .list .now) (c .before .before .before .before .before .args .rec .now)) (code 52 (warning52 (rowIf (c .before .before .before .before .before .args .held) (c .before .before .before .before .before .args .row .now)) (c .before .before .before .before .before .args .rec .now))) _ _ (c .before .before .flag .ensures .0 ∙ ap (λ (b : Bool). numberOfCodes (code 51 b)) (c .before .before .before .has-51 .ensures))
+    (sum-code 51 (warning51 (c .before .before .before .before .before .before .args .list .now) (c .before .before .before .before .before .before .args .rec .now)) (code 52 (warning52 (rowIf (c .before .before .before .before .before .before .args .held) (c .before .before .before .before .before .before .args .row .now)) (c .before .before .before .before .before .before .args .rec .now))) _ _ (c .before .before .flag .ensures .0 ∙ ap (λ (b : Bool). numberOfCodes (code 51 b)) (c .before .before .before .has-51 .ensures))
     (c .flag2 .ensures .0 ∙ ap (λ (b : Bool). numberOfCodes (code 52 b)) (c .before .has-52 .ensures)))
 
 pub warned-spec : {M : Type 1} → statement M

@@ -5,7 +5,6 @@ use native.Mathlib.Omega.{arith}
 use denote.Ref.{now}
 use lib.ListN.{length, getD, length-set}
 use lib.Seq.{getD-set-other}
-use Rattle.onecase.specs.Machine.{rowOf}
 use Rattle.keywork.specs.Worked.{UnderAlone, AloneWorked}
 use Rattle.keywork.proofs.WorkedLaws.{alone-none, alone-turn}
 use borrow.Author.Needs.{needs}
@@ -23,8 +22,8 @@ loop-holds c =
     let a = c .before .before .before .before .args in
     (omega arith, omega (arith, c .before .before .before .before .pre .0), refl, (λ k h. refl), alone-none (now (a .state)) (a .year) (now (a .list)) (now (a .batch)) (a .p) (now (a .numbers)) (a .e))
 
-no-case-requires : tie.Need-no-case-requires Inv-loop μ-loop
-no-case-requires c κs = search needs
+slice-aggregate-work-tagged : tie.Need-slice-aggregate-work-tagged Inv-loop μ-loop
+slice-aggregate-work-tagged c = search needs
 
 mul-work-tagged : tie.Need-mul-work-tagged Inv-loop μ-loop
 mul-work-tagged c = search needs
@@ -35,13 +34,13 @@ slice-read-work-tagged c = omega (arith, c .before .before .loop-test .taken, c 
 work-tagged-requires : tie.Need-work-tagged-requires Inv-loop μ-loop
 work-tagged-requires c κs =
     let l = c .before .before .before .loop in
-    rw (l .inv .3 (l .q) (omega arith)) (c .before .before .before .before .before .before .before .before .pre .2 (l .q) (l .inv .0) (c .before .before .loop-test .taken))
+    (search needs, rw (l .inv .3 (l .q) (omega arith)) (c .before .before .before .before .before .before .before .before .pre .2 (l .q) (l .inv .0) (c .before .before .loop-test .taken)))
 
 mul-numbers : tie.Need-mul-numbers Inv-loop μ-loop
 mul-numbers c = search needs
 
 slice-write-numbers : tie.Need-slice-write-numbers Inv-loop μ-loop
-slice-write-numbers c = omega (arith, c .before .before .before .loop-test .taken, c .before .before .before .before .loop .inv .2, c .before .before .before .before .before .before .before .before .before .pre .1)
+slice-write-numbers c = omega (arith, c .before .before .before .before .loop-test .taken, c .before .before .before .before .before .loop .inv .2, c .before .before .before .before .before .before .before .before .before .before .pre .1)
 
 add-q : tie.Need-add-q Inv-loop μ-loop
 add-q c = search needs
@@ -51,16 +50,16 @@ loop-less c = search needs
 
 loop-again : tie.Need-loop-again Inv-loop μ-loop
 loop-again c =
-    let a = c .before .before .before .before .before .before .before .before .before .args in
-    let l = c .before .before .before .before .loop in
-    let t = c .before .before .before .loop-test .taken in
-    let w = c .work-tagged in (
+    let w = c .before .work-tagged in
+    let t = c .before .before .before .before .loop-test .taken in
+    let l = c .before .before .before .before .before .loop in
+    let a = c .before .before .before .before .before .before .before .before .before .before .args in (
       omega (arith, l .inv .0),
       omega (arith, t),
       length-set (l .numbers) (l .q) (w .result .number) ∙ l .inv .2,
       (λ k h. getD-set-other (l .numbers) (l .q) k (w .result .number) 0 (λ (z : k ≡ l .q). omega arith) ∙ l .inv .3 k (omega arith)),
-      alone-turn (now (a .state)) (a .year) (now (a .list)) (now (a .batch)) (a .p) (now (a .numbers)) (a .e) (l .q) (l .numbers) (w .result) (rowOf (c .before .before .no-case .result)) (c .before .before .no-case .ensures)
-          (l .inv .0) t (c .before .before .before .before .before .before .before .before .before .pre .1) (l .inv .3 (l .q) (omega arith)) (l .inv .4) (w .ensures),
+      alone-turn (now (a .state)) (a .year) (now (a .list)) (now (a .batch)) (a .p) (now (a .numbers)) (a .e) (l .q) (l .numbers) _ (w .result)
+          (l .inv .0) t (c .before .before .before .before .before .before .before .before .before .before .pre .1) (l .inv .3 (l .q) (omega arith)) (l .inv .4) (w .ensures),
     )
 
 same-length : tie.Need-same-length Inv-loop μ-loop
@@ -80,7 +79,7 @@ work-alone-spec =
     Inv-loop
     μ-loop
     loop-holds
-    no-case-requires
+    slice-aggregate-work-tagged
     mul-work-tagged
     slice-read-work-tagged
     work-tagged-requires

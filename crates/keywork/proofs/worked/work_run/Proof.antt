@@ -1,5 +1,6 @@
--- `worked::work_run`. The invariant: the details before q are worked one behind the other, the numbers from q on are as at entry.
+-- `worked::work_run`. The invariant: the details before q are worked one behind the other on the row, the numbers from q on are as at entry.
 -- Assumes nothing.
+use Rattle.judging.specs.State.{rowIf}
 use Prim.Native.Nat.{ℕ, _-_, _≤_}
 use mathlib.Core.Path.{_≡_, refl, _∙_}
 use native.Mathlib.Omega.{arith}
@@ -15,32 +16,35 @@ use Rattle.keywork.proofs.worked.work_run.Statement.{statement}
 use Rattle.keywork.proofs.worked.work_run.Tie as tie
 
 abbrev Inv-loop : tie.InvT-loop
-Inv-loop batch numbers₀ p e state year list c₀ q₀ numbers c q = (p ≤ q) × (q ≤ e) × (length numbers ≡ length numbers₀) × ((k : ℕ) → q ≤ k → getD numbers k 0 ≡ getD numbers₀ k 0) × UnderTags state year list batch numbers₀ p e (λ setting. RunWorked setting batch p q (rowOf c₀) (rowOf c) numbers₀ numbers)
+Inv-loop batch numbers₀ p e state year list row₀ held₀ q₀ numbers row held q = (p ≤ q) × (q ≤ e) × (length numbers ≡ length numbers₀) × ((k : ℕ) → q ≤ k → getD numbers k 0 ≡ getD numbers₀ k 0) × (length row ≡ 200) × UnderTags state year list batch numbers₀ p e (λ setting. RunWorked setting batch p q (rowIf held₀ row₀) (rowIf held row) numbers₀ numbers)
 
 abbrev μ-loop : tie.MeasureT-loop
-μ-loop batch numbers₀ p e state year list c₀ q₀ numbers c q = e - q
+μ-loop batch numbers₀ p e state year list row₀ held₀ q₀ numbers row held q = e - q
 
 loop-holds : tie.Need-loop-holds Inv-loop μ-loop
 loop-holds c =
-    let a = c .before .before .before .before .args in
-    (omega arith, omega (arith, c .before .before .before .before .pre .0), refl, (λ k h. refl), λ names kn mk. run-none (settingOf (now (a .state)) (a .year) (now (a .list)) names) (now (a .batch)) (a .p) (rowOf (a .case)) (now (a .numbers)))
+    let a = c .before .before .before .before .before .args in
+    (omega arith, omega (arith, c .before .before .before .before .before .pre .0), refl, (λ k h. refl), search needs, λ names kn mk. run-none (settingOf (now (a .state)) (a .year) (now (a .list)) names) (now (a .batch)) (a .p) (rowOf (a .case)) (now (a .numbers)))
+
+slice-aggregate-work-tagged : tie.Need-slice-aggregate-work-tagged Inv-loop μ-loop
+slice-aggregate-work-tagged c = search needs
 
 mul-work-tagged : tie.Need-mul-work-tagged Inv-loop μ-loop
 mul-work-tagged c = search needs
 
 slice-read-work-tagged : tie.Need-slice-read-work-tagged Inv-loop μ-loop
-slice-read-work-tagged c = omega (arith, c .before .loop-test .taken, c .before .before .loop .inv .2, c .before .before .before .before .before .before .before .pre .1)
+slice-read-work-tagged c = omega (arith, c .before .before .loop-test .taken, c .before .before .before .loop .inv .2, c .before .before .before .before .before .before .before .before .before .pre .1)
 
 work-tagged-requires : tie.Need-work-tagged-requires Inv-loop μ-loop
 work-tagged-requires c κs =
-    let l = c .before .before .loop in
-    rw (l .inv .3 (l .q) (omega arith)) (c .before .before .before .before .before .before .before .pre .2 (l .q) (l .inv .0) (c .before .loop-test .taken))
+    let l = c .before .before .before .loop in
+    (search needs, rw (l .inv .3 (l .q) (omega arith)) (c .before .before .before .before .before .before .before .before .before .pre .2 (l .q) (l .inv .0) (c .before .before .loop-test .taken)))
 
 mul-numbers : tie.Need-mul-numbers Inv-loop μ-loop
 mul-numbers c = search needs
 
 slice-write-numbers : tie.Need-slice-write-numbers Inv-loop μ-loop
-slice-write-numbers c = omega (arith, c .before .before .loop-test .taken, c .before .before .before .loop .inv .2, c .before .before .before .before .before .before .before .before .pre .1)
+slice-write-numbers c = omega (arith, c .before .before .before .before .loop-test .taken, c .before .before .before .before .before .loop .inv .2, c .before .before .before .before .before .before .before .before .before .before .before .pre .1)
 
 add-q : tie.Need-add-q Inv-loop μ-loop
 add-q c = search needs
@@ -50,16 +54,17 @@ loop-less c = search needs
 
 loop-again : tie.Need-loop-again Inv-loop μ-loop
 loop-again c =
-    let a = c .before .before .before .before .before .before .before .before .before .args in
-    let l = c .before .before .before .before .loop in
-    let t = c .before .before .before .loop-test .taken in
-    let w = c .before .work-tagged in (
+    let w = c .before .work-tagged in
+    let t = c .before .before .before .before .loop-test .taken in
+    let l = c .before .before .before .before .before .loop in
+    let a = c .before .before .before .before .before .before .before .before .before .before .before .args in (
       omega (arith, l .inv .0),
       omega (arith, t),
       length-set (l .numbers) (l .q) (w .result .number) ∙ l .inv .2,
       (λ k h. getD-set-other (l .numbers) (l .q) k (w .result .number) 0 (λ (z : k ≡ l .q). omega arith) ∙ l .inv .3 k (omega arith)),
-      run-turn (now (a .state)) (a .year) (now (a .list)) (now (a .batch)) (a .p) (a .e) (l .q) (rowOf (a .case)) (rowOf (l .c)) (now (a .numbers)) (l .numbers) (w .result)
-          (l .inv .0) t (c .before .before .before .before .before .before .before .before .before .pre .1) (l .inv .3 (l .q) (omega arith)) (l .inv .4) (w .ensures),
+      search needs,
+      run-turn (now (a .state)) (a .year) (now (a .list)) (now (a .batch)) (a .p) (a .e) (l .q) (rowOf (a .case)) (rowIf (l .held) (l .row)) (now (a .numbers)) (l .numbers) _ (w .result)
+          (l .inv .0) t (c .before .before .before .before .before .before .before .before .before .before .before .pre .1) (l .inv .3 (l .q) (omega arith)) (l .inv .5) (w .ensures),
     )
 
 same-length : tie.Need-same-length Inv-loop μ-loop
@@ -67,10 +72,10 @@ same-length c = c .before .loop .inv .2
 
 returns : tie.Need-returns Inv-loop μ-loop
 returns c =
-    let a = c .before .before .before .before .before .before .args in
+    let a = c .before .before .before .before .before .before .before .args in
     let l = c .before .loop in
     let e : l .q ≡ a .e = omega (arith, c .loop-test .left, l .inv .1) in
-    rw e at (l .inv .4)
+    rw e at (l .inv .5)
 
 pub work-run-spec : {M : Type 1} → statement M
 work-run-spec =
@@ -79,6 +84,7 @@ work-run-spec =
     Inv-loop
     μ-loop
     loop-holds
+    slice-aggregate-work-tagged
     mul-work-tagged
     slice-read-work-tagged
     work-tagged-requires

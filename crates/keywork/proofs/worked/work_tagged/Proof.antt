@@ -1,7 +1,7 @@
--- `worked::work_tagged`: the step of the record; its other errors, its warning and its mark are read from the number. Assumes nothing.
+-- `worked::work_tagged` meets its contract: the step of the record, whose other errors, warning and mark are in the number. Assumes nothing.
 use denote.Ref.{now}
-use Rattle.onecase.specs.Machine.{rowOf}
 use Rattle.keywork.proofs.WorkedLaws.{work-one}
+use Rattle.judging.specs.State.{rowIf}
 use borrow.Author.Needs.{needs}
 use Rattle.keywork.proofs.worked.work_tagged.Statement.{statement}
 use Rattle.keywork.proofs.worked.work_tagged.Tie as tie
@@ -27,13 +27,19 @@ step-known-requires c κs = search needs
 with-verdict-requires : tie.Need-with-verdict-requires
 with-verdict-requires c κs = search needs
 
+same-length : tie.Need-same-length
+same-length c = search needs
+
 returns : tie.Need-returns
 returns c =
-    let a = c .before .before .before .before .before .before .before .before .before .before .before .before .before .before .args in
-    work-one (now (a .state)) (a .year) (now (a .list)) (now (a .batch)) (a .x) (c .before .before .before .before .before .before .before .before .before .before .index-part .result) (c .before .before .before .before .before .before .before .before .before .record-at .result) (rowOf (a .case))
-    (c .before .before .before .before .before .before .before .front-of .result) (c .before .before .before .before .before .before .flag-local .result) (c .before .before .before .before .before .flag-given .result) (c .before .before .step-known .result) (c .with-verdict .result)
-    (c .before .before .before .before .before .before .before .before .before .before .index-part .ensures .0) (c .before .before .before .before .before .before .before .before .before .record-at .ensures) (c .before .before .before .before .before .before .before .front-of .ensures .0) (c .before .before .before .before .before .before .flag-local .ensures) (c .before .before .before .before .before .flag-given .ensures)
-    (c .before .before .step-known .ensures) (c .with-verdict .ensures)
+    let k = c .before .before .before in
+    let g = k .before .before .before in
+    let i = c .before .before .before .before .before .before .before .before .before .before .before in
+    let a = c .before .before .before .before .before .before .before .before .before .before .before .before .before .before .before .before .args in
+    work-one (now (a .state)) (a .year) (now (a .list)) (now (a .batch)) (a .x) (i .index-part .result) (c .before .before .before .before .before .before .before .before .before .before .record-at .result) (rowIf (a .held) (now (a .row)))
+    (g .before .before .front-of .result) (g .before .flag-local .result) (g .flag-given .result) _ (k .step-known .result) (c .with-verdict .result)
+    (i .index-part .ensures .0) (c .before .before .before .before .before .before .before .before .before .before .record-at .ensures) (g .before .before .front-of .ensures .0) (g .before .flag-local .ensures) (g .flag-given .ensures)
+    (k .step-known .ensures) (c .with-verdict .ensures)
 
 pub work-tagged-spec : {M : Type 1} → statement M
 work-tagged-spec =
@@ -46,4 +52,5 @@ work-tagged-spec =
     flag-given-requires
     step-known-requires
     with-verdict-requires
+    same-length
     returns)
