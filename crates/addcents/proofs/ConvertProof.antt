@@ -19,7 +19,7 @@ use Rattle.casemaster.proofs.RefusalsLaws.{old-master-sound}
 use Rattle.casemaster.proofs.RowsLaws.{IsWide}
 use Rattle.casemaster.specs.Row.{withZeroCents}
 use Rattle.addcents.specs.Convert.{ConvertCall, ConvertOutcome, convertRun, convertOutcome, AreCentsAdded}
-use Rattle.addcents.specs.Theorem.{dollarCents, rowsBefore, rowsAfter, EveryConversion}
+use Rattle.addcents.specs.Theorem.{dollarCents, oldRows, newRows, EveryConversion}
 use Rattle.addcents.proofs.ConvertLaws.{rows-inside, wide, key-kept, dollars-kept, status-kept, balance-dollars, converted-sound}
 
 -- ---- each row converted
@@ -60,25 +60,25 @@ module _ (c : ConvertCall) (o : ConvertOutcome) (i : AreCentsAdded c o) (t : isC
   unfolding convertOutcome
   passed = none-holds _ (c .master) (convertRun c) (ap (λ (p : ConvertOutcome). isCarriedOut (p .answer)) (sym (i .is)) ∙ t)
 
-  wide-before : All IsWide (rowsBefore c)
+  wide-before : All IsWide (oldRows c)
   wide-before = blocks-wide 200 (c .rows) (c .master) (rows-inside (c .master) (c .rows) passed)
 
-  left-are : rowsAfter c o ≡ converted (rowsBefore c)
+  left-are : newRows c o ≡ converted (oldRows c)
   unfolding convertOutcome over
   left-are =
-      let n : length (converted (rowsBefore c)) ≡ c .rows = length-map (rowsBefore c) withZeroCents ∙ length-blocks 200 (c .rows) (c .master) in
+      let n : length (converted (oldRows c)) ≡ c .rows = length-map (oldRows c) withZeroCents ∙ length-blocks 200 (c .rows) (c .master) in
       ap (λ (p : ConvertOutcome). rowsOf (c .rows) (p .buffers)) (i .is ∙ sym (outcome-done _ (c .master) (convertRun c) passed))
       ∙ (rw n at
-      (blocks-joined 200 (converted (rowsBefore c)) (drop (length (joined (converted (rowsBefore c)))) (c .master)) (all-wide (rowsBefore c) wide-before)))
+      (blocks-joined 200 (converted (oldRows c)) (drop (length (joined (converted (oldRows c)))) (c .master)) (all-wide (oldRows c) wide-before)))
 
 pub converts : EveryConversion
 converts c o i t =
     let w = wide-before c o i t in
     let e = left-are c o i t in
     record {
-      sound = rw e (rows-sound (rowsBefore c) w (old-master-sound (c .master) (c .rows) (passed c o i t)));
-      keys = rw e (keys-kept (rowsBefore c) w);
-      dollars = rw e (all-kept rowArrearage rowArrearage dollars-kept (rowsBefore c) w);
-      status = rw e (all-kept rowStatus rowStatus status-kept (rowsBefore c) w);
-      balances = rw e (all-kept balance dollarCents balance-dollars (rowsBefore c) w);
+      sound = rw e (rows-sound (oldRows c) w (old-master-sound (c .master) (c .rows) (passed c o i t)));
+      keys = rw e (keys-kept (oldRows c) w);
+      dollars = rw e (all-kept rowArrearage rowArrearage dollars-kept (oldRows c) w);
+      status = rw e (all-kept rowStatus rowStatus status-kept (oldRows c) w);
+      balances = rw e (all-kept balance dollarCents balance-dollars (oldRows c) w);
     }

@@ -14,19 +14,19 @@ abbrev pub dollarCents : List ℕ → ℕ
 dollarCents row = number (rowArrearage row) * 100
 
 -- the rows at entry, and those that a call leaves
-abbrev pub rowsBefore : ConvertCall → List (List ℕ)
-rowsBefore c = rowsOf (c .rows) (c .master)
+abbrev pub oldRows : ConvertCall → List (List ℕ)
+oldRows c = rowsOf (c .rows) (c .master)
 
-abbrev pub rowsAfter : ConvertCall → ConvertOutcome → List (List ℕ)
-rowsAfter c o = rowsOf (c .rows) (o .buffers)
+abbrev pub newRows : ConvertCall → ConvertOutcome → List (List ℕ)
+newRows c o = rowsOf (c .rows) (o .buffers)
 
 -- sound rows with cents, the same keys, dollars and status, and each balance its dollars
 pub record Converts (c : ConvertCall) (o : ConvertOutcome) : Type 0 where
-  pub sound : areSoundRows (rowsAfter c o) ≡ true
-  pub keys : keysOf (rowsAfter c o) ≡ keysOf (rowsBefore c)
-  pub dollars : map rowArrearage (rowsAfter c o) ≡ map rowArrearage (rowsBefore c)
-  pub status : map rowStatus (rowsAfter c o) ≡ map rowStatus (rowsBefore c)
-  pub balances : map balance (rowsAfter c o) ≡ map dollarCents (rowsBefore c)
+  pub sound : areSoundRows (newRows c o) ≡ true
+  pub keys : keysOf (newRows c o) ≡ keysOf (oldRows c)
+  pub dollars : map rowArrearage (newRows c o) ≡ map rowArrearage (oldRows c)
+  pub status : map rowStatus (newRows c o) ≡ map rowStatus (oldRows c)
+  pub balances : map balance (newRows c o) ≡ map dollarCents (oldRows c)
 
 -- for every conversion that is carried out
 abbrev pub EveryConversion : Type 0

@@ -6,7 +6,7 @@ use mathlib.Core.Bool.{Bool, true, false, cond, false≢true}
 use native.Mathlib.Omega.{arith}
 use lib.Dec.{eqb}
 use borrow.Author.Tests.{eqb-true, ne-eqb}
-use Rattle.answers.specs.Answer.{refuseIf, Answer, refused, done, Outcome, Run, outcomeBy, answerBy, isCarriedOut, numberOf, numbersOf, returned}
+use Rattle.answers.specs.Answer.{refuseIf, Answer, refused, done, Outcome, Run, outcomeBy, answerBy, isCarriedOut, refusalNumber, numbersOf, returned}
 
 -- ---- the first refusal that holds
 
@@ -57,7 +57,7 @@ module _ {R B : Type 0} (refusal : ℕ) (entry : B) (run : Run R B) where
     where
       go : (b : Bool) → outcomeAt b .answer ≡ refused n → (outcomeAt b .buffers ≡ entry) × (refusal ≡ n)
       go true k = absurd (false≢true (sym (ap isCarriedOut k)))
-      go false k = (refl, ap numberOf k)
+      go false k = (refl, ap refusalNumber k)
 
 -- ---- a call without buffers
 

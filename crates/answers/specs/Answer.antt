@@ -1,6 +1,7 @@
 -- What every call answers and leaves: refused with the number of the first refusal that holds, every buffer as it was at entry, or done. Over
 -- any result and any buffers. Assumes nothing.
 use Prim.Native.Nat.{ℕ}
+use mathlib.Core.Path.{_≡_}
 use mathlib.Core.Bool.{Bool, true, false, cond}
 use lib.Dec.{eqb}
 
@@ -41,6 +42,13 @@ abbrev pub isCarriedOut : {R : Type 0} → Answer R → Bool
 isCarriedOut (refused n) = false
 isCarriedOut (done r) = true
 
+-- what a call that is carried out leaves, and what a refusal leaves
+abbrev pub Leaves : {R B : Type 0} → Outcome R B → R → B → Type 0
+Leaves o result buffers = o ≡ record { answer = done result; buffers = buffers }
+
+abbrev pub Refuses : {R B : Type 0} → Outcome R B → ℕ → B → Type 0
+Refuses o n buffers = o ≡ record { answer = refused n; buffers = buffers }
+
 -- ---- what a C function returns and leaves
 
 -- the number returned, the result numbers behind their pointers, and every buffer lent that can be written
@@ -50,9 +58,9 @@ pub record Returned (N B : Type 0) : Type 0 where
   pub buffers : B
 
 -- 0, or the refusal's number
-abbrev pub numberOf : {R : Type 0} → Answer R → ℕ
-numberOf (refused n) = n
-numberOf (done r) = 0
+abbrev pub refusalNumber : {R : Type 0} → Answer R → ℕ
+refusalNumber (refused n) = n
+refusalNumber (done r) = 0
 
 -- result numbers are written where the call is carried out; a refusal leaves them alone
 abbrev pub numbersOf : {R N : Type 0} → (R → N) → N → Answer R → N
@@ -60,4 +68,4 @@ numbersOf f kept (refused n) = kept
 numbersOf f kept (done r) = f r
 
 abbrev pub returned : {R N B : Type 0} → (R → N) → N → Outcome R B → Returned N B
-returned f kept o = record { number = numberOf (o .answer); numbers = numbersOf f kept (o .answer); buffers = o .buffers }
+returned f kept o = record { number = refusalNumber (o .answer); numbers = numbersOf f kept (o .answer); buffers = o .buffers }

@@ -4,7 +4,7 @@ use mathlib.Core.Path.{_≡_}
 use mathlib.Core.List.{List, [], _∷_, _++_}
 use mathlib.Core.Bool.{true, false}
 use mathlib.Core.Option.{none, some}
-use Rattle.answers.specs.Answer.{refused, done}
+use Rattle.answers.specs.Answer.{Leaves, Refuses}
 use Rattle.text.specs.Characters.{space, zeroDigit, A, D, H, I, L, M, N, O, S, T}
 use Rattle.text.specs.Fields.{digitField, spaces}
 use Rattle.casemaster.specs.Row.{isSoundRow}
@@ -12,7 +12,7 @@ use Rattle.collectionfile.specs.Line.{amountCents}
 use Rattle.posting.specs.Posting.{isPostedOn, postedRow, afterLines, listed}
 use Rattle.balancing.specs.Balances.{allKeys, excesses}
 use Rattle.collectionfile.specs.File.{totalText}
-use Rattle.posting.specs.Post.{PostOutcome, postOutcome, postCall}
+use Rattle.posting.specs.Post.{PostBuffers, postOutcome, postCall}
 
 -- a row of OH, SSN 123456789, N, SMITH
 unfoldable pub row : ℕ → ℕ → ℕ → List ℕ
@@ -48,12 +48,9 @@ field b = digitField 10 0 ++ b ∷ []
 unfoldable pub file : ℕ → ℕ → List ℕ
 file adjustments collections = line 75 0 ++ line 0 100 ++ last adjustments collections
 
--- what a call leaves, and what a refusal leaves
-abbrev pub leaves : PostOutcome → ℕ → List ℕ → List ℕ → Type 0
-leaves o n master lines = o ≡ record { answer = done n; buffers = record { master = master; lines = lines } }
-
-abbrev pub refuses : PostOutcome → ℕ → List ℕ → List ℕ → Type 0
-refuses o n master lines = o ≡ record { answer = refused n; buffers = record { master = master; lines = lines } }
+-- a master and a list
+abbrev pub lent : List ℕ → List ℕ → PostBuffers
+lent master lines = record { master = master; lines = lines }
 
 pub record Examples : Type 0 where
   -- the last digit: F5 and C5 are five cents, D5 (a minus) and CA are bad
@@ -92,12 +89,13 @@ pub record Examples : Type 0 where
   pub list : listed (row 0 50 space ∷ []) (line 75 0 ∷ line 0 100 ∷ []) ≡ 2 ∷ []
   pub turned : afterLines (row 0 50 space ∷ []) (line 0 100 ∷ line 75 0 ∷ []) ≡ row 0 75 space ∷ []
   -- a whole call; and one whose last record has wrong totals
-  pub carried-out : leaves (postOutcome (postCall (row 0 50 space) 1 (file 1 1) (7 ∷ 8 ∷ 9 ∷ []))) 1 (row 0 0 D) (2 ∷ 8 ∷ 9 ∷ [])
-  pub turned-away : refuses (postOutcome (postCall (row 0 50 space) 1 (file 1 2) (7 ∷ 8 ∷ 9 ∷ []))) 23 (row 0 50 space) (7 ∷ 8 ∷ 9 ∷ [])
+  pub carried-out : Leaves (postOutcome (postCall (row 0 50 space) 1 (file 1 1) (7 ∷ 8 ∷ 9 ∷ []))) 1 (lent (row 0 0 D) (2 ∷ 8 ∷ 9 ∷ []))
+  pub turned-away : Refuses (postOutcome (postCall (row 0 50 space) 1 (file 1 2) (7 ∷ 8 ∷ 9 ∷ []))) 23 (lent (row 0 50 space) (7 ∷ 8 ∷ 9 ∷ []))
   -- a bad collection is zero beside an adjustment; both above zero count in both
-  pub bad-counted : leaves (postOutcome (postCall (row 5 0 space) 1 (lineWith (spaces 11) (digitField 11 5) ++ last 1 0) (7 ∷ []))) 1 (row 5 0 space) (1 ∷ [])
-  pub both-counted : leaves (postOutcome (postCall (row 5 0 space) 1 (line 1 1 ++ last 1 1) (7 ∷ []))) 1 (row 5 0 space) (1 ∷ [])
+  pub bad-counted : Leaves (postOutcome (postCall (row 5 0 space) 1 (lineWith (spaces 11) (digitField 11 5) ++ last 1 0) (7 ∷ []))) 1
+      (lent (row 5 0 space) (1 ∷ []))
+  pub both-counted : Leaves (postOutcome (postCall (row 5 0 space) 1 (line 1 1 ++ last 1 1) (7 ∷ []))) 1 (lent (row 5 0 space) (1 ∷ []))
   -- TOTAL with another text behind it; a list one too short; a last record alone
-  pub wrong-total : refuses (postOutcome (postCall (row 5 0 space) 1 (lastOf wrongText 0 0) [])) 23 (row 5 0 space) []
-  pub short-list : refuses (postOutcome (postCall (row 0 50 space) 1 (file 1 1) (7 ∷ []))) 24 (row 0 50 space) (7 ∷ [])
-  pub last-alone : leaves (postOutcome (postCall (row 5 0 space) 1 (last 0 0) [])) 0 (row 5 0 space) []
+  pub wrong-total : Refuses (postOutcome (postCall (row 5 0 space) 1 (lastOf wrongText 0 0) [])) 23 (lent (row 5 0 space) [])
+  pub short-list : Refuses (postOutcome (postCall (row 0 50 space) 1 (file 1 1) (7 ∷ []))) 24 (lent (row 0 50 space) (7 ∷ []))
+  pub last-alone : Leaves (postOutcome (postCall (row 5 0 space) 1 (last 0 0) [])) 0 (lent (row 5 0 space) [])

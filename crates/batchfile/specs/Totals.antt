@@ -7,6 +7,7 @@ use lib.Dec.{eqb}
 use Rattle.text.specs.Characters.{A, C, L, M, N, T}
 use Rattle.text.specs.Fields.{columns, isBlank, allDigits, areDigits, number, sameBytes}
 use Rattle.layout.specs.States.{isState}
+use Rattle.layout.specs.ChartA1.{arrearage}
 use Rattle.layout.specs.ChartA2.{controlState, control, totalTanf, totalNonTanf, amountTanf, amountNonTanf, controlFiller}
 use Rattle.layout.specs.Record.{isType, caseTypeOf}
 
@@ -34,8 +35,8 @@ countOf caseType (detail ∷ details) = cond (eqb (caseTypeOf detail) caseType) 
 -- amounts sum columns 65–72 of A and M records where they are eight digits
 unfoldable pub amountIn : ℕ → List ℕ → ℕ
 amountIn caseType detail =
-    cond (eqb (caseTypeOf detail) caseType && ((isType A detail || isType M detail) && areDigits 8 (columns 65 72 detail)))
-    (number (columns 65 72 detail)) 0
+    cond (eqb (caseTypeOf detail) caseType && ((isType A detail || isType M detail) && areDigits 8 (arrearage detail)))
+    (number (arrearage detail)) 0
 
 unfoldable pub amountOf : ℕ → List (List ℕ) → ℕ
 amountOf caseType [] = 0

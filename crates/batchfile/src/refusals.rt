@@ -8,7 +8,7 @@ ghost use Rattle.layout.specs.Limits.{maxRows};
 ghost use Rattle.batchfile.specs.Refusals.{refusal5, batchRefusal};
 
 // Refusal 5: a batch that is empty, no multiple of a record's width, or of too many records.
-fn is_wrong_length(batch: &[u8]) -> bool
+pub fn is_wrong_length(batch: &[u8]) -> bool
     ensures { λ r. ⌜ r ≡ refusal5 maxRows (now (batch .entry)) ⌝ }
 {
     let n = batch.len();

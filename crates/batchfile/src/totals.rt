@@ -1,6 +1,7 @@
 // A batch: details, then the control record of Chart A-2, and the totals that it carries.
 use layout::chart_a1;
 use layout::chart_a2;
+use layout::key;
 use layout::record;
 use layout::records::RECORD_WIDTH;
 use layout::states;
@@ -13,11 +14,6 @@ ghost use lib.ListN.{length};
 ghost use Rattle.text.specs.Blocks.{blocks};
 ghost use Rattle.batchfile.specs.Totals.{hasCTL, hasState, hasTotals, amountIn};
 ghost use Rattle.batchfile.specs.TotalsParts.{countIn, hasAmount, FitsOneMore, IsAdded, AreTotals, countsAgree, amountsAgree};
-
-// The case types.
-pub const TANF: u8 = 0xC1;
-
-pub const NON_TANF: u8 = 0xD5;
 
 // The control record's four totals, one behind the other.
 const ALL_TOTALS: Columns = Columns { first: 6, last: 45 };
@@ -89,10 +85,10 @@ fn with_detail(t: Totals, rec: &[u8]) -> Totals
     ensures { λ r. ⌜ IsAdded (now (rec .entry)) t r ⌝ }
 {
     Totals {
-        tanf_count: t.tanf_count + count_in(TANF, rec),
-        non_tanf_count: t.non_tanf_count + count_in(NON_TANF, rec),
-        tanf_amount: t.tanf_amount + amount_in(TANF, rec),
-        non_tanf_amount: t.non_tanf_amount + amount_in(NON_TANF, rec),
+        tanf_count: t.tanf_count + count_in(key::TANF, rec),
+        non_tanf_count: t.non_tanf_count + count_in(key::NON_TANF, rec),
+        tanf_amount: t.tanf_amount + amount_in(key::TANF, rec),
+        non_tanf_amount: t.non_tanf_amount + amount_in(key::NON_TANF, rec),
     }
 }
 

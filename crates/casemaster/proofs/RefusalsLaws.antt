@@ -1,17 +1,22 @@
--- Laws of the refusals 3 and 4: what stands behind them counts exactly where neither holds, and what is then known of the rows.
--- Assumes nothing.
+-- Laws of the refusals 3 and 4: what stands behind them counts exactly where neither holds, what is then known of the rows, and a master of
+-- one row. Assumes nothing.
 use Prim.Native.Nat.{ℕ, _/_, _%_, _≤_}
-use mathlib.Core.Path.{_≡_, refl}
+use mathlib.Core.Path.{_≡_, refl, subst}
 use mathlib.Core.List.{List}
-use mathlib.Core.Bool.{Bool, true, false, not, _||_}
+use mathlib.Core.Bool.{Bool, true, false, not, cond, _&&_, _||_}
 use native.Mathlib.Omega.{arith}
 use native.Mathlib.Nat.{suc-ne-zero}
-use borrow.Author.Tests.{not-false, ltb-false}
+use borrow.Author.Tests.{not-false, ltb-false, le-ltb}
 use lib.Dec.{eqb, ltb}
-use lib.ListN.{length}
+use lib.ListN.{length, take}
+use lib.Seq.{take-length}
 use Rattle.answers.specs.Answer.{refuseIf}
+use Rattle.text.specs.Blocks.{blocks}
+use Rattle.text.specs.ByteOrder.{belowFirst, rising}
 use Rattle.layout.specs.Limits.{maxRows}
-use Rattle.casemaster.specs.Master.{rowsOf, areSoundRows, areSoundOldRows}
+use Rattle.layout.proofs.LimitsLaws.{max-rows}
+use Rattle.casemaster.specs.Row.{isSoundRow}
+use Rattle.casemaster.specs.Master.{rowsOf, keysOf, areSoundRows, areSoundOldRows}
 use Rattle.casemaster.specs.Refusals.{refusal3, refusal4, masterRefusal, oldMasterRefusal}
 
 module _ (limit : ℕ) (master : List ℕ) (rows : ℕ) where
@@ -82,3 +87,15 @@ module _ (master : List ℕ) (rows : ℕ) where
   pub old-master-sound : oldMasterRefusal master rows ≡ 0 → areSoundOldRows (rowsOf rows master) ≡ true
   unfolding oldMasterRefusal
   old-master-sound e = not-false (areSoundOldRows (rowsOf rows master)) (not-four maxRows master rows (not (areSoundOldRows (rowsOf rows master))) e)
+
+-- a master of one row, sound or not
+pub one-row : (row : List ℕ) → length row ≡ 200 → masterRefusal maxRows row 1 0 ≡ cond (isSoundRow row) 0 4
+unfolding masterRefusal refusal3 refusal4 areSoundRows keysOf rising belowFirst blocks
+one-row row l =
+    let n : take 200 row ≡ row = subst (λ (x : ℕ). take x row ≡ row) l (take-length row) in
+    let f : ltb maxRows 1 ≡ false = le-ltb maxRows 1 (omega (arith, max-rows)) in
+    rw (l, f, n) (go (isSoundRow row))
+  where
+    go : (t : Bool) → _≡_ {A = ℕ} (cond (not ((t && true) && (true && true))) 4 0) (cond t 0 4)
+    go true = refl
+    go false = refl

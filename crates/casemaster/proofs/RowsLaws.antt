@@ -1,19 +1,20 @@
 -- Laws of rows under their keys, for whatever holds of each row; and rows in rising order of key are the same where the same is found under each
 -- key. Assumes nothing.
-use Prim.Native.Nat.{ℕ}
+use Prim.Native.Nat.{ℕ, _<_}
 use mathlib.Core.Path.{_≡_, refl, sym, _∙_}
 use mathlib.Core.Bool.{Bool, true, false, cond}
-use mathlib.Core.List.{List, [], _∷_}
+use mathlib.Core.List.{List, [], _∷_, _++_}
 use mathlib.Core.Option.{Option, none, some}
 use native.Mathlib.Omega.{arith}
 use Rattle.text.specs.Fields.{sameBytes, every}
 use Rattle.casemaster.specs.Row.{rowKey, isSoundRow}
-use lib.ListN.{length}
+use lib.ListN.{length, length-append}
+use lib.Seq.{getD-append-seam}
 use Rattle.casemaster.specs.Master.{keysOf, areSoundRows}
 use Rattle.casemaster.specs.Rows.{rowWith, withRow}
 use Rattle.text.proofs.FieldsLaws.{and-left, and-right}
 use Rattle.text.proofs.SameLaws.{eq-same, same-eq}
-use Rattle.casemaster.proofs.SearchLaws.{with-below, with-level, with-above, rows-tail}
+use Rattle.casemaster.proofs.SearchLaws.{with-below, with-level, with-above, rows-head, rows-tail}
 use Rattle.text.proofs.WidthLaws.{All}
 use Rattle.text.specs.ByteOrder.{orderOf, isLess, isEqual, belowFirst, rising}
 use Rattle.text.proofs.ByteOrderLaws.{Sides, below, level, above, sides, less-sides, less-trans, same-order}
@@ -80,14 +81,25 @@ module _ (rows : List (List ℕ)) (s : areSoundRows rows ≡ true) where
 -- ---- rows in rising order of key
 
 -- the first row's key is below the next
-rows-first : (row : List ℕ) (rows : List (List ℕ)) → rising (keysOf (row ∷ rows)) ≡ true → belowFirst (rowKey row) (keysOf rows) ≡ true
+pub rows-first : (row : List ℕ) (rows : List (List ℕ)) → rising (keysOf (row ∷ rows)) ≡ true → belowFirst (rowKey row) (keysOf rows) ≡ true
 unfolding keysOf rising
 rows-first row rows r = and-left (belowFirst (rowKey row) (keysOf rows)) (rising (keysOf rows)) r
 
--- a key that is above another is not the same
+-- a key that is below or above another is not the same
+pub below-other : (a b : List ℕ) → isLess (orderOf a b) ≡ true → sameBytes a b ≡ false
+unfolding isEqual
+below-other a b h = rw (same-order a b, less-sides a b h .0)
+
 above-other : (a b : List ℕ) → isLess (orderOf b a) ≡ true → sameBytes a b ≡ false
 unfolding isEqual
 above-other a b h = rw (same-order a b, less-sides b a h .1)
+
+-- a key below a row's is below those behind the row
+pub below-behind : (key row : List ℕ) (rows : List (List ℕ)) → isLess (orderOf key (rowKey row)) ≡ true
+    → belowFirst (rowKey row) (keysOf rows) ≡ true → belowFirst key (keysOf rows) ≡ true
+unfolding keysOf belowFirst
+below-behind key row [] h b = refl
+below-behind key row (r ∷ rows) h b = less-trans key (rowKey row) (rowKey r) h b
 
 -- a key below the first has no row
 pub below-none : (key : List ℕ) (rows : List (List ℕ)) → belowFirst key (keysOf rows) ≡ true → rising (keysOf rows) ≡ true
@@ -96,15 +108,22 @@ unfolding rowWith keysOf belowFirst
 below-none key [] b r = refl
 below-none key (row ∷ rows) b r =
     found-behind key row rows (above-other (rowKey row) key b)
-    ∙ below-none key rows (lower rows (rows-first row rows r)) (rows-tail row rows r)
-  where
-    lower : (rs : List (List ℕ)) → belowFirst (rowKey row) (keysOf rs) ≡ true → belowFirst key (keysOf rs) ≡ true
-    lower [] h = refl
-    lower (x ∷ xs) h = less-trans key (rowKey row) (rowKey x) b h
+    ∙ below-none key rows (below-behind key row rows b (rows-first row rows r)) (rows-tail row rows r)
+
+-- a row among some that rise is found under its key
+pub found-at : (front : List (List ℕ)) (row : List ℕ) (back : List (List ℕ)) → rising (keysOf (front ++ (row ∷ back))) ≡ true
+    → rowWith (rowKey row) (front ++ (row ∷ back)) ≡ some row
+found-at [] row back r = found-here (rowKey row) row back refl
+found-at (x ∷ front) row back r =
+    let l : length front < length (front ++ (row ∷ back)) = rw (length-append front (row ∷ back)) (omega arith) in
+    let b = rows-head x (front ++ (row ∷ back)) r (length front) l in
+    let c : isLess (orderOf (rowKey x) (rowKey row)) ≡ true = rw (getD-append-seam front row back []) at b in
+    found-behind (rowKey row) x (front ++ (row ∷ back)) (below-other (rowKey x) (rowKey row) c)
+    ∙ found-at front row back (rows-tail x (front ++ (row ∷ back)) r)
 
 -- ---- the same row, or none, under each key: the same rows
 
-some-none : {row : List ℕ} → some row ≡ none → ⊥
+pub some-none : {row : List ℕ} → some row ≡ none → ⊥
 some-none e = let z : _≡_ {A = ℕ} 0 1 = cc in omega arith
 
 pub same-rows : (xs ys : List (List ℕ)) → rising (keysOf xs) ≡ true → rising (keysOf ys) ≡ true

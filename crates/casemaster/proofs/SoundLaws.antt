@@ -1,10 +1,11 @@
 -- A row's soundness by its columns: it reads those of the key, local code, first four characters of the last name, arrearage, payment,
 -- status, cents and filler, and rows that agree on these are equally sound; so is what is written into a row, read field by field.
 -- Assumes nothing.
-use Prim.Native.Nat.{ℕ, _+_, _≤_}
-use mathlib.Core.Path.{_≡_, refl, sym, ap, _∙_}
+use Prim.Native.Nat.{ℕ, _+_, _-_, _≤_}
+use mathlib.Core.Path.{_≡_, sym, ap, _∙_}
 use mathlib.Core.List.{List}
 use mathlib.Core.Bool.{Bool, true, cond, _&&_}
+use native.Mathlib.Omega.{arith}
 use lib.Dec.{eqb, lit≤}
 use lib.ListN.{length, getD}
 use Rattle.text.specs.Characters.{isDigit, space, D}
@@ -12,9 +13,7 @@ use Rattle.text.specs.Fields.{columns, isBlank, isZero, allDigits}
 use Rattle.layout.specs.Name.{isName, hasLetter}
 use Rattle.layout.specs.Key.{isSoundKey}
 use Rattle.casemaster.specs.Row.{isBalanceZero, isLive, isDeleted, isDeletedAt, areFieldsSound, isEndSound, isSoundRow}
-use Rattle.casemaster.specs.Forms.{isSoundIn}
-use Rattle.casemaster.specs.declared.row.Form.the-variants.{New}
-use Rattle.text.proofs.FieldsLaws.{and-left, and-right}
+use Rattle.text.proofs.FieldsLaws.{and-left, and-right, length-columns}
 use Rattle.text.proofs.BoolLaws.{and-both}
 use Rattle.layout.proofs.LocalsLaws.{every-append}
 use Rattle.text.proofs.ColumnsLaws.{columns-split, Put, written, AllFit, isClear, read, columns-written, isFree, columns-free}
@@ -163,7 +162,7 @@ module _ (ps : List Put) (s : List ℕ) (f : AllFit 200 ps) (e : length s ≡ 20
       (same-by (columnsOf (written ps s)) (columnsOf s) (λ a z. isFree a z ps)
       (λ a z l o t. columns-free 200 a z l o ps s t f e) c) h)
 
--- the row's test over the form with cents
-pub sound-new : (row : List ℕ) → isSoundIn New row ≡ isSoundRow row
-unfolding isSoundIn isSoundRow
-sound-new row = refl
+-- ---- a row's columns
+
+pub row-columns : (row : List ℕ) → length row ≡ 200 → (a z : ℕ) → 1 ≤ a → a ≤ z + 1 → z ≤ 200 → length (columns a z row) ≡ z + 1 - a
+row-columns row w a z l o h = length-columns a z row (record { low = l; ordered = o; high = omega arith })

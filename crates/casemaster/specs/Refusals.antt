@@ -7,11 +7,12 @@ use lib.Dec.{eqb, ltb}
 use lib.ListN.{length}
 use Rattle.answers.specs.Answer.{refuseIf}
 use Rattle.layout.specs.Limits.{maxRows}
+use Rattle.casemaster.specs.Row.{rowWidth}
 use Rattle.casemaster.specs.Master.{rowsOf, areSoundRows, areSoundOldRows}
 
 -- 3: master length no multiple of 200, or row count above length ÷ 200 or the limit (16,777,215)
 unfoldable pub refusal3 : ℕ → List ℕ → ℕ → Bool
-refusal3 limit master rows = not (eqb (length master % 200) 0) || ltb (length master / 200) rows || ltb limit rows
+refusal3 limit master rows = not (eqb (length master % rowWidth) 0) || ltb (length master / rowWidth) rows || ltb limit rows
 
 -- 4: an unsound row or order
 unfoldable pub refusal4 : List ℕ → ℕ → Bool

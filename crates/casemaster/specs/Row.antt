@@ -132,8 +132,8 @@ isDeletedAt zero row = cond zero (isDeleted row) (isLive row)
 -- digits in 13–15, 66–73, 79–90, and a last name free of 05 as for type A
 unfoldable pub areFieldsSound : List ℕ → Bool
 areFieldsSound row =
-    allDigits (columns 13 15 row)
-    && (allDigits (columns 66 73 row)
+    allDigits (rowLocalCode row)
+    && (allDigits (rowArrearage row)
     && (allDigits (columns 79 90 row)
     && (isName (columns 31 34 row) && hasLetter (columns 31 34 row))))
 

@@ -1,5 +1,6 @@
 // The refusals 3 and 4, which every call over a master begins with.
 use crate::master;
+use crate::master::ROW_WIDTH;
 use crate::row::Form;
 use layout::limits::MAX_ROWS;
 ghost use mathlib.Core.Path.{_≡_};
@@ -11,10 +12,10 @@ ghost use Rattle.casemaster.specs.Forms.{refusalIn};
 fn refusal_in(master: &[u8], rows: usize, form: Form) -> u64
     ensures { λ r. ⌜ r ≡ refusalIn form (now (master .entry)) rows ⌝ }
 {
-    if master.len() % 200 != 0 {
+    if master.len() % ROW_WIDTH != 0 {
         return 3;
     }
-    if master.len() / 200 < rows {
+    if master.len() / ROW_WIDTH < rows {
         return 3;
     }
     if MAX_ROWS < rows {

@@ -10,7 +10,7 @@ use lib.ListN.{getD}
 use borrow.Author.Tests.{eqb-true, ltb-true, ne-eqb}
 use Rattle.text.proofs.FieldsLaws.{and-left, and-right}
 use Rattle.codepage.specs.CodePage.{Character, characters, codeAmong, ebcdicOf, asciiOf}
-use Rattle.codepage.specs.Tables.{entriesFrom, tableOf, codeIn, Undoes, InverseTables}
+use Rattle.codepage.specs.Tables.{tableFrom, tableOf, codeIn, Undoes, InverseTables}
 use Rattle.codepage.specs.Conversion.{ConversionOutcome, conversionOutcome}
 use Rattle.codepage.proofs.TablesLaws.{everyFrom, each, length-table, code-some, IsCode, Bytewise, entry-said, table-says}
 
@@ -84,7 +84,7 @@ abbrev areUndone : List ℕ → List ℕ → Bool
 areUndone back there = everyFrom (isUndone back) 0 there
 
 tables-tested : (areUndone (tableOf asciiOf) (tableOf ebcdicOf) && areUndone (tableOf ebcdicOf) (tableOf asciiOf)) ≡ true
-unfolding characters codeAmong ebcdicOf asciiOf entriesFrom tableOf
+unfolding characters codeAmong ebcdicOf asciiOf tableFrom tableOf
 tables-tested = refl
 
 undone-entry : (back : List ℕ) (b entry : ℕ) → isUndone back b entry ≡ true → 0 < entry → getD back entry 0 ≡ b

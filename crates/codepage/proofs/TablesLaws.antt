@@ -9,8 +9,9 @@ use native.Mathlib.Omega.{arith}
 use lib.Dec.{eqb, ltb}
 use lib.ListN.{length, getD, List·getD-eq-default}
 use borrow.Author.Tests.{ltb-true, ltb-false, ne-eqb}
+use Rattle.text.specs.Options.{orZero}
 use Rattle.text.proofs.FieldsLaws.{and-left, and-right}
-use Rattle.codepage.specs.Tables.{entryOf, entriesFrom, tableOf, codeIn, entriesOf}
+use Rattle.codepage.specs.Tables.{tableFrom, tableOf, codeIn, entriesOf}
 
 -- ---- one test of all entries
 
@@ -31,8 +32,8 @@ each f xs t k h = let e : 0 + k ≡ k = omega arith in rw e at (each-from f 0 xs
 
 -- ---- the table of a code
 
-length-from : (code : ℕ → Option ℕ) (b n : ℕ) → length (entriesFrom code b n) ≡ n
-unfolding entriesFrom
+length-from : (code : ℕ → Option ℕ) (b n : ℕ) → length (tableFrom code b n) ≡ n
+unfolding tableFrom
 length-from code b zero = refl
 length-from code b (suc n) = ap suc (length-from code (suc b) n)
 
@@ -40,13 +41,13 @@ pub length-table : (code : ℕ → Option ℕ) → length (tableOf code) ≡ 256
 unfolding tableOf
 length-table code = length-from code 0 256
 
-entry-from : (code : ℕ → Option ℕ) (b n k : ℕ) → k < n → getD (entriesFrom code b n) k 0 ≡ entryOf (code (b + k))
-unfolding entriesFrom
+entry-from : (code : ℕ → Option ℕ) (b n k : ℕ) → k < n → getD (tableFrom code b n) k 0 ≡ orZero (code (b + k))
+unfolding tableFrom
 entry-from code b zero k h = absurd (omega arith)
 entry-from code b (suc n) zero h = let e : b + 0 ≡ b = omega arith in rw e
 entry-from code b (suc n) (suc k) h = let e : b + suc k ≡ suc b + k = omega arith in rw e (entry-from code (suc b) n k (omega arith))
 
-entry-inside : (code : ℕ → Option ℕ) (b : ℕ) → b < 256 → getD (tableOf code) b 0 ≡ entryOf (code b)
+entry-inside : (code : ℕ → Option ℕ) (b : ℕ) → b < 256 → getD (tableOf code) b 0 ≡ orZero (code b)
 unfolding tableOf
 entry-inside code b h = let e : 0 + b ≡ b = omega arith in rw e at (entry-from code 0 256 b h)
 
@@ -80,11 +81,11 @@ Bytewise code = (b c : ℕ) → code b ≡ some c → IsCode b × IsCode c
 -- the table of such a code says the same of every number
 module _ (code : ℕ → Option ℕ) (w : Bytewise code) (b : ℕ) where
   none-said : code b ≡ none → (t : Bool) → ltb b 256 ≡ t → getD (tableOf code) b 0 ≡ 0
-  none-said e true h = entry-inside code b (ltb-true b 256 h) ∙ ap entryOf e
+  none-said e true h = entry-inside code b (ltb-true b 256 h) ∙ ap orZero e
   none-said e false h = List·getD-eq-default (tableOf code) 0 (omega (arith, length-table code, ltb-false b 256 h))
 
   pub entry-said : (c : ℕ) → code b ≡ some c → getD (tableOf code) b 0 ≡ c
-  entry-said c e = entry-inside code b (w b c e .0 .1) ∙ ap entryOf e
+  entry-said c e = entry-inside code b (w b c e .0 .1) ∙ ap orZero e
 
   same-said : (o : Option ℕ) → code b ≡ o → codeIn (tableOf code) b ≡ o
   same-said none e = code-none (tableOf code) b (none-said e (ltb b 256) refl)

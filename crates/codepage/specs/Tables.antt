@@ -6,21 +6,17 @@ use mathlib.Core.Bool.{cond}
 use mathlib.Core.Option.{Option, none, some}
 use lib.Dec.{eqb}
 use lib.ListN.{getD}
+use Rattle.text.specs.Options.{orZero}
 use Rattle.codepage.specs.CodePage.{ebcdicOf, asciiOf}
 
--- an entry is the code; 0 says that there is none
-abbrev pub entryOf : Option ℕ → ℕ
-entryOf none = 0
-entryOf (some c) = c
-
--- the entries of n bytes from b on
-unfoldable pub entriesFrom : (ℕ → Option ℕ) → ℕ → ℕ → List ℕ
-entriesFrom code b zero = []
-entriesFrom code b (suc n) = entryOf (code b) ∷ entriesFrom code (suc b) n
+-- the entries of n bytes from b on: an entry is the code, or 0 where there is none
+unfoldable pub tableFrom : (ℕ → Option ℕ) → ℕ → ℕ → List ℕ
+tableFrom code b zero = []
+tableFrom code b (suc n) = orZero (code b) ∷ tableFrom code (suc b) n
 
 -- the table of what is said of each byte
 unfoldable pub tableOf : (ℕ → Option ℕ) → List ℕ
-tableOf code = entriesFrom code 0 256
+tableOf code = tableFrom code 0 256
 
 -- what an entry says, and what a table says of a byte
 abbrev pub codeBy : ℕ → Option ℕ

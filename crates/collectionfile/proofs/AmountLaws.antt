@@ -11,7 +11,8 @@ use lib.Dec.{ltb, lit≤}
 use lib.ListN.{length, getD}
 use Rattle.text.specs.Fields.{columns, allDigits, number}
 use Rattle.text.proofs.FieldsLaws.{and-right, length-columns}
-use Rattle.collectionfile.specs.Line.{isLastDigit, isAmount, amount, amountCents, collectionIn, adjustmentIn, isBad, orZero, collected, adjusted, isRight}
+use Rattle.text.specs.Options.{isNone, orZero}
+use Rattle.collectionfile.specs.Line.{isLastDigit, isAmount, amount, amountCents, collectionIn, adjustmentIn, collected, adjusted, isRight}
 use Rattle.collectionfile.specs.Parts.{AreAmounts}
 use Rattle.collectionfile.specs.declared.line.Amounts.{Amounts}
 
@@ -37,7 +38,7 @@ module _ (f : List ℕ) (l : length f ≡ 11) where
 -- ---- the amounts of a line
 
 pub amounts-are : (line : List ℕ) (a : Amounts) (p q : Option ℕ) (b d : Bool) → p ≡ collectionIn line → q ≡ adjustmentIn line
-    → b ≡ isBad p → d ≡ isBad q → a .collection .0 ≡ orZero p → a .adjustment .0 ≡ orZero q
+    → b ≡ isNone p → d ≡ isNone q → a .collection .0 ≡ orZero p → a .adjustment .0 ≡ orZero q
     → a .right ≡ (not b && (not d && not (ltb 0 (a .collection .0) && ltb 0 (a .adjustment .0)))) → AreAmounts line a
 unfolding collected adjusted isRight
 amounts-are line a p q b d ep eq eb ed ex ey r =
@@ -51,8 +52,8 @@ amounts-are line a p q b d ep eq eb ed ex ey r =
 pub one-zero : (line : List ℕ) → isRight line ≡ true → (collected line ≡ 0) ⊎ (adjusted line ≡ 0)
 unfolding isRight
 one-zero line t =
-    let b = and-right (not (isBad (collectionIn line))) _ t in
-    let n = and-right (not (isBad (adjustmentIn line))) (not (ltb 0 (collected line) && ltb 0 (adjusted line))) b in
+    let b = and-right (not (isNone (collectionIn line))) _ t in
+    let n = and-right (not (isNone (adjustmentIn line))) (not (ltb 0 (collected line) && ltb 0 (adjusted line))) b in
     go (ltb 0 (collected line)) refl (ltb 0 (adjusted line)) refl n
   where
     go : (p : Bool) → ltb 0 (collected line) ≡ p → (q : Bool) → ltb 0 (adjusted line) ≡ q → not (p && q) ≡ true

@@ -1,12 +1,13 @@
 -- Document 02, item 6, over Chart 0-4: a line of the collection file, its key and its amounts in cents. Assumes nothing.
 use Prim.Native.Nat.{ℕ, _+_, _*_, _%_}
 use mathlib.Core.List.{List, _++_}
-use mathlib.Core.Bool.{Bool, true, false, not, cond, _&&_, _||_}
+use mathlib.Core.Bool.{Bool, not, cond, _&&_, _||_}
 use mathlib.Core.Option.{Option, none, some}
 use lib.ListN.{length, getD}
 use lib.Dec.{eqb, ltb}
 use Rattle.text.specs.Characters.{within}
 use Rattle.text.specs.Fields.{columns, allDigits, number}
+use Rattle.text.specs.Options.{isNone, orZero}
 use Rattle.collectionfile.specs.Chart04.{lineState, lineSsn, lineCollection, lineAdjustment, lineCaseType}
 
 -- a line's key is its columns 1–2, 6–14 and 107
@@ -37,15 +38,7 @@ collectionIn line = amountCents (lineCollection line)
 abbrev pub adjustmentIn : List ℕ → Option ℕ
 adjustmentIn line = amountCents (lineAdjustment line)
 
-abbrev pub isBad : Option ℕ → Bool
-isBad none = true
-isBad (some cents) = false
-
 -- a bad one is zero
-abbrev pub orZero : Option ℕ → ℕ
-orZero none = 0
-orZero (some cents) = cents
-
 unfoldable pub collected : List ℕ → ℕ
 collected line = orZero (collectionIn line)
 
@@ -55,4 +48,4 @@ adjusted line = orZero (adjustmentIn line)
 -- neither amount bad, and not both above zero
 unfoldable pub isRight : List ℕ → Bool
 isRight line =
-    not (isBad (collectionIn line)) && (not (isBad (adjustmentIn line)) && not (ltb 0 (collected line) && ltb 0 (adjusted line)))
+    not (isNone (collectionIn line)) && (not (isNone (adjustmentIn line)) && not (ltb 0 (collected line) && ltb 0 (adjusted line)))

@@ -3,7 +3,8 @@ use crate::cents::Cents;
 use text::fields;
 ghost use mathlib.Core.Path.{_≡_};
 ghost use lib.ListN.{length};
-ghost use Rattle.collectionfile.specs.Line.{isLastDigit, amountCents, isBad, orZero};
+ghost use Rattle.text.specs.Options.{isNone, orZero};
+ghost use Rattle.collectionfile.specs.Line.{isLastDigit, amountCents};
 ghost use Rattle.collectionfile.specs.Parts.{centsIn};
 
 // An amount as read: its cents, or bad.
@@ -38,7 +39,7 @@ pub fn read_amount(field: &[u8]) -> Amount
 
 // Whether an amount is bad.
 pub fn is_bad(a: Amount) -> bool
-    ensures { λ r. ⌜ r ≡ isBad (centsIn a) ⌝ }
+    ensures { λ r. ⌜ r ≡ isNone (centsIn a) ⌝ }
 {
     match a {
         Amount::Good(_) => false,

@@ -4,23 +4,19 @@ use mathlib.Core.List.{List, [], _∷_, _++_}
 use mathlib.Core.Bool.{Bool, not, cond, _&&_}
 use lib.ListN.{length}
 use lib.Dec.{ltb}
-use Rattle.text.specs.Characters.{zeroDigit}
 use Rattle.text.specs.Fields.{sameBytes}
 use Rattle.text.specs.Blocks.{joined, over}
 use Rattle.layout.specs.States.{isState}
+use Rattle.layout.specs.Locals.{zeroLocalCode}
 use Rattle.answers.specs.Answer.{refuseIf, Answer, refused, done, Outcome, Run, outcomeBy}
 use Rattle.contactrecord.specs.ChartA3.{contactState, contactCode}
 use Rattle.contacttable.specs.Table.{contactsOf, isWrongTable}
 use Rattle.contacttable.specs.declared.codes.Codes.{Codes}
 use Rattle.contacttable.specs.declared.codes.Codes.the-variants.{Done, Refused}
 
--- 000 is the state's own
-abbrev pub ownCode : List ℕ
-ownCode = zeroDigit ∷ zeroDigit ∷ zeroDigit ∷ []
-
--- a record of the state with a code other than 000
+-- a record of the state with a code other than 000, which is the state's own
 unfoldable pub isLocalOf : List ℕ → List ℕ → Bool
-isLocalOf state rec = sameBytes (contactState rec) state && not (sameBytes (contactCode rec) ownCode)
+isLocalOf state rec = sameBytes (contactState rec) state && not (sameBytes (contactCode rec) zeroLocalCode)
 
 -- the codes of one state but 000, in the table's order
 unfoldable pub localCodes : List ℕ → List (List ℕ) → List (List ℕ)

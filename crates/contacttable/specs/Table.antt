@@ -21,4 +21,4 @@ isTable table = every (λ rec. not (isFaulty rec)) table && rising (map contactK
 -- 18, of a table: a length no multiple of 220, a count above its length ÷ 220, or records that aren't a table
 unfoldable pub isWrongTable : List ℕ → ℕ → Bool
 isWrongTable bytes count =
-    not (eqb (length bytes % 220) 0) || ltb (length bytes / 220) count || not (isTable (contactsOf count bytes))
+    not (eqb (length bytes % contactWidth) 0) || ltb (length bytes / contactWidth) count || not (isTable (contactsOf count bytes))

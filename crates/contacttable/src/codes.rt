@@ -3,9 +3,9 @@ use crate::table;
 use contactrecord::chart_a3;
 use contactrecord::chart_a3::CONTACT_WIDTH;
 use layout::states;
+use text::counting;
 use text::fields;
 ghost use mathlib.Core.Path.{_≡_};
-ghost use mathlib.Core.Bool.{cond};
 ghost use mathlib.Core.List.{[], _∷_};
 ghost use Prim.Native.Nat.{_+_, _*_, _≤_};
 ghost use lib.ListN.{length};
@@ -29,13 +29,6 @@ fn is_local_of(rec: &[u8], state: &[u8]) -> bool
     own & !zero
 }
 
-// One where it holds, else nothing.
-fn one_if(holds: bool) -> usize
-    ensures { λ r. ⌜ (r ≡ cond holds 1 0) × (r ≤ 1) ⌝ }
-{
-    if holds { 1 } else { 0 }
-}
-
 // How many codes a state has among the first n records.
 fn count_codes(m: &[u8], n: usize, state: &[u8]) -> usize
     requires { ⌜ n * 220 ≤ length (now m) ⌝ }
@@ -46,7 +39,7 @@ fn count_codes(m: &[u8], n: usize, state: &[u8]) -> usize
     while i < n {
         let at = i * CONTACT_WIDTH;
         let end = at + CONTACT_WIDTH;
-        k += one_if(is_local_of(&m[at..end], state));
+        k += counting::one_if(is_local_of(&m[at..end], state));
         i += 1;
     }
     k

@@ -1,5 +1,6 @@
 -- A key is one of a table's exactly where its number is marked; so the unmarked records of a file are those whose key the table lacks.
 -- Assumes nothing.
+use Rattle.text.specs.Options.{oneOrNone}
 use Rattle.contactrecord.proofs.ContactLaws.{same-soundness}
 use mathlib.Core.Path.{_≡_, refl, sym, ap, _∙_}
 use mathlib.Core.Bool.{Bool, true, false, _||_, cond}
@@ -18,7 +19,7 @@ use Rattle.contactrecord.specs.ChartA3.{contactKey}
 use Rattle.contactrecord.specs.Contact.{isContactKey}
 use Rattle.contacttable.specs.Table.{isTable}
 use Rattle.contactupdate.specs.Update.{lacking}
-use Rattle.contactupdate.specs.KeyNumbers.{keyNumber, cell, heldIn}
+use Rattle.contactupdate.specs.KeyNumbers.{keyNumber, heldIn}
 use Rattle.contactupdate.specs.Marks.{lackingIn, Flagged}
 use Rattle.contactupdate.proofs.KeyNumberLaws.{Stand, below, level, above, keys-stand}
 use Rattle.contactupdate.proofs.SpreadLaws.{Risen, risen-table}
@@ -66,7 +67,7 @@ unfolding lackingIn lacking
 lacking-is rows held t f [] = refl
 lacking-is rows held t f (rec ∷ file) = rw (lacking-is rows held t f file) (go (isContactKey rec) refl)
   where
-    flip : (o : Option (List ℕ)) → 1 - length (cell o) ≡ cond (isSome o) 0 1
+    flip : (o : Option (List ℕ)) → 1 - length (oneOrNone o) ≡ cond (isSome o) 0 1
     flip none = refl
     flip (some r) = refl
 

@@ -1,23 +1,22 @@
 -- Laws of marks: a table marked record by record, the keys that are marked afterwards, and the records of a file whose key isn't.
 -- Assumes nothing.
+use Rattle.text.specs.Options.{oneOrNone}
 use Rattle.contacttable.proofs.TableLaws.{contactAt, contacts-next, contacts-end}
 use mathlib.Core.Path.{_≡_, refl, sym, _∙_}
 use mathlib.Core.Bool.{true, cond}
 use mathlib.Core.List.{List, [], _∷_}
 use mathlib.Core.Option.{Option, none, some}
-use Prim.Native.Nat.{ℕ, zero, suc, _+_, _-_, _≤_, _<_}
+use Prim.Native.Nat.{ℕ, suc, _+_, _-_, _≤_, _<_}
 use native.Mathlib.Omega.{arith}
 use lib.Dec.{eqb}
-use lib.ListN.{length, getD, set, drop, length-set, replicate}
+use lib.ListN.{length, getD, set, drop, length-set}
 use lib.Seq.{getD-set-same, getD-set-other}
 use borrow.Author.Tests.{eq-eqb, ne-eqb}
-use Rattle.text.specs.Fields.{number}
 use Rattle.contactrecord.specs.Contact.{isContactKey}
 use Rattle.contacttable.specs.Table.{contactsOf, isTable}
-use Rattle.contactupdate.specs.Update.{lacking}
-use Rattle.contactupdate.specs.KeyNumbers.{keyNumber, cell, heldIn}
+use Rattle.contactupdate.specs.KeyNumbers.{keyNumber, heldIn}
 use Rattle.contactupdate.specs.Marks.{keysMarked, lackingIn, Flagged}
-use Rattle.contactupdate.proofs.KeyNumberLaws.{below, key-number-below}
+use Rattle.contactupdate.proofs.KeyNumberLaws.{key-number-below}
 use Rattle.contactupdate.proofs.SpreadLaws.{Risen, risen-table}
 use Rattle.text.proofs.ByteOrderLaws.{Heads, lower, upper, same, heads}
 
@@ -44,11 +43,6 @@ module _ (n : ℕ) (bytes : List ℕ) (i : ℕ) (held : List ℕ) where
   lacking-end h = rw (contacts-end n bytes i h)
 
 -- ---- marks
-
-pub zeros-get : (n j : ℕ) → _≡_ {A = ℕ} (getD (replicate n 0) j 0) 0
-zeros-get zero j = refl
-zeros-get (suc n) zero = refl
-zeros-get (suc n) (suc j) = zeros-get n j
 
 marked-length : (rows : List (List ℕ)) (held : List ℕ) → length (keysMarked rows held) ≡ length held
 unfolding keysMarked
@@ -89,13 +83,13 @@ flagged rows held t l z =
       flag = λ j. marked-flags 0 rows held (risen-table rows t) l j ∙ (rw (z j) (zero-flag (heldIn rows j)));
     }
   where
-    zero-flag : (o : Option (List ℕ)) → flagOf o 0 ≡ length (cell o)
+    zero-flag : (o : Option (List ℕ)) → flagOf o 0 ≡ length (oneOrNone o)
     zero-flag none = refl
     zero-flag (some x) = refl
 
 pub flag-small : (rows : List (List ℕ)) (held : List ℕ) → Flagged rows held → (j : ℕ) → getD held j 0 ≤ 1
 flag-small rows held f j = go (heldIn rows j) (f .flag j)
   where
-    go : (o : Option (List ℕ)) → getD held j 0 ≡ length (cell o) → getD held j 0 ≤ 1
+    go : (o : Option (List ℕ)) → getD held j 0 ≡ length (oneOrNone o) → getD held j 0 ≤ 1
     go none e = omega arith
     go (some x) e = omega arith

@@ -1,5 +1,6 @@
 -- Laws of the merge from the table's end: the old records that are left stand at the front, and those that are placed stand at their
 -- final places. Assumes nothing.
+use Rattle.text.specs.Options.{oneOrNone}
 use Rattle.text.proofs.WidthLaws.{joined-append}
 use Rattle.text.specs.Blocks.{over, blocks, joined, spliced}
 use borrow.Author.Tests.{eq-eqb, ne-eqb, eqb-false}
@@ -17,7 +18,7 @@ use Rattle.text.proofs.BlocksLaws.{length-blocks, blocks-get, blocks-prefix, ta
 use Rattle.text.proofs.SplicedLaws.{length-spliced, take-spliced}
 use Rattle.contacttable.specs.Table.{contactsOf}
 use Rattle.contactupdate.specs.Update.{recordsOf}
-use Rattle.contactupdate.specs.KeyNumbers.{Held, cell, spread, heldIn}
+use Rattle.contactupdate.specs.KeyNumbers.{Held, spread, heldIn}
 use Rattle.contactupdate.specs.Noting.{heldAfter}
 use Rattle.contactupdate.specs.Merging.{presentOf, presentFrom, chosen, Ready, heldFinally}
 
@@ -59,18 +60,18 @@ module _ (held lasts : List ℕ) where
 
 -- ---- what is spread, from its end
 
-pub spread-end : (k d : ℕ) (f : Held) → spread k (suc d) f ≡ spread k d f ++ cell (f (k + d))
+pub spread-end : (k d : ℕ) (f : Held) → spread k (suc d) f ≡ spread k d f ++ oneOrNone (f (k + d))
 unfolding spread
-spread-end k zero f = let e : k + 0 ≡ k = omega arith in rw e (append-nil (cell (f k)))
+spread-end k zero f = let e : k + 0 ≡ k = omega arith in rw e (append-nil (oneOrNone (f k)))
 spread-end k (suc d) f =
     let e : suc k + d ≡ k + suc d = omega arith in
-    ap (λ (z : List (List ℕ)). cell (f k) ++ z) (spread-end (suc k) d f ∙ ap (λ (z : ℕ). spread (suc k) d f ++ cell (f z)) e)
-    ∙ sym (append-assoc (cell (f k)) (spread (suc k) d f) (cell (f (k + suc d))))
+    ap (λ (z : List (List ℕ)). oneOrNone (f k) ++ z) (spread-end (suc k) d f ∙ ap (λ (z : ℕ). spread (suc k) d f ++ oneOrNone (f z)) e)
+    ∙ sym (append-assoc (oneOrNone (f k)) (spread (suc k) d f) (oneOrNone (f (k + suc d))))
 
-spread-last : (j : ℕ) (f : Held) → spread 0 (suc j) f ≡ spread 0 j f ++ cell (f j)
-spread-last j f = let e : 0 + j ≡ j = omega arith in spread-end 0 j f ∙ ap (λ (z : ℕ). spread 0 j f ++ cell (f z)) e
+spread-last : (j : ℕ) (f : Held) → spread 0 (suc j) f ≡ spread 0 j f ++ oneOrNone (f j)
+spread-last j f = let e : 0 + j ≡ j = omega arith in spread-end 0 j f ∙ ap (λ (z : ℕ). spread 0 j f ++ oneOrNone (f z)) e
 
-spread-first : (k d : ℕ) (f : Held) → spread k (suc d) f ≡ cell (f k) ++ spread (suc k) d f
+spread-first : (k d : ℕ) (f : Held) → spread k (suc d) f ≡ oneOrNone (f k) ++ spread (suc k) d f
 unfolding spread
 spread-first k d f = refl
 
@@ -79,11 +80,11 @@ unfolding spread
 spread-none k f = refl
 
 -- where each key that one has the other has too
-spread-more : (k d : ℕ) (f g : Held) → ((i : ℕ) → length (cell (f i)) ≤ length (cell (g i))) → length (spread k d f) ≤ length (spread k d g)
+spread-more : (k d : ℕ) (f g : Held) → ((i : ℕ) → length (oneOrNone (f i)) ≤ length (oneOrNone (g i))) → length (spread k d f) ≤ length (spread k d g)
 unfolding spread
 spread-more k zero f g h = omega arith
 spread-more k (suc d) f g h =
-    rw (length-append (cell (f k)) (spread (suc k) d f), length-append (cell (g k)) (spread (suc k) d g))
+    rw (length-append (oneOrNone (f k)) (spread (suc k) d f), length-append (oneOrNone (g k)) (spread (suc k) d g))
     (omega (arith, h k, spread-more (suc k) d f g h))
 
 drop-front : (m : List ℕ) (a : ℕ) (c : List ℕ) → a ≤ length m → drop a (spliced m a c) ≡ c ++ drop (a + length c) m
@@ -108,17 +109,17 @@ module _ (old new : Held) (n total : ℕ) (m₀ : List ℕ) where
       let z : n - n ≡ 0 = omega arith in
       record { olds = sym e; left = t; news = rw (z, spread-none n new); room = r; wide = refl }
 
-  module _ (sub : (i : ℕ) → length (cell (old i)) ≤ length (cell (new i))) (j o p : ℕ) (m : List ℕ) (g : Merging (suc j) o p m) where
-    olds-are : o ≡ length (spread 0 j old) + length (cell (old j))
-    olds-are = sym (length-blocks 220 o m) ∙ ap length (g .olds ∙ spread-last j old) ∙ length-append (spread 0 j old) (cell (old j))
+  module _ (sub : (i : ℕ) → length (oneOrNone (old i)) ≤ length (oneOrNone (new i))) (j o p : ℕ) (m : List ℕ) (g : Merging (suc j) o p m) where
+    olds-are : o ≡ length (spread 0 j old) + length (oneOrNone (old j))
+    olds-are = sym (length-blocks 220 o m) ∙ ap length (g .olds ∙ spread-last j old) ∙ length-append (spread 0 j old) (oneOrNone (old j))
 
-    news-are : p ≡ length (spread 0 j new) + length (cell (new j))
-    news-are = g .left ∙ ap length (spread-last j new) ∙ length-append (spread 0 j new) (cell (new j))
+    news-are : p ≡ length (spread 0 j new) + length (oneOrNone (new j))
+    news-are = g .left ∙ ap length (spread-last j new) ∙ length-append (spread 0 j new) (oneOrNone (new j))
 
-    pub old-room : length (cell (old j)) ≤ o
+    pub old-room : length (oneOrNone (old j)) ≤ o
     old-room = omega (arith, olds-are)
 
-    pub new-room : length (cell (new j)) ≤ p
+    pub new-room : length (oneOrNone (new j)) ≤ p
     new-room = omega (arith, news-are)
 
     pub olds-within : o * 220 ≤ length m
@@ -127,16 +128,16 @@ module _ (old new : Held) (n total : ℕ) (m₀ : List ℕ) where
     -- the old record of this key
     pub old-at : (r : List ℕ) → old j ≡ some r → (q : ℕ) → o ≡ q + 1 → take 220 (drop (q * 220) m) ≡ r
     old-at r e q h =
-        let c : length (cell (old j)) ≡ 1 = ap (λ (z : Option (List ℕ)). length (cell z)) e in
+        let c : length (oneOrNone (old j)) ≡ 1 = ap (λ (z : Option (List ℕ)). length (oneOrNone z)) e in
         let s : blocks 220 o m ≡ spread 0 j old ++ r ∷ [] =
-        g .olds ∙ spread-last j old ∙ ap (λ (z : Option (List ℕ)). spread 0 j old ++ cell z) e in
+        g .olds ∙ spread-last j old ∙ ap (λ (z : Option (List ℕ)). spread 0 j old ++ oneOrNone z) e in
         sym (blocks-get 220 o m q (omega arith))
         ∙ ap (λ (z : List (List ℕ)). getD z q []) s
         ∙ getD-at (spread 0 j old) r [] [] q (omega (arith, olds-are))
 
     -- the key's record is written at its place
-    pub merging-step : suc j ≤ n → (o′ p′ : ℕ) → o ≡ o′ + length (cell (old j)) → p ≡ p′ + length (cell (new j))
-        → (c : List ℕ) → c ≡ joined (cell (new j)) → length c ≡ length (cell (new j)) * 220
+    pub merging-step : suc j ≤ n → (o′ p′ : ℕ) → o ≡ o′ + length (oneOrNone (old j)) → p ≡ p′ + length (oneOrNone (new j))
+        → (c : List ℕ) → c ≡ joined (oneOrNone (new j)) → length c ≡ length (oneOrNone (new j)) * 220
         → Merging j o′ p′ (spliced m (p′ * 220) c)
     merging-step l o′ p′ eo ep c ec lc =
         let within : o′ ≤ p′ = omega (arith, olds-are, news-are, spread-more 0 j old new sub) in
@@ -149,7 +150,7 @@ module _ (old new : Held) (n total : ℕ) (m₀ : List ℕ) where
               ∙ ap (blocks 220 o′) (front h (omega arith)) ∙ blocks-prefix 220 o′ m
               ∙ sym (take-blocks 220 o′ o m (omega arith))
               ∙ ap (take o′) (g .olds ∙ spread-last j old)
-              ∙ take-at (spread 0 j old) (cell (old j)) o′ (omega (arith, olds-are));
+              ∙ take-at (spread 0 j old) (oneOrNone (old j)) o′ (omega (arith, olds-are));
           left = omega (arith, news-are);
           news =
               behind h ∙ ap (λ (z : ℕ). c ++ drop z m) fits ∙ ap (λ (z : List ℕ). c ++ z) (g .news)
@@ -171,7 +172,7 @@ module _ (old new : Held) (n total : ℕ) (m₀ : List ℕ) where
         all : suc j ≤ n → c ++ joined (spread (suc j) (n - suc j) new) ≡ joined (spread j (n - j) new)
         all w =
             let z : n - j ≡ suc (n - suc j) = omega arith in
-            rw (z, spread-first j (n - suc j) new, joined-append (cell (new j)) (spread (suc j) (n - suc j) new), ← ec)
+            rw (z, spread-first j (n - suc j) new, joined-append (oneOrNone (new j)) (spread (suc j) (n - suc j) new), ← ec)
 
   pub merging-end : (o p : ℕ) (m : List ℕ) → Merging 0 o p m → total * 220 ≤ length m₀ → m ≡ over (joined (spread 0 n new)) m₀
   unfolding over
@@ -189,20 +190,20 @@ module _ (old new : Held) (n total : ℕ) (m₀ : List ℕ) where
 -- ---- the merge of a file into a table
 
 module _ (all : List (List ℕ)) (lasts : List ℕ) (old : Held) where
-  pub after-more : (i : ℕ) → length (cell (old i)) ≤ length (cell (heldAfter all lasts old i))
+  pub after-more : (i : ℕ) → length (oneOrNone (old i)) ≤ length (oneOrNone (heldAfter all lasts old i))
   unfolding heldAfter
   after-more i = go (eqb (getD lasts i 0) 0) (old i)
     where
-      go : (b : Bool) (o : Option (List ℕ)) → length (cell o) ≤ length (cell (cond b o (some (getD all (getD lasts i 0 - 1) []))))
+      go : (b : Bool) (o : Option (List ℕ)) → length (oneOrNone o) ≤ length (oneOrNone (cond b o (some (getD all (getD lasts i 0 - 1) []))))
       go true o = omega arith
       go false none = omega arith
       go false (some r) = omega arith
 
-  pub after-length : (i h : ℕ) → h ≡ length (cell (old i)) → length (cell (heldAfter all lasts old i)) ≡ presentOf h (getD lasts i 0)
+  pub after-length : (i h : ℕ) → h ≡ length (oneOrNone (old i)) → length (oneOrNone (heldAfter all lasts old i)) ≡ presentOf h (getD lasts i 0)
   unfolding heldAfter presentOf
   after-length i h e = rw e (go (eqb (getD lasts i 0) 0) (old i))
     where
-      go : (b : Bool) (o : Option (List ℕ)) → length (cell (cond b o (some (getD all (getD lasts i 0 - 1) [])))) ≡ cond b (length (cell o)) 1
+      go : (b : Bool) (o : Option (List ℕ)) → length (oneOrNone (cond b o (some (getD all (getD lasts i 0 - 1) [])))) ≡ cond b (length (oneOrNone o)) 1
       go true o = refl
       go false o = refl
 
@@ -227,8 +228,8 @@ module _ (file lasts : List ℕ) (old : Held) (n total : ℕ) (m₀ : List ℕ) 
       pos zero q = absurd (q refl)
       pos (suc k) q = omega arith
 
-  from-table : (q : ℕ) (x : Option (List ℕ)) → old j ≡ x → o ≡ q + length (cell x)
-      → Chosen (cond (eqb (length (cell x)) 0) [] (take 220 (drop (q * 220) m))) (cell x)
+  from-table : (q : ℕ) (x : Option (List ℕ)) → old j ≡ x → o ≡ q + length (oneOrNone x)
+      → Chosen (cond (eqb (length (oneOrNone x)) 0) [] (take 220 (drop (q * 220) m))) (oneOrNone x)
   unfolding joined
   from-table q none e h = (refl, refl)
   from-table q (some r) e h =
@@ -238,14 +239,14 @@ module _ (file lasts : List ℕ) (old : Held) (n total : ℕ) (m₀ : List ℕ) 
             (rw length-drop (omega (arith, olds-within old new n total m₀ (after-more (recordsOf file) lasts old) j o p m g))),
       )
 
-  pub chosen-is : (h q : ℕ) → h ≡ length (cell (old j)) → o ≡ q + length (cell (old j))
-      → Chosen (chosen file m h (getD lasts j 0) q) (cell (heldAfter (recordsOf file) lasts old j))
+  pub chosen-is : (h q : ℕ) → h ≡ length (oneOrNone (old j)) → o ≡ q + length (oneOrNone (old j))
+      → Chosen (chosen file m h (getD lasts j 0) q) (oneOrNone (heldAfter (recordsOf file) lasts old j))
   unfolding chosen heldAfter
   chosen-is h q e f = rw e (go (eqb (getD lasts j 0) 0) refl)
     where
       go : (b : Bool) → eqb (getD lasts j 0) 0 ≡ b
-          → Chosen (cond b (cond (eqb (length (cell (old j))) 0) [] (take 220 (drop (q * 220) m))) (take 220 (drop ((getD lasts j 0 - 1) * 220) file)))
-          (cell (cond b (old j) (some (getD (recordsOf file) (getD lasts j 0 - 1) []))))
+          → Chosen (cond b (cond (eqb (length (oneOrNone (old j))) 0) [] (take 220 (drop (q * 220) m))) (take 220 (drop ((getD lasts j 0 - 1) * 220) file)))
+          (oneOrNone (cond b (old j) (some (getD (recordsOf file) (getD lasts j 0 - 1) []))))
       go true b = from-table q (old j) refl f
       go false b = from-file (getD lasts j 0) ln (eqb-false (getD lasts j 0) 0 b)
 
@@ -255,25 +256,25 @@ module _ (table : List ℕ) (count total : ℕ) (file held lasts : List ℕ) (r 
   abbrev pub Merges : ℕ → ℕ → ℕ → List ℕ → Type 0
   Merges k o p m = Merging (heldIn (contactsOf count table)) (heldFinally table count file lasts) 54000 total table k o p m
 
-  cell-small : (x : Option (List ℕ)) → length (cell x) ≤ 1
-  cell-small none = omega arith
-  cell-small (some y) = omega arith
+  one-small : (x : Option (List ℕ)) → length (oneOrNone x) ≤ 1
+  one-small none = omega arith
+  one-small (some y) = omega arith
 
   module _ (k j o p : ℕ) (m : List ℕ) (ek : k ≡ suc j) (lk : k ≤ 54000) (g : Merges k o p m) where
     at-j : Merges (suc j) o p m
     at-j = rw (← ek) g
 
-    flag : getD held j 0 ≡ length (cell (heldIn (contactsOf count table) j))
+    flag : getD held j 0 ≡ length (oneOrNone (heldIn (contactsOf count table) j))
     flag = r .flags j (omega arith)
 
-    shows : length (cell (heldFinally table count file lasts j)) ≡ presentOf (getD held j 0) (getD lasts j 0)
+    shows : length (oneOrNone (heldFinally table count file lasts j)) ≡ presentOf (getD held j 0) (getD lasts j 0)
     shows = after-length (recordsOf file) lasts (heldIn (contactsOf count table)) j (getD held j 0) flag
 
-    more : (i : ℕ) → length (cell (heldIn (contactsOf count table) i)) ≤ length (cell (heldFinally table count file lasts i))
+    more : (i : ℕ) → length (oneOrNone (heldIn (contactsOf count table) i)) ≤ length (oneOrNone (heldFinally table count file lasts i))
     more = after-more (recordsOf file) lasts (heldIn (contactsOf count table))
 
     pub turn-small : getD held j 0 ≤ 1
-    turn-small = omega (arith, flag, cell-small (heldIn (contactsOf count table) j))
+    turn-small = omega (arith, flag, one-small (heldIn (contactsOf count table) j))
 
     pub turn-old : getD held j 0 ≤ o
     turn-old = omega (arith, flag, old-room (heldIn (contactsOf count table)) (heldFinally table count file lasts) 54000 total table more j o p m at-j)
@@ -290,8 +291,8 @@ module _ (table : List ℕ) (count total : ℕ) (file held lasts : List ℕ) (r 
     pub turn-next : Merges j (o - getD held j 0) (p - presentOf (getD held j 0) (getD lasts j 0))
         (spliced m ((p - presentOf (getD held j 0) (getD lasts j 0)) * 220) (chosen file m (getD held j 0) (getD lasts j 0) (o - getD held j 0)))
     turn-next =
-        let eo : o ≡ o - getD held j 0 + length (cell (heldIn (contactsOf count table) j)) = omega (arith, flag, turn-old) in
-        let ep : p ≡ p - presentOf (getD held j 0) (getD lasts j 0) + length (cell (heldFinally table count file lasts j)) = omega (arith, shows, turn-new) in
+        let eo : o ≡ o - getD held j 0 + length (oneOrNone (heldIn (contactsOf count table) j)) = omega (arith, flag, turn-old) in
+        let ep : p ≡ p - presentOf (getD held j 0) (getD lasts j 0) + length (oneOrNone (heldFinally table count file lasts j)) = omega (arith, shows, turn-new) in
         let ch = chosen-is file lasts (heldIn (contactsOf count table)) 54000 total table j o p m at-j (r .numbers j) (getD held j 0) (o - getD held j 0) flag eo in
         merging-step (heldIn (contactsOf count table)) (heldFinally table count file lasts) 54000 total table more j o p m at-j (omega arith)
         (o - getD held j 0) (p - presentOf (getD held j 0) (getD lasts j 0)) eo ep

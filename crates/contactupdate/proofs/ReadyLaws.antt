@@ -1,4 +1,5 @@
 -- What the passes before the merge leave: marked keys, noted numbers, and space. Assumes nothing.
+use Rattle.text.specs.Options.{oneOrNone}
 use Rattle.text.specs.Blocks.{over, joined}
 use Rattle.contactupdate.proofs.MarksLaws.{flag-small}
 use mathlib.Core.Path.{_≡_, refl, sym, ap, _∙_}
@@ -14,7 +15,7 @@ use Rattle.text.proofs.BlocksLaws.{length-blocks}
 use Rattle.contactrecord.specs.Contact.{isContactKey, isFaulty}
 use Rattle.contacttable.specs.Table.{contactsOf, isTable}
 use Rattle.contactupdate.specs.Update.{updated, lacking, recordsOf}
-use Rattle.contactupdate.specs.KeyNumbers.{keyNumber, Held, cell, spread, heldIn}
+use Rattle.contactupdate.specs.KeyNumbers.{keyNumber, Held, spread, heldIn}
 use Rattle.contactupdate.specs.Marks.{lackingIn, Flagged}
 use Rattle.contactupdate.specs.Noting.{heldAfter, lastsFrom}
 use Rattle.contactupdate.specs.Merging.{presentOf, presentFrom, Ready, heldFinally}
@@ -106,13 +107,13 @@ module _ (held : List ℕ) (small : (j : ℕ) → getD held j 0 ≤ 1) where
       go false e true f i j = omega (arith, present-set lasts (keyNumber r) m 0 n)
       go false e false f i j = omega (arith, present-set lasts (keyNumber r) m 0 n)
 
-present-spread : (all : List (List ℕ)) (held lasts : List ℕ) (old : Held) → ((j : ℕ) → getD held j 0 ≡ length (cell (old j)))
+present-spread : (all : List (List ℕ)) (held lasts : List ℕ) (old : Held) → ((j : ℕ) → getD held j 0 ≡ length (oneOrNone (old j)))
     → (k d : ℕ) → presentFrom k d held lasts ≡ length (spread k d (heldAfter all lasts old))
 unfolding presentFrom spread
 present-spread all held lasts old f k zero = refl
 present-spread all held lasts old f k (suc d) =
     rw (
-      length-append (cell (heldAfter all lasts old k)) (spread (suc k) d (heldAfter all lasts old)),
+      length-append (oneOrNone (heldAfter all lasts old k)) (spread (suc k) d (heldAfter all lasts old)),
       after-length all lasts old k (getD held k 0) (f k),
       present-spread all held lasts old f (suc k) d,
     )

@@ -1,5 +1,6 @@
 -- A rising table is its records spread over the numbers of their keys; a record put into it is put at its number. So the records of a
 -- file in turn leave, for each key, its last good record, else the old one. Assumes nothing.
+use Rattle.text.specs.Options.{oneOrNone}
 use Rattle.contacttable.proofs.TableLaws.{table-good, table-rises}
 use Rattle.contactrecord.proofs.ContactLaws.{good-key}
 use mathlib.Core.Path.{_≡_, refl, sym, ap, _∙_}
@@ -20,7 +21,7 @@ use Rattle.contactrecord.specs.ChartA3.{contactKey}
 use Rattle.contactrecord.specs.Contact.{isContactKey, isFaulty}
 use Rattle.contacttable.specs.Table.{isTable}
 use Rattle.contactupdate.specs.Update.{withContact, updated}
-use Rattle.contactupdate.specs.KeyNumbers.{keyNumber, Held, cell, spread, heldIn}
+use Rattle.contactupdate.specs.KeyNumbers.{keyNumber, Held, spread, heldIn}
 use Rattle.contactupdate.specs.Noting.{lastsFrom, heldAfter}
 use Rattle.contactupdate.proofs.KeyNumberLaws.{Stand, below, level, above, keys-stand, key-number-below}
 
@@ -86,7 +87,7 @@ module _ (r : List ℕ) (t : isContactKey r ≡ true) (f : Held) (p : Placed f) 
   with-first k (suc d) h = go (f k) refl (with-first (suc k) d (omega arith))
     where
       go : (o : Option (List ℕ)) → f k ≡ o → withContact r (spread (suc k) d f) ≡ r ∷ spread (suc k) d f
-          → withContact r (cell o ++ spread (suc k) d f) ≡ r ∷ (cell o ++ spread (suc k) d f)
+          → withContact r (oneOrNone o ++ spread (suc k) d f) ≡ r ∷ (oneOrNone o ++ spread (suc k) d f)
       go none e i = i
       go (some s) e i = with-less r s (spread (suc k) d f) t (p k s e .0) (omega (arith, p k s e .1))
 
@@ -101,7 +102,7 @@ module _ (r : List ℕ) (t : isContactKey r ≡ true) (f : Held) (p : Placed f) 
 
       go : Heads (keyNumber r) k → (o : Option (List ℕ)) → f k ≡ o
           → (k < keyNumber r → withContact r (spread (suc k) d f) ≡ spread (suc k) d (putAt r f))
-          → withContact r (cell o ++ spread (suc k) d f) ≡ cell (cond (eqb (keyNumber r) k) (some r) o) ++ spread (suc k) d (putAt r f)
+          → withContact r (oneOrNone o ++ spread (suc k) d f) ≡ oneOrNone (cond (eqb (keyNumber r) k) (some r) o) ++ spread (suc k) d (putAt r f)
       go (lower n) o e i = absurd (omega arith)
       go (same n) none e i = rw (eq-eqb (keyNumber r) k n, ← rest n) (with-first (suc k) d (omega arith))
       go (same n) (some s) e i =
@@ -174,7 +175,7 @@ spread-held (suc d) k (r ∷ rs) e h =
   where
     go : Heads (keyNumber r) k → (keyNumber r ≡ k → spread (suc k) d (heldIn rs) ≡ rs)
         → (k < keyNumber r → spread (suc k) d (heldIn (r ∷ rs)) ≡ r ∷ rs)
-        → cell (cond (eqb (keyNumber r) k) (some r) (heldIn rs k)) ++ spread (suc k) d (heldIn (r ∷ rs)) ≡ r ∷ rs
+        → oneOrNone (cond (eqb (keyNumber r) k) (some r) (heldIn rs k)) ++ spread (suc k) d (heldIn (r ∷ rs)) ≡ r ∷ rs
     go (lower n) i j = absurd (omega (arith, h .1))
     go (same n) i j =
         rw (eq-eqb (keyNumber r) k n)

@@ -18,7 +18,8 @@ use Rattle.contactupdate.specs.Marks.{keysMarked, lackingIn, Flagged}
 use Rattle.contactupdate.specs.Merging.{Passed}
 use Rattle.contactupdate.specs.declared.update.Updated.{Updated}
 use Rattle.contactupdate.specs.declared.update.Updated.the-variants.{Done, Refused}
-use Rattle.contactupdate.proofs.MarksLaws.{flagged, zeros-get}
+use Rattle.text.proofs.ZerosLaws.{zeros-get}
+use Rattle.contactupdate.proofs.MarksLaws.{flagged}
 use Rattle.contactupdate.proofs.LackingLaws.{lacking-is}
 
 -- the marks of a table that isn't refused

@@ -5,8 +5,9 @@ use mathlib.Core.Path.{_≡_}
 use mathlib.Core.List.{List, [], _∷_}
 use mathlib.Core.Bool.{cond}
 use lib.ListN.{length, getD, set}
+use Rattle.text.specs.Options.{oneOrNone}
 use Rattle.contactrecord.specs.Contact.{isContactKey}
-use Rattle.contactupdate.specs.KeyNumbers.{keyNumber, cell, heldIn}
+use Rattle.contactupdate.specs.KeyNumbers.{keyNumber, heldIn}
 
 -- the marks with those of a table's records
 unfoldable pub keysMarked : List (List ℕ) → List ℕ → List ℕ
@@ -16,7 +17,7 @@ keysMarked (rec ∷ table) held = keysMarked table (set held (keyNumber rec) 1)
 -- the keys of some records are marked, and no others
 pub record Flagged (rows : List (List ℕ)) (held : List ℕ) : Type 0 where
   pub wide : length held ≡ 54000
-  pub flag : (j : ℕ) → getD held j 0 ≡ length (cell (heldIn rows j))
+  pub flag : (j : ℕ) → getD held j 0 ≡ length (oneOrNone (heldIn rows j))
 
 -- how many records have a key that isn't marked; one that isn't sound is no table's
 unfoldable pub lackingIn : List ℕ → List (List ℕ) → ℕ

@@ -6,10 +6,11 @@ use mathlib.Core.List.{List, []}
 use mathlib.Core.Bool.{true, cond}
 use lib.ListN.{length, getD, take, drop}
 use lib.Dec.{eqb}
+use Rattle.text.specs.Options.{oneOrNone}
 use Rattle.layout.specs.Limits.{maxRows}
 use Rattle.contacttable.specs.Table.{contactsOf, isTable}
 use Rattle.contactupdate.specs.Update.{recordsOf}
-use Rattle.contactupdate.specs.KeyNumbers.{Held, cell, spread, heldIn}
+use Rattle.contactupdate.specs.KeyNumbers.{Held, spread, heldIn}
 use Rattle.contactupdate.specs.Marks.{lackingIn, Flagged}
 use Rattle.contactupdate.specs.Noting.{heldAfter}
 
@@ -33,7 +34,7 @@ heldFinally table count file lasts = heldAfter (recordsOf file) lasts (heldIn (c
 
 -- the marks and numbers are those of the table and the file, and the table has space
 pub record Ready (table : List ℕ) (count total : ℕ) (file held lasts : List ℕ) : Type 0 where
-  pub flags : (j : ℕ) → j < 54000 → getD held j 0 ≡ length (cell (heldIn (contactsOf count table) j))
+  pub flags : (j : ℕ) → j < 54000 → getD held j 0 ≡ length (oneOrNone (heldIn (contactsOf count table) j))
   pub numbers : (j : ℕ) → getD lasts j 0 ≤ length file / 220
   pub held-wide : length held ≡ 54000
   pub lasts-wide : length lasts ≡ 54000

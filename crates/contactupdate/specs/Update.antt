@@ -8,7 +8,7 @@ use Rattle.text.specs.Fields.{isOneOf}
 use Rattle.text.specs.Blocks.{joined, over}
 use Rattle.text.specs.ByteOrder.{withBlock}
 use Rattle.answers.specs.Answer.{refuseIf, Answer, refused, done, Outcome, Run, outcomeBy}
-use Rattle.contactrecord.specs.ChartA3.{contactKey}
+use Rattle.contactrecord.specs.ChartA3.{contactWidth, contactKey}
 use Rattle.contactrecord.specs.Contact.{isFaulty}
 use Rattle.contacttable.specs.Table.{contactsOf, isWrongTable}
 use Rattle.contactupdate.specs.declared.update.Updated.{Updated}
@@ -30,11 +30,11 @@ faultyFrom n (rec ∷ file) = cond (isFaulty rec) (n ∷ faultyFrom (n + 1) file
 
 -- 18, of a file: a length no multiple of 220, or over the limit (16,777,215) of records
 unfoldable pub isWrongFile : ℕ → List ℕ → Bool
-isWrongFile limit file = not (eqb (length file % 220) 0) || ltb limit (length file / 220)
+isWrongFile limit file = not (eqb (length file % contactWidth) 0) || ltb limit (length file / contactWidth)
 
 -- the records of a file
 abbrev pub recordsOf : List ℕ → List (List ℕ)
-recordsOf file = contactsOf (length file / 220) file
+recordsOf file = contactsOf (length file / contactWidth) file
 
 -- how many records of a file, faulty and repeated ones counted, have a key that the table lacks
 unfoldable pub lacking : List (List ℕ) → List (List ℕ) → ℕ
@@ -44,7 +44,8 @@ lacking table (rec ∷ file) = cond (isOneOf (contactKey rec) (map contactKey ta
 -- 19: a table without space for every record whose key it lacks at entry, or a list shorter than the records
 unfoldable pub refusal19 : List ℕ → ℕ → List ℕ → List ℕ → Bool
 refusal19 table count file faulty =
-    ltb (length table / 220) (count + lacking (contactsOf count table) (recordsOf file)) || ltb (length faulty) (length file / 220)
+    ltb (length table / contactWidth) (count + lacking (contactsOf count table) (recordsOf file))
+    || ltb (length faulty) (length file / contactWidth)
 
 -- refused: 18, of the file or the table, then 19
 unfoldable pub updateRefusal : ℕ → List ℕ → ℕ → List ℕ → List ℕ → ℕ

@@ -48,7 +48,8 @@ fn contact_at(m: &[u8], p: usize) -> [u8; 220]
 
 // Writes the record that a key gets at place p, where it gets one.
 fn place_record(table: &mut [u8], file: &[u8], held: u8, last: u32, o: usize, p: usize)
-    requires { ⌜ (held ≤ 1) × (last * 220 ≤ length (now file)) × ((o + held) * 220 ≤ length (now table)) × ((p + presentOf held last) * 220 ≤ length (now table)) ⌝ }
+    requires { ⌜ (held ≤ 1) × (last * 220 ≤ length (now file))
+        × ((o + held) * 220 ≤ length (now table)) × ((p + presentOf held last) * 220 ≤ length (now table)) ⌝ }
     ensures { λ _. ⌜ now (table .exit) ≡ spliced (now (table .entry)) (p * 220) (chosen (now (file .entry)) (now (table .entry)) held last o) ⌝ }
 {
     if last != 0 {
@@ -66,7 +67,8 @@ fn place_record(table: &mut [u8], file: &[u8], held: u8, last: u32, o: usize, p:
 // Merges the file's records into the table from its end: `count` records stand there before, `total` afterwards.
 pub fn merge(table: &mut [u8], count: usize, total: usize, file: &[u8], held: &[u8], lasts: &[u32])
     requires { ⌜ Ready (now table) count total (now file) (now held) (now lasts) ⌝ }
-    ensures { λ _. ⌜ now (table .exit) ≡ over (joined (spread 0 54000 (heldFinally (now (table .entry)) count (now (file .entry)) (now (lasts .entry))))) (now (table .entry)) ⌝ }
+    ensures { λ _. ⌜ now (table .exit)
+        ≡ over (joined (spread 0 54000 (heldFinally (now (table .entry)) count (now (file .entry)) (now (lasts .entry))))) (now (table .entry)) ⌝ }
 {
     let mut o = count;
     let mut p = total;

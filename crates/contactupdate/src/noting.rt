@@ -2,6 +2,7 @@
 use crate::key_numbers;
 use contactrecord::chart_a3::CONTACT_WIDTH;
 use contactrecord::contact;
+use text::counting;
 ghost use mathlib.Core.Path.{_≡_};
 ghost use mathlib.Core.Bool.{cond};
 ghost use Prim.Native.Nat.{_+_, _*_, _≤_, _<_};
@@ -28,8 +29,7 @@ fn note_record(
         × (now (faulty .exit) ≡ cond (isFaulty (now (rec .entry))) (set (now (faulty .entry)) listed number) (now (faulty .entry))) ⌝ }
 {
     if contact::is_faulty(rec) {
-        faulty[listed] = number;
-        return listed + 1;
+        return counting::list_number(faulty, listed, number);
     }
     lasts[key_numbers::key_number(rec)] = number;
     listed

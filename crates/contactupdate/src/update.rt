@@ -32,7 +32,8 @@ fn is_wrong_file(file: &[u8]) -> bool
 // Reads the file into a table whose keys are marked.
 fn work(table: &mut [u8], count: usize, file: &[u8], faulty: &mut [u32], held: &[u8]) -> Updated
     requires { ⌜ Passed (now table) count (now file) (now faulty) (now held) ⌝ }
-    ensures { λ r. ⌜ (r ≡ Updated.Done (length (newTable (now (table .entry)) count (now (file .entry)))) (length (faultyFrom 1 (recordsOf (now (file .entry))))))
+    ensures { λ r. ⌜ (r
+        ≡ Updated.Done (length (newTable (now (table .entry)) count (now (file .entry)))) (length (faultyFrom 1 (recordsOf (now (file .entry))))))
         × (now (table .exit) ≡ over (joined (newTable (now (table .entry)) count (now (file .entry)))) (now (table .entry)))
         × (now (faulty .exit) ≡ over (faultyFrom 1 (recordsOf (now (file .entry)))) (now (faulty .entry))) ⌝ }
 {
@@ -46,7 +47,8 @@ fn work(table: &mut [u8], count: usize, file: &[u8], faulty: &mut [u32], held: &
 
 // Reads a file into a table of `count` records and lists the numbers of its faulty ones, or refuses.
 pub fn update(table: &mut [u8], count: usize, file: &[u8], faulty: &mut [u32]) -> Updated
-    ensures { λ r. ⌜ updatedAs r (now (table .exit)) (now (faulty .exit)) ≡ updateOutcome maxRows (now (table .entry)) count (now (file .entry)) (now (faulty .entry)) ⌝ }
+    ensures { λ r. ⌜ updatedAs r (now (table .exit)) (now (faulty .exit))
+        ≡ updateOutcome maxRows (now (table .entry)) count (now (file .entry)) (now (faulty .entry)) ⌝ }
 {
     if is_wrong_file(file) {
         return Updated::Refused(18);

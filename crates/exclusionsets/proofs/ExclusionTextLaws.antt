@@ -28,15 +28,15 @@ is-set set none t = cc
 is-set set (some read) t = ap some (eqb-true read set t)
 
 -- what is asked of the field of each set
-abbrev isRight : ℕ → Bool
-isRight set = eqb (length (exclusionField set)) 40 && (not (isWidened set) || isSet set (exclusionsOf (exclusionField set)))
+abbrev isFieldRight : ℕ → Bool
+isFieldRight set = eqb (length (exclusionField set)) 40 && (not (isWidened set) || isSet set (exclusionsOf (exclusionField set)))
 
-all-right : everyBelow (λ s. agree (isRight s) true) 256 ≡ true
+all-right : everyBelow (λ s. agree (isFieldRight s) true) 256 ≡ true
 unfolding isWidened namesIn commaed parted exclusionText exclusionField exclusionNames isSeparator wordsFrom readOnto exclusionsOf sameBytes
 all-right = refl
 
-right : (set : ℕ) → set < 256 → isRight set ≡ true
-right set h = bytes-agree isRight (λ s. true) all-right set h
+right : (set : ℕ) → set < 256 → isFieldRight set ≡ true
+right set h = bytes-agree isFieldRight (λ s. true) all-right set h
 
 pub field-length : (set : ℕ) → set < 256 → length (exclusionField set) ≡ 40
 field-length set h = eqb-true (length (exclusionField set)) 40 (and-left (eqb (length (exclusionField set)) 40) _ (right set h))

@@ -201,8 +201,8 @@ every-at f [] n h t = absurd (not-suc-le-zero h)
 every-at f (x ∷ l) zero h t = and-left (f x) (every f l) t
 every-at f (x ∷ l) (suc n) h t = every-at f l n (le-of-suc-le-suc h) (and-right (f x) (every f l) t)
 
-name-three : (n : ℕ) → n < 8 → Three (getD exclusionNames n [])
-name-three n h = three (getD exclusionNames n []) (every-at isThree exclusionNames n (omega (arith, names-length)) names-three)
+name-is-three : (n : ℕ) → n < 8 → Three (getD exclusionNames n [])
+name-is-three n h = three (getD exclusionNames n []) (every-at isThree exclusionNames n (omega (arith, names-length)) names-three)
 
 -- ---- a word and a name as numbers
 
@@ -257,7 +257,7 @@ module _ (s : List ℕ) (i n : ℕ) (h : n < 8) where
   pub number-here : ((k : ℕ) → getD s k 0 < 256) → numberOfName n ≡ wordNumber s i
       → sameBytes (firstWord (drop i s)) (getD exclusionNames n []) ≡ true
   number-here bytes e =
-      let t = name-three n h in
+      let t = name-is-three n h in
       eq-same (firstWord (drop i s)) (getD exclusionNames n [])
       (number-word s i (t .x) (t .y) (t .z) bytes (t .first) (t .second) (t .third) (sym e ∙ number-of-name n t) ∙ sym (t .bytes))
 
@@ -267,7 +267,7 @@ module _ (s : List ℕ) (i n : ℕ) (h : n < 8) where
       go : (u : Bool) → sameBytes (firstWord (drop i s)) (getD exclusionNames n []) ≡ u
           → sameBytes (firstWord (drop i s)) (getD exclusionNames n []) ≡ false
       go true e =
-          let t = name-three n h in
+          let t = name-is-three n h in
           let w = same-eq (firstWord (drop i s)) (getD exclusionNames n []) e ∙ t .bytes in
           absurd (f (number-of-name n t ∙ sym (word-number s i (t .x) (t .y) (t .z) w)))
       go false e = e
@@ -276,7 +276,7 @@ module _ (s : List ℕ) (i n : ℕ) (h : n < 8) where
   pub name-behind : sameBytes (firstWord (drop i s)) (getD exclusionNames n []) ≡ true
       → wordsFrom [] (drop (length (firstWord (drop i s))) (drop i s)) ≡ wordsFrom [] (drop (i + 4) s)
   name-behind e =
-      let t = name-three n h in
+      let t = name-is-three n h in
       let l : length (firstWord (drop i s)) ≡ 3 = ap length (same-eq (firstWord (drop i s)) (getD exclusionNames n []) e ∙ t .bytes) in
       let k : isSeparator (getD s (i + 3) space) ≡ true = rw (l, getD-drop i s 3 space) at (first-stop (drop i s)) in
       let m : i + 3 + 1 ≡ i + 4 = omega arith in

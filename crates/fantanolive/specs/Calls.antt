@@ -2,7 +2,7 @@
 -- Assumes nothing.
 use Prim.Native.Nat.{ℕ}
 use mathlib.Core.List.{List, [], _∷_}
-use Rattle.answers.specs.Answer.{Answer, numberOf, numbersOf, Returned, returned}
+use Rattle.answers.specs.Answer.{Answer, refusalNumber, numbersOf, Returned, returned}
 use Rattle.batch.specs.Apply.{ApplyResult, ApplyBuffers, applyOutcome}
 use Rattle.lookup.specs.Find.{findAnswer}
 use Rattle.reconciliation.specs.Reconcile.{reconcileOutcome}
@@ -26,7 +26,7 @@ pub record FindLeft : Type 0 where
   pub place : ℕ
 
 abbrev pub findLeftBy : Answer ℕ → ℕ → FindLeft
-findLeftBy answer kept = record { number = numberOf answer; place = numbersOf (λ p. p) kept answer }
+findLeftBy answer kept = record { number = refusalNumber answer; place = numbersOf (λ p. p) kept answer }
 
 unfoldable pub findLeft : List ℕ → ℕ → List ℕ → ℕ → FindLeft
 findLeft master rows key place = findLeftBy (findAnswer master rows key) place

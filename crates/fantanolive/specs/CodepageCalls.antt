@@ -3,13 +3,13 @@
 use Prim.Native.Nat.{ℕ}
 use mathlib.Core.List.{List}
 use mathlib.Core.Option.{Option, Option·getD}
-use Rattle.answers.specs.Answer.{Returned, numberOf}
+use Rattle.answers.specs.Answer.{Returned, refusalNumber}
 use Rattle.codepage.specs.Conversion.{ConversionOutcome, conversionOutcome}
 
 -- the place is written with refusal 16 alone, which alone has one
 abbrev pub conversionLeftBy : ConversionOutcome → ℕ → Returned ℕ (List ℕ)
 conversionLeftBy o place =
-    record { number = numberOf (o .outcome .answer); numbers = Option·getD (o .place) place; buffers = o .outcome .buffers }
+    record { number = refusalNumber (o .outcome .answer); numbers = Option·getD (o .place) place; buffers = o .outcome .buffers }
 
 unfoldable pub conversionLeft : (ℕ → Option ℕ) → List ℕ → List ℕ → ℕ → Returned ℕ (List ℕ)
 conversionLeft code input out place = conversionLeftBy (conversionOutcome code input out) place

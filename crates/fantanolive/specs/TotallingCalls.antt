@@ -2,7 +2,7 @@
 -- beneath it. Assumes nothing.
 use Prim.Native.Nat.{ℕ}
 use mathlib.Core.List.{List, [], _∷_}
-use Rattle.answers.specs.Answer.{Answer, numberOf, numbersOf}
+use Rattle.answers.specs.Answer.{Answer, refusalNumber, numbersOf}
 use Rattle.layout.specs.Limits.{maxRows}
 use Rattle.batchfile.specs.Stated.{Stated}
 use Rattle.totalling.specs.DetailTotals.{totalsAnswer}
@@ -17,7 +17,7 @@ pub record TotalsLeft : Type 0 where
   pub totals : List ℕ
 
 abbrev pub totalsLeftBy : Answer Stated → List ℕ → TotalsLeft
-totalsLeftBy answer kept = record { number = numberOf answer; totals = numbersOf totalsList kept answer }
+totalsLeftBy answer kept = record { number = refusalNumber answer; totals = numbersOf totalsList kept answer }
 
 unfoldable pub totalsLeft : List ℕ → List ℕ → TotalsLeft
 totalsLeft batch kept = totalsLeftBy (totalsAnswer maxRows batch) kept

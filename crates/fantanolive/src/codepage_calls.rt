@@ -5,13 +5,13 @@ use codepage::conversion::Converted;
 ghost use mathlib.Core.Path.{_≡_};
 ghost use Rattle.codepage.specs.CodePage.{ebcdicOf, asciiOf};
 ghost use mathlib.Core.Option.{Option·getD};
-ghost use Rattle.answers.specs.Answer.{numberOf};
+ghost use Rattle.answers.specs.Answer.{refusalNumber};
 ghost use Rattle.codepage.specs.Conversion.{conversionAnswer, placeTold};
 ghost use Rattle.fantanolive.specs.CodepageCalls.{conversionLeft};
 
 // The number of an answer; with 16 the place is written.
 fn told(answer: Converted, place: &mut u64) -> u64
-    ensures { λ r. ⌜ (r ≡ numberOf (conversionAnswer answer)) × (now (place .exit) ≡ Option·getD (placeTold answer) (now (place .entry))) ⌝ }
+    ensures { λ r. ⌜ (r ≡ refusalNumber (conversionAnswer answer)) × (now (place .exit) ≡ Option·getD (placeTold answer) (now (place .entry))) ⌝ }
 {
     match answer {
         Converted::Done => 0,

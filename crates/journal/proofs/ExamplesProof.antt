@@ -10,12 +10,12 @@ use Rattle.journal.specs.Numbers.{groups, numberBytes, unread, read, rea
 use Rattle.journal.specs.Journal.{entry, journal, entriesFrom, journalOf, entryBytes, entriesBytes, journalBytes, readEntry, entriesUpTo, entriesIn, journalIn}
 
 -- numbers: 0, 127, 128 and 300
-numbers : (numberBytes 0 ≡ 0 ∷ [])
+numbers-are : (numberBytes 0 ≡ 0 ∷ [])
     × (numberBytes 127 ≡ 127 ∷ [])
     × (numberBytes 128 ≡ 0x80 ∷ 0x01 ∷ [])
     × (numberBytes 300 ≡ 0xAC ∷ 0x02 ∷ [])
 unfolding numberBytes groups
-numbers = (refl, refl, refl, refl)
+numbers-are = (refl, refl, refl, refl)
 
 -- a longer form, an empty one and one that doesn't end are no numbers; the limit and the least number of four groups are read
 not-numbers : (readNumber (0x80 ∷ 0x00 ∷ []) ≡ unread)
@@ -29,21 +29,21 @@ unfolding readNumber
 not-numbers = (refl, refl, refl, refl, refl, refl, refl)
 
 -- rows by their first byte, 200 bytes each
-abbrev row : ℕ → ℕ → List ℕ
-row key last = key ∷ (replicate 198 0x40 ++ last ∷ [])
+abbrev pub exampleRow : ℕ → ℕ → List ℕ
+exampleRow key last = key ∷ (replicate 198 0x40 ++ last ∷ [])
 
 -- at entry 1, 3 and 5; at the end 1, 2 (new), 3 (changed) and 5
-abbrev old : List (List ℕ)
-old = row 1 0 ∷ row 3 0 ∷ row 5 0 ∷ []
+abbrev pub exampleBefore : List (List ℕ)
+exampleBefore = exampleRow 1 0 ∷ exampleRow 3 0 ∷ exampleRow 5 0 ∷ []
 
-abbrev new : List (List ℕ)
-new = row 1 0 ∷ row 2 0 ∷ row 3 7 ∷ row 5 0 ∷ []
+abbrev pub exampleAfter : List (List ℕ)
+exampleAfter = exampleRow 1 0 ∷ exampleRow 2 0 ∷ exampleRow 3 7 ∷ exampleRow 5 0 ∷ []
 
-journal-is : journalOf old new ≡ journal 3 4 (entry 1 none ∷ entry 2 (some (row 3 0)) ∷ [])
+journal-is : journalOf exampleBefore exampleAfter ≡ journal 3 4 (entry 1 none ∷ entry 2 (some (exampleRow 3 0)) ∷ [])
 unfolding journalOf entriesFrom rowWith sameBytes
 journal-is = refl
 
-bytes-are : journalBytes (journal 3 4 (entry 1 none ∷ entry 2 (some (row 3 0)) ∷ [])) ≡ 3 ∷ 4 ∷ 1 ∷ 0 ∷ 2 ∷ 1 ∷ row 3 0
+bytes-are : journalBytes (journal 3 4 (entry 1 none ∷ entry 2 (some (exampleRow 3 0)) ∷ [])) ≡ 3 ∷ 4 ∷ 1 ∷ 0 ∷ 2 ∷ 1 ∷ exampleRow 3 0
 unfolding journalBytes entriesBytes entryBytes numberBytes groups
 bytes-are = refl
 

@@ -1,27 +1,23 @@
 -- Laws of a journal written, and of its entries key by key. Assumes nothing.
 use Prim.Native.Nat.{ℕ, suc, _+_, _≤_, _<_}
 use mathlib.Core.Path.{_≡_, refl, sym, ap, _∙_}
-use mathlib.Core.Bool.{true, false}
+use mathlib.Core.Bool.{true}
 use mathlib.Core.List.{List, [], _∷_, _++_, append-assoc, append-nil}
 use mathlib.Core.Option.{Option, none, some}
 use native.Mathlib.Omega.{arith}
 use lib.ListN.{length, set, length-append}
-use lib.Seq.{getD-append-seam}
 use Rattle.text.specs.Blocks.{spliced}
-use Rattle.text.specs.Fields.{sameBytes}
+use Rattle.text.specs.Options.{oneOrNone}
 use Rattle.text.proofs.SplicedLaws.{length-spliced, spliced-one, spliced-cons, spliced-then}
 use Rattle.text.proofs.SameLaws.{same-self}
-use Rattle.text.specs.ByteOrder.{orderOf, isLess, isEqual, rising}
-use Rattle.text.proofs.ByteOrderLaws.{less-sides, same-order}
+use Rattle.text.specs.ByteOrder.{rising}
 use Rattle.casemaster.specs.Master.{keysOf}
-use Rattle.casemaster.proofs.RowsLaws.{found-here, found-behind}
-use Rattle.casemaster.proofs.SearchLaws.{rows-head, rows-tail}
+use Rattle.casemaster.proofs.RowsLaws.{found-at}
 use Rattle.casemaster.specs.Row.{rowKey}
 use Rattle.casemaster.specs.Rows.{rowWith}
 use Rattle.journal.specs.Numbers.{numberBytes}
 use Rattle.journal.specs.Journal.{Entry, entry, entryOf, entriesFrom, entryBytes, entriesBytes}
 use Rattle.journal.specs.Writing.{Wrote, keyEntries}
-use Rattle.journal.specs.Journal.{rowOrNone as oneOrNone}
 
 -- ---- the parts of a journal
 
@@ -93,21 +89,7 @@ unfolding entriesFrom
 kept-entries p old [] k = refl
 kept-entries p old (row ∷ rows) k = rw (k .0, same-self row) (kept-entries (suc p) old rows (k .1))
 
-below-other : (a b : List ℕ) → isLess (orderOf a b) ≡ true → sameBytes a b ≡ false
-unfolding isEqual
-below-other a b h = rw (same-order a b, less-sides a b h .0)
-
--- rows in the middle of some that rise are found under their keys
-found-at : (front : List (List ℕ)) (row : List ℕ) (back : List (List ℕ)) → rising (keysOf (front ++ (row ∷ back))) ≡ true
-    → rowWith (rowKey row) (front ++ (row ∷ back)) ≡ some row
-found-at [] row back r = found-here (rowKey row) row back refl
-found-at (x ∷ front) row back r =
-    let l : length front < length (front ++ (row ∷ back)) = rw (length-append front (row ∷ back)) (omega arith) in
-    let b = rows-head x (front ++ (row ∷ back)) r (length front) l in
-    let c : isLess (orderOf (rowKey x) (rowKey row)) ≡ true = rw (getD-append-seam front row back []) at b in
-    found-behind (rowKey row) x (front ++ (row ∷ back)) (below-other (rowKey x) (rowKey row) c)
-    ∙ found-at front row back (rows-tail x (front ++ (row ∷ back)) r)
-
+-- rows in the middle of some that rise are kept
 pub middle-kept : (front mid back : List (List ℕ)) → rising (keysOf (front ++ (mid ++ back))) ≡ true → AreKept (front ++ (mid ++ back)) mid
 middle-kept front [] back r = tt
 middle-kept front (row ∷ mid) back r =

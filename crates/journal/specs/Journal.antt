@@ -116,9 +116,3 @@ behindBefore (read before bytes) = behindAfter before (readNumber bytes)
 -- the journal that bytes are, all of them
 unfoldable pub journalIn : List ℕ → Option Journal
 journalIn bytes = behindBefore (readNumber bytes)
-
--- ---- one row or none, as a list
-
-abbrev pub rowOrNone : Option (List ℕ) → List (List ℕ)
-rowOrNone none = []
-rowOrNone (some row) = row ∷ []

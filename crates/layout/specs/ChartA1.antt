@@ -51,8 +51,8 @@ city rec = columns 144 168 rec
 abbrev pub addressState : List ℕ → List ℕ
 addressState rec = columns 169 170 rec
 
-abbrev pub zip : List ℕ → List ℕ
-zip rec = columns 171 179 rec
+abbrev pub zipCode : List ℕ → List ℕ
+zipCode rec = columns 171 179 rec
 
 abbrev pub dateIssued : List ℕ → List ℕ
 dateIssued rec = columns 180 187 rec

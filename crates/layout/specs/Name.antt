@@ -4,7 +4,7 @@ use mathlib.Core.List.{List, [], _∷_}
 use mathlib.Core.Bool.{Bool, true, false, cond, _&&_, _||_}
 use lib.Dec.{eqb}
 use Rattle.text.specs.Characters.{isLetter, hyphen}
-use Rattle.text.specs.Fields.{any, isBlank}
+use Rattle.text.specs.Fields.{atLeastOne, isBlank}
 
 -- a letter or a hyphen
 unfoldable pub isNameByte : ℕ → Bool
@@ -22,4 +22,4 @@ isName (b ∷ bs) = isNameByte b && isNameRest bs
 
 -- for A and B, and in a row, also a letter
 unfoldable pub hasLetter : List ℕ → Bool
-hasLetter s = any isLetter s
+hasLetter s = atLeastOne isLetter s

@@ -5,11 +5,11 @@ use mathlib.Core.Bool.{Bool, _||_}
 use lib.ListN.{getD}
 use lib.Dec.{eqb}
 use Rattle.text.specs.Characters.{A, B, C, D, L, M, R, S, T, Z}
-use Rattle.text.specs.Fields.{columns}
+use Rattle.layout.specs.ChartA1.{sentState, ssn, caseType}
 
 -- its key is columns 1–2, 6–14, 74, sound or not
 abbrev pub recordKey : List ℕ → List ℕ
-recordKey rec = columns 1 2 rec ++ columns 6 14 rec ++ columns 74 74 rec
+recordKey rec = sentState rec ++ ssn rec ++ caseType rec
 
 -- column 73 alone decides the type
 abbrev pub typeOf : List ℕ → ℕ

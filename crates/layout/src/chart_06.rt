@@ -39,16 +39,6 @@ pub const NOTICE_DATE: Columns = Columns {
     last: 79,
 };
 
-pub const NOTICE_HOLD: Columns = Columns {
-    first: 80,
-    last: 80,
-};
-
-pub const PASSPORT_ACTION: Columns = Columns {
-    first: 81,
-    last: 81,
-};
-
 pub const EXCLUSIONS: Columns = Columns {
     first: 82,
     last: 105,

@@ -101,8 +101,3 @@ pub const FILLER: Columns = Columns {
     first: 228,
     last: 244,
 };
-
-pub const REQUEST_CODE: Columns = Columns {
-    first: 245,
-    last: 245,
-};

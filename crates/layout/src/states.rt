@@ -1,6 +1,7 @@
 // The state table and membership in it.
+use text::counting;
 ghost use mathlib.Core.Path.{_≡_};
-ghost use mathlib.Core.Bool.{true, cond};
+ghost use mathlib.Core.Bool.{true};
 ghost use Prim.Native.Nat.{_≤_, _<_};
 ghost use Rattle.layout.specs.States.{stateTable, isState};
 ghost use Rattle.layout.specs.StateCodes.{codeOf, stateCodes, isStateCode, countBelow, statePlace};
@@ -123,13 +124,6 @@ pub fn is_code_after(known: u16, x: u16) -> bool
     is_code(x)
 }
 
-// One where it holds, else nothing.
-fn one_if(holds: bool) -> usize
-    ensures { λ r. ⌜ (r ≡ cond holds 1 0) × (r ≤ 1) ⌝ }
-{
-    if holds { 1 } else { 0 }
-}
-
 // How many states' numbers are below x.
 fn count_below(x: u16) -> usize
     ensures { λ r. ⌜ r ≡ countBelow x stateCodes ⌝ }
@@ -139,7 +133,7 @@ fn count_below(x: u16) -> usize
     let mut i: usize = 0;
     while i < 54 {
         let y = code_of(table[i]);
-        n += one_if(y < x);
+        n += counting::one_if(y < x);
         i += 1;
     }
     n

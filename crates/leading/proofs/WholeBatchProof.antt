@@ -4,13 +4,13 @@ use Prim.Native.Nat.{ℕ, suc}
 use mathlib.Core.Path.{_≡_, refl, sym, ap, _∙_, subst}
 use mathlib.Core.List.{List, [], _∷_, _++_}
 use mathlib.Core.Bool.{Bool, true, false, cond}
-use mathlib.Core.Option.{Option, none, some}
+use mathlib.Core.Option.{Option, some}
 use native.Mathlib.Omega.{arith}
 use lib.ListN.{length, length-append}
 use Rattle.answers.specs.Answer.{isCarriedOut}
 use Rattle.text.specs.Characters.{B}
 use Rattle.text.specs.Fields.{every, sameBytes}
-use Rattle.text.specs.ByteOrder.{rising, belowFirst}
+use Rattle.text.specs.ByteOrder.{rising}
 use Rattle.text.proofs.FieldsLaws.{and-left, and-right}
 use Rattle.text.proofs.SameLaws.{same-eq}
 use Rattle.text.proofs.BlocksLaws.{length-blocks}
@@ -19,7 +19,7 @@ use Rattle.layout.specs.Batch.{detailsOf, submittingState}
 use Rattle.casemaster.specs.Row.{rowKey, rowState}
 use Rattle.casemaster.specs.Master.{rowsOf, keysOf}
 use Rattle.casemaster.specs.Rows.{rowWith}
-use Rattle.casemaster.proofs.RowsLaws.{found-here, found-behind, below-none, rows-rise, same-rows}
+use Rattle.casemaster.proofs.RowsLaws.{found-behind, rows-rise, same-rows, found-at}
 use Rattle.judging.specs.Names.{namesGiven}
 use Rattle.judging.proofs.NamesLaws.{names-none, names-skip}
 use Rattle.onecase.specs.Verdict.{Judgement}
@@ -88,26 +88,6 @@ module _ (row wanted : List ℕ) (e : rowKey wanted ≡ rowKey row) where
   other-row key (r ∷ before) behind d =
       ap (λ (found : Option (List ℕ)). cond (sameBytes (rowKey r) key) (some r) found) (other-row key before behind d)
 
--- the row of its key, wherever it stands
-found-at : (row : List ℕ) (before behind : List (List ℕ)) → rising (keysOf (before ++ (row ∷ behind))) ≡ true
-    → rowWith (rowKey row) (before ++ (row ∷ behind)) ≡ some row
-unfolding rising keysOf
-found-at row [] behind t = found-here (rowKey row) row behind refl
-found-at row (r ∷ before) behind t =
-    let rest = before ++ (row ∷ behind) in
-    let b = and-left (belowFirst (rowKey r) (keysOf rest)) (rising (keysOf rest)) t in
-    let u = and-right (belowFirst (rowKey r) (keysOf rest)) (rising (keysOf rest)) t in
-    go (sameBytes (rowKey r) (rowKey row)) refl b u (found-at row before behind u)
-  where
-    go : (s : Bool) → sameBytes (rowKey r) (rowKey row) ≡ s → belowFirst (rowKey r) (keysOf (before ++ (row ∷ behind))) ≡ true
-        → rising (keysOf (before ++ (row ∷ behind))) ≡ true → rowWith (rowKey row) (before ++ (row ∷ behind)) ≡ some row
-        → rowWith (rowKey row) (r ∷ (before ++ (row ∷ behind))) ≡ some row
-    go true s b u f =
-        let k = same-eq (rowKey r) (rowKey row) s in
-        let n : rowWith (rowKey row) (before ++ (row ∷ behind)) ≡ none = below-none (rowKey row) (before ++ (row ∷ behind)) (rw (← k) b) u in
-        absurd (let z : _≡_ {A = ℕ} 0 1 = cc in omega arith)
-    go false s b u f = found-behind (rowKey row) r (before ++ (row ∷ behind)) s ∙ f
-
 -- ---- a batch of records that lead there, alone
 
 module _ (row wanted list : List ℕ) (recs : List (List ℕ)) (c : Call) (o : ApplyOutcome) (before behind : List (List ℕ)) (w : length row ≡ 200)
@@ -145,7 +125,7 @@ module _ (row wanted list : List ℕ) (recs : List (List ℕ)) (c : Call) (o : A
   setting-is = rw (names-are, state, locals)
 
   start-is : rowWith key start ≡ some row
-  start-is = ap (rowWith key) stands ∙ found-at row before behind start-rise
+  start-is = ap (rowWith key) stands ∙ found-at before row behind start-rise
 
   run-is : runRow (settingUnder (callSettings c) key) (rowWith key start) (detailsUnder key (detailsOf (c .batch))) ≡ some wanted
   run-is = rw (setting-is, start-is, under-is) (h .ends)
@@ -170,7 +150,7 @@ module _ (row wanted list : List ℕ) (recs : List (List ℕ)) (c : Call) (o : A
 
   own-is : rowWith key (rowsLeft o) ≡ rowWith key end
   own-is =
-      let e : rowWith (rowKey wanted) end ≡ some wanted = found-at wanted before behind end-rise in
+      let e : rowWith (rowKey wanted) end ≡ some wanted = found-at before wanted behind end-rise in
       left-is key ∙ run-is ∙ sym (rw key-same at e)
 
   each-is : (k : List ℕ) (b : Bool) → sameBytes key k ≡ b → rowWith k (rowsLeft o) ≡ rowWith k end

@@ -1,9 +1,8 @@
 -- Document 02, item 13: worked examples of merging, whole calls. A detail has an amount, type A and a case type, else spaces; the state is
 -- OH or AL, the limit four. Assumes nothing.
 use Prim.Native.Nat.{ℕ}
-use mathlib.Core.Path.{_≡_}
 use mathlib.Core.List.{List, [], _∷_, _++_}
-use Rattle.answers.specs.Answer.{refused, done}
+use Rattle.answers.specs.Answer.{Leaves, Refuses}
 use Rattle.text.specs.Characters.{A, H, L, N, O}
 use Rattle.text.specs.Fields.{digitField, spaces}
 use Rattle.text.specs.Blocks.{joined}
@@ -55,24 +54,18 @@ otherState = batch alabama [] (stating 0 0 0 0)
 abbrev pub leftBy : List ℕ → List ℕ → List ℕ → MergeOutcome
 leftBy first second out = mergeOutcome (record { first = first; second = second; out = out; limit = 4 })
 
-abbrev pub leaves : MergeOutcome → ℕ → List ℕ → Type 0
-leaves o n out = o ≡ record { answer = done n; buffers = out }
-
-abbrev pub refuses : MergeOutcome → ℕ → List ℕ → Type 0
-refuses o n out = o ≡ record { answer = refused n; buffers = out }
-
 pub record MergeExamples : Type 0 where
   -- four records, and three bytes behind them kept
-  pub both : leaves (leftBy batchOfOne batchOfTwo (spaces 983)) 4 (bothBatch ++ spaces 3)
-  pub without-details : leaves (leftBy emptyBatch batchOfOne (spaces 490)) 2 batchOfOne
-  pub neither-has : leaves (leftBy emptyBatch emptyBatch (spaces 245)) 1 emptyBatch
+  pub both : Leaves (leftBy batchOfOne batchOfTwo (spaces 983)) 4 (bothBatch ++ spaces 3)
+  pub without-details : Leaves (leftBy emptyBatch batchOfOne (spaces 490)) 2 batchOfOne
+  pub neither-has : Leaves (leftBy emptyBatch emptyBatch (spaces 245)) 1 emptyBatch
   -- four details are no more than the limit, five are
-  pub full : leaves (leftBy batchOfTwo batchOfTwo (spaces 1225)) 5 fullBatch
-  pub too-many : refuses (leftBy bothBatch batchOfTwo (spaces 3)) 32 (spaces 3)
+  pub full : Leaves (leftBy batchOfTwo batchOfTwo (spaces 1225)) 5 fullBatch
+  pub too-many : Refuses (leftBy bothBatch batchOfTwo (spaces 3)) 32 (spaces 3)
   -- the first input wholly before the second
-  pub first-8 : refuses (leftBy missummed [] (spaces 3)) 8 (spaces 3)
-  pub second-5 : refuses (leftBy batchOfOne [] (spaces 3)) 5 (spaces 3)
-  pub second-7 : refuses (leftBy batchOfOne miscounted (spaces 3)) 7 (spaces 3)
+  pub first-8 : Refuses (leftBy missummed [] (spaces 3)) 8 (spaces 3)
+  pub second-5 : Refuses (leftBy batchOfOne [] (spaces 3)) 5 (spaces 3)
+  pub second-7 : Refuses (leftBy batchOfOne miscounted (spaces 3)) 7 (spaces 3)
   -- two states before the output
-  pub states : refuses (leftBy batchOfOne otherState (spaces 3)) 32 (spaces 3)
-  pub short : refuses (leftBy batchOfOne batchOfTwo (spaces 979)) 33 (spaces 979)
+  pub states : Refuses (leftBy batchOfOne otherState (spaces 3)) 32 (spaces 3)
+  pub short : Refuses (leftBy batchOfOne batchOfTwo (spaces 979)) 33 (spaces 979)

@@ -10,7 +10,7 @@ use native.Mathlib.Omega.{arith}
 use lib.Dec.{eqb, ltb}
 use lib.ListN.{length, getD, set}
 use borrow.Author.Tests.{eqb-true, eqb-false, eq-eqb, ne-eqb, ltb-true, ltb-false}
-use Rattle.text.specs.Fields.{any}
+use Rattle.text.specs.Fields.{atLeastOne}
 use Rattle.namemarks.specs.Codes.{hasGiver, swept, NotFalling}
 use Rattle.namemarks.proofs.AnyLaws.{any-at, any-none}
 use Rattle.namemarks.proofs.MappedLaws.{Mapped, mapped-next}
@@ -85,7 +85,7 @@ module _ (s : List ℕ) (k given given′ : ℕ) (level : NotFalling (length s) 
   last-tells = go (eqb (getD s k 0 / 2 ^ 32 * 2 + 1) given′) refl (last-next .from)
     where
       go : (t : Bool) → eqb (getD s k 0 / 2 ^ 32 * 2 + 1) given′ ≡ t → (given′ ≡ 0) ⊎ GivenAt s (k + 1) given′
-          → t ≡ any (λ y. eqb (y / 2 ^ 31) (getD s k 0 / 2 ^ 32 * 2)) s
+          → t ≡ atLeastOne (λ y. eqb (y / 2 ^ 31) (getD s k 0 / 2 ^ 32 * 2)) s
       go true t (inl w) = let h = eqb-true (getD s k 0 / 2 ^ 32 * 2 + 1) given′ t in absurd (omega arith)
       go true t (inr w) =
           let h = eqb-true (getD s k 0 / 2 ^ 32 * 2 + 1) given′ t in

@@ -5,7 +5,7 @@ use mathlib.Core.List.{List}
 use mathlib.Core.Bool.{Bool, cond}
 use lib.Dec.{eqb}
 use lib.ListN.{getD}
-use Rattle.text.specs.Fields.{any}
+use Rattle.text.specs.Fields.{atLeastOne}
 use Rattle.text.specs.ByteNumbers.{bytesNumber}
 use Rattle.judging.specs.Names.{givesName}
 use Rattle.keyorder.specs.Tagged.{indexPart, recordOf}
@@ -18,7 +18,7 @@ nameCode state batch n =
 
 -- one of the codes has the name of x and gives it
 unfoldable pub hasGiver : List ℕ → ℕ → Bool
-hasGiver codes x = any (λ y. eqb (y / 2 ^ 31) (x / 2 ^ 32 * 2)) codes
+hasGiver codes x = atLeastOne (λ y. eqb (y / 2 ^ 31) (x / 2 ^ 32 * 2)) codes
 
 -- the rest of x below its rank again, with one more where the name of x is given
 abbrev pub swept : ℕ → List ℕ → ℕ → ℕ

@@ -7,7 +7,7 @@ use mathlib.Core.Bool.{Bool, true, false, not, cond, _&&_, _||_, and-true, and-f
 use mathlib.Core.Option.{Option, none, some}
 use borrow.Author.Tests.{not-true, not-false}
 use lib.Dec.{leb}
-use Rattle.text.specs.Fields.{every, any, columns}
+use Rattle.text.specs.Fields.{every, atLeastOne, columns}
 use Rattle.layout.specs.Codes.{RisingCodes}
 use Rattle.text.proofs.FieldsLaws.{and-left}
 use Rattle.judging.specs.Errors.{code, errors, judged17}
@@ -26,16 +26,16 @@ every-only : (f : ℕ → Bool) (c : ℕ) (b : Bool) → every f (code c b) ≡ 
 every-only f c true = rw (and-true (f c), or-false (f c))
 every-only f c false = sym (or-true (f c))
 
-any-front : (f : ℕ → Bool) (c : ℕ) (b : Bool) (cs : List ℕ) → any f (code c b ++ cs) ≡ (f c && b || any f cs)
+any-front : (f : ℕ → Bool) (c : ℕ) (b : Bool) (cs : List ℕ) → atLeastOne f (code c b ++ cs) ≡ (f c && b || atLeastOne f cs)
 any-front f c true cs = rw (and-true (f c))
 any-front f c false cs = rw (and-false (f c))
 
-any-only : (f : ℕ → Bool) (c : ℕ) (b : Bool) → any f (code c b) ≡ (f c && b)
+any-only : (f : ℕ → Bool) (c : ℕ) (b : Bool) → atLeastOne f (code c b) ≡ (f c && b)
 any-only f c true = rw (and-true (f c), or-false (f c))
 any-only f c false = sym (and-false (f c))
 
 -- where each passes, any passes unless there is none
-any-of-every : (f : ℕ → Bool) (cs : List ℕ) → every f cs ≡ true → any f cs ≡ not (isEmpty cs)
+any-of-every : (f : ℕ → Bool) (cs : List ℕ) → every f cs ≡ true → atLeastOne f cs ≡ not (isEmpty cs)
 any-of-every f [] t = refl
 any-of-every f (c ∷ cs) t = rw (and-left (f c) (every f cs) t)
 
@@ -49,7 +49,7 @@ module _ (setting : Setting) (row : Option (List ℕ)) (rec : List ℕ) where
   unfolding errors
   errors-errors = simp (every-front, every-only)
 
-  errors-warnings : any isWarning (errors setting row rec) ≡ false
+  errors-warnings : atLeastOne isWarning (errors setting row rec) ≡ false
   unfolding errors
   errors-warnings = simp (any-front, any-only)
 
@@ -74,7 +74,7 @@ module _ (setting : Setting) (row : Option (List ℕ)) (rec : List ℕ) where
   unfolding warnings
   warnings-warnings = simp (every-front, every-only)
 
-  warnings-errors : any isError (warnings (setting .list) row rec) ≡ false
+  warnings-errors : atLeastOne isError (warnings (setting .list) row rec) ≡ false
   unfolding warnings
   warnings-errors = simp (any-front, any-only)
 
@@ -83,7 +83,7 @@ module _ (setting : Setting) (row : Option (List ℕ)) (rec : List ℕ) where
   rejected-is = go (isAccepted setting row rec) refl
     where
       go : (b : Bool) → isAccepted setting row rec ≡ b
-          → any isError (cond b (warnings (setting .list) row rec) (errors setting row rec)) ≡ not b
+          → atLeastOne isError (cond b (warnings (setting .list) row rec) (errors setting row rec)) ≡ not b
       go true e = warnings-errors
       go false e = any-of-every isError (errors setting row rec) errors-errors ∙ ap not e
 
@@ -92,7 +92,7 @@ module _ (setting : Setting) (row : Option (List ℕ)) (rec : List ℕ) where
   unfolding isWarned judgement codes
   warned-is = go (isAccepted setting row rec)
     where
-      go : (b : Bool) → any isWarning (cond b (warnings (setting .list) row rec) (errors setting row rec))
+      go : (b : Bool) → atLeastOne isWarning (cond b (warnings (setting .list) row rec) (errors setting row rec))
           ≡ (b && not (isEmpty (cond b (warnings (setting .list) row rec) (errors setting row rec))))
       go true = any-of-every isWarning (warnings (setting .list) row rec) warnings-warnings
       go false = errors-warnings
@@ -146,4 +146,4 @@ judged setting row rec =
 -- a rejected judgement has a code
 pub rejected-some : (j : Judgement) → isRejected j ≡ true → j .codes ≡ [] → ⊥
 unfolding isRejected
-rejected-some j t e = false≢true (sym (ap (any isError) e) ∙ t)
+rejected-some j t e = false≢true (sym (ap (atLeastOne isError) e) ∙ t)

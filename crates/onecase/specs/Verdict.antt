@@ -5,7 +5,7 @@ use mathlib.Core.List.{List, [], _∷_}
 use mathlib.Core.Bool.{Bool, true, false, cond}
 use mathlib.Core.Option.{Option, none, some}
 use lib.Dec.{eqb, leb}
-use Rattle.text.specs.Fields.{columns, any}
+use Rattle.text.specs.Fields.{columns, atLeastOne}
 use Rattle.layout.specs.Codes.{codesOfNumber}
 use Rattle.judging.specs.Errors.{errors, judged17}
 use Rattle.judging.specs.Warnings.{warnings}
@@ -51,15 +51,15 @@ isWarning c = leb 51 c
 
 -- a code is in the set
 abbrev pub hasCode : ℕ → List ℕ → Bool
-hasCode c codes = any (λ (k : ℕ). eqb k c) codes
+hasCode c codes = atLeastOne (λ (k : ℕ). eqb k c) codes
 
 -- rejected: an error is in the set
 unfoldable pub isRejected : Judgement → Bool
-isRejected verdict = any isError (verdict .codes)
+isRejected verdict = atLeastOne isError (verdict .codes)
 
 -- warned: a warning is in the set
 unfoldable pub isWarned : Judgement → Bool
-isWarned verdict = any isWarning (verdict .codes)
+isWarned verdict = atLeastOne isWarning (verdict .codes)
 
 -- four bytes as a field
 abbrev pub fourBytes : FourBytes → List ℕ

@@ -1,17 +1,17 @@
 -- The columns of a page's lines: the fields stand one behind the other, so each stands in the columns behind the widths of those before
 -- it. Assumes nothing.
-use Prim.Native.Nat.{ℕ, _+_, _-_, _≤_}
+use Prim.Native.Nat.{ℕ}
 use mathlib.Core.Path.{_≡_, refl, ap, _∙_}
 use mathlib.Core.List.{List, [], _∷_, map}
 use native.Mathlib.Omega.{arith}
 use lib.Dec.{lit≤}
 use lib.Count.{ones-le}
 use lib.ListN.{length, getD}
-use Rattle.text.specs.Fields.{columns, digitField, number, spaces}
-use Rattle.text.proofs.FieldsLaws.{length-columns}
+use Rattle.text.specs.Fields.{digitField, number, spaces}
 use Rattle.text.proofs.NumberLaws.{length-digits, number-digits}
 use Rattle.text.proofs.PartsLaws.{columns-appended, length-appended}
 use Rattle.casemaster.specs.Row.{rowKey, rowLocalCode, rowLastName, rowFirstName, rowArrearage, rowExclusions}
+use Rattle.casemaster.proofs.SoundLaws.{row-columns}
 use Rattle.pages.specs.Forms.{pageDigits, bitsSet, caseLine, heading, foot}
 use Rattle.pages.specs.Columns.{IsLine, IsHeading, IsFoot}
 
@@ -25,17 +25,14 @@ module _ (row : List ℕ) (wide : length row ≡ 200) where
   abbrev widths : List ℕ
   widths = 12 ∷ 1 ∷ 3 ∷ 1 ∷ 20 ∷ 1 ∷ 15 ∷ 1 ∷ 8 ∷ 1 ∷ 1 ∷ 68 ∷ []
 
-  of-row : (a z : ℕ) → 1 ≤ a → a ≤ z + 1 → z ≤ 200 → length (columns a z row) ≡ z + 1 - a
-  of-row a z l o h = length-columns a z row (record { low = l; ordered = o; high = omega arith })
-
   line-widths : map length (rowKey row ∷ others) ≡ widths
   line-widths =
       rw (
-        of-row 1 12 (lit≤ tt) (lit≤ tt) (lit≤ tt),
-        of-row 13 15 (lit≤ tt) (lit≤ tt) (lit≤ tt),
-        of-row 31 50 (lit≤ tt) (lit≤ tt) (lit≤ tt),
-        of-row 51 65 (lit≤ tt) (lit≤ tt) (lit≤ tt),
-        of-row 66 73 (lit≤ tt) (lit≤ tt) (lit≤ tt),
+        row-columns row wide 1 12 (lit≤ tt) (lit≤ tt) (lit≤ tt),
+        row-columns row wide 13 15 (lit≤ tt) (lit≤ tt) (lit≤ tt),
+        row-columns row wide 31 50 (lit≤ tt) (lit≤ tt) (lit≤ tt),
+        row-columns row wide 51 65 (lit≤ tt) (lit≤ tt) (lit≤ tt),
+        row-columns row wide 66 73 (lit≤ tt) (lit≤ tt) (lit≤ tt),
         length-digits 1 (bitsSet row),
       )
       refl

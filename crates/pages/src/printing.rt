@@ -4,6 +4,7 @@ use crate::forms::LINE_WIDTH;
 use casemaster::master::ROW_WIDTH;
 use casemaster::refusals;
 use casemaster::row;
+use text::counting;
 use text::fields;
 ghost use mathlib.Core.Path.{_≡_};
 ghost use mathlib.Core.Bool.{cond};
@@ -32,13 +33,6 @@ struct Standing {
     rows: usize,
 }
 
-// 1 for a row that counts, else 0.
-fn one_if(counts: bool) -> usize
-    ensures { λ r. ⌜ (r ≡ cond counts 1 0) × (r ≤ 1) ⌝ }
-{
-    if counts { 1 } else { 0 }
-}
-
 // How many of the first n rows are live.
 fn count_live(m: &[u8], n: usize) -> usize
     requires { ⌜ n * 200 ≤ length (now m) ⌝ }
@@ -49,7 +43,7 @@ fn count_live(m: &[u8], n: usize) -> usize
     while i < n {
         let at = i * ROW_WIDTH;
         let end = at + ROW_WIDTH;
-        live += one_if(row::is_live(&m[at..end]));
+        live += counting::one_if(row::is_live(&m[at..end]));
         i += 1;
     }
     live

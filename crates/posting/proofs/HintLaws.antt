@@ -1,6 +1,6 @@
 -- Laws of places among n rows: written one by one they stay within, and a place where the key is found is the row's. Assumes nothing.
 use Prim.Native.Nat.{ℕ, zero, suc, _+_, _-_, _*_, _/_, _≤_, _<_}
-use mathlib.Core.Path.{_≡_, refl, sym, _∙_}
+use mathlib.Core.Path.{_≡_, sym, _∙_}
 use mathlib.Core.List.{List, [], _∷_}
 use mathlib.Core.Bool.{true}
 use mathlib.Core.Option.{some}
@@ -12,6 +12,7 @@ use Rattle.text.proofs.SameLaws.{same-eq}
 use Rattle.text.proofs.BlocksLaws.{blocks-get, length-blocks, part-width}
 use Rattle.casemaster.specs.Master.{rowsOf, areSoundRows}
 use Rattle.casemaster.specs.Row.{rowKey}
+use Rattle.text.proofs.ZerosLaws.{zeros-get}
 use Rattle.casemaster.specs.Rows.{placeWith}
 use Rattle.casemaster.proofs.SearchLaws.{place-found}
 use Rattle.casemaster.proofs.RowsLaws.{rows-rise}
@@ -19,14 +20,9 @@ use Rattle.posting.specs.Hints.{Within}
 
 -- ---- sixteen places
 
-zeros : (w k : ℕ) → _≡_ {A = ℕ} (getD (replicate w 0) k 0) 0
-zeros zero k = refl
-zeros (suc w) zero = refl
-zeros (suc w) (suc k) = zeros w k
-
 -- at the start all rows are left
 pub within-zeros : (w n : ℕ) → Within n n (replicate w 0)
-within-zeros w n k = omega (arith, zeros w k)
+within-zeros w n k = omega (arith, zeros-get w k)
 
 within-set : (n left : ℕ) (places : List ℕ) (i p : ℕ) → Within n left places → p + left ≤ n → Within n left (set places i p)
 within-set n left [] i p w h k = w k

@@ -9,6 +9,7 @@ use casemaster::search::Place;
 use collectionfile::file;
 use collectionfile::line;
 use collectionfile::line::LINE_WIDTH;
+use text::counting;
 use text::fields;
 ghost use mathlib.Core.Path.{_≡_};
 ghost use mathlib.Core.Bool.{true, cond};
@@ -89,13 +90,13 @@ fn note(lines: &mut [u32], k: usize, i: usize, posted: bool) -> usize
     if posted {
         return k;
     }
-    lines[k] = (i + 1) as u32;
-    k + 1
+    counting::list_number(lines, k, (i + 1) as u32)
 }
 
 // The first n rows through each of the first `count` lines.
 fn work(m: &mut [u8], n: usize, file: &[u8], count: usize, lines: &mut [u32]) -> usize
-    requires { ⌜ (n * 200 ≤ length (now m)) × (areSoundRows (rowsOf n (now m)) ≡ true) × (count * 240 ≤ length (now file)) × (count ≤ maxRows) × (count ≤ length (now lines)) ⌝ }
+    requires { ⌜ (n * 200 ≤ length (now m)) × (areSoundRows (rowsOf n (now m)) ≡ true)
+        × (count * 240 ≤ length (now file)) × (count ≤ maxRows) × (count ≤ length (now lines)) ⌝ }
     ensures { λ r. ⌜ LinesDone (now (m .entry)) n (now (file .entry)) count (now (lines .entry)) (now (m .exit)) (now (lines .exit)) r ⌝ }
 {
     let mut hints = [0usize; 16];

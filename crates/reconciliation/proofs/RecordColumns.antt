@@ -10,9 +10,9 @@ use Rattle.text.specs.Characters.{A, N}
 use Rattle.text.specs.Fields.{columns, digitField, spaces}
 use Rattle.exclusionsets.specs.Exclusions.{exclusionColumns}
 use Rattle.casemaster.specs.Row.{rowState, rowSsn, rowCaseType, rowLocalCode, rowCaseId, rowLastName, rowArrearage, rowDateIssued, rowExclusions}
+use Rattle.casemaster.proofs.SoundLaws.{row-columns}
 use Rattle.reconciliation.specs.Reconcile.{REC, RCT, recRecord, recRecords, reportedOf, rctRecord}
 use Rattle.reconciliation.specs.Columns.{IsRecRecord, IsRctRecord}
-use Rattle.text.proofs.FieldsLaws.{length-columns}
 use Rattle.text.proofs.ColumnsLaws.{columns-of-columns}
 use Rattle.text.proofs.NumberLaws.{length-digits}
 use Rattle.text.proofs.PartsLaws.{columns-appended, length-appended}
@@ -28,21 +28,18 @@ module _ (row : List ℕ) (wide : length row ≡ 200) where
   abbrev recWidths : List ℕ
   recWidths = 3 ∷ 2 ∷ 3 ∷ 9 ∷ 15 ∷ 20 ∷ 10 ∷ 8 ∷ 1 ∷ 8 ∷ 2 ∷ 24 ∷ 140 ∷ []
 
-  of-row : (a z : ℕ) → 1 ≤ a → a ≤ z + 1 → z ≤ 200 → length (columns a z row) ≡ z + 1 - a
-  of-row a z l o h = length-columns a z row (record { low = l; ordered = o; high = omega arith })
-
   rec-widths : map length (REC ∷ recOthers) ≡ recWidths
   rec-widths =
       rw (
-        of-row 1 2 (lit≤ tt) (lit≤ tt) (lit≤ tt),
-        of-row 13 15 (lit≤ tt) (lit≤ tt) (lit≤ tt),
-        of-row 3 11 (lit≤ tt) (lit≤ tt) (lit≤ tt),
-        of-row 16 30 (lit≤ tt) (lit≤ tt) (lit≤ tt),
-        of-row 31 50 (lit≤ tt) (lit≤ tt) (lit≤ tt),
-        of-row 51 60 (lit≤ tt) (lit≤ tt) (lit≤ tt),
-        of-row 66 73 (lit≤ tt) (lit≤ tt) (lit≤ tt),
-        of-row 12 12 (lit≤ tt) (lit≤ tt) (lit≤ tt),
-        of-row 187 194 (lit≤ tt) (lit≤ tt) (lit≤ tt),
+        row-columns row wide 1 2 (lit≤ tt) (lit≤ tt) (lit≤ tt),
+        row-columns row wide 13 15 (lit≤ tt) (lit≤ tt) (lit≤ tt),
+        row-columns row wide 3 11 (lit≤ tt) (lit≤ tt) (lit≤ tt),
+        row-columns row wide 16 30 (lit≤ tt) (lit≤ tt) (lit≤ tt),
+        row-columns row wide 31 50 (lit≤ tt) (lit≤ tt) (lit≤ tt),
+        row-columns row wide 51 60 (lit≤ tt) (lit≤ tt) (lit≤ tt),
+        row-columns row wide 66 73 (lit≤ tt) (lit≤ tt) (lit≤ tt),
+        row-columns row wide 12 12 (lit≤ tt) (lit≤ tt) (lit≤ tt),
+        row-columns row wide 187 194 (lit≤ tt) (lit≤ tt) (lit≤ tt),
         columns-length (getD (rowExclusions row) 0 0),
       )
       refl

@@ -6,12 +6,13 @@ use dates::calendar;
 use exclusionsets::exclusions;
 use layout::chart_06;
 use layout::chart_07;
+use layout::key;
 use layout::records::RECORD_WIDTH;
 use layout::states;
+use text::counting;
 use text::fields;
 use text::fields::Columns;
 ghost use mathlib.Core.Path.{_≡_};
-ghost use mathlib.Core.Bool.{cond};
 ghost use mathlib.Core.List.{[], _∷_, _++_};
 ghost use Prim.Native.Nat.{_+_, _*_, _≤_, _<_};
 ghost use lib.ListN.{length};
@@ -54,13 +55,6 @@ fn is_reported(row: &[u8], state: &[u8]) -> bool
     row::is_live(row) & fields::same(fields::field(row, row::STATE), state)
 }
 
-// 1 for a case that counts, else 0.
-fn one_if(counts: bool) -> usize
-    ensures { λ r. ⌜ (r ≡ cond counts 1 0) × (r ≤ 1) ⌝ }
-{
-    if counts { 1 } else { 0 }
-}
-
 // Counts the reported cases of the first n rows.
 fn count_cases(m: &[u8], n: usize, state: &[u8]) -> Cases
     requires { ⌜ n * 200 ≤ length (now m) ⌝ }
@@ -78,9 +72,9 @@ fn count_cases(m: &[u8], n: usize, state: &[u8]) -> Cases
         let row = &m[at..end];
         let case_type = row[11];
         let reported = is_reported(row, state);
-        total += one_if(reported);
-        tanf += one_if(reported & (case_type == 0xC1));
-        non_tanf += one_if(reported & (case_type == 0xD5));
+        total += counting::one_if(reported);
+        tanf += counting::one_if(reported & (case_type == key::TANF));
+        non_tanf += counting::one_if(reported & (case_type == key::NON_TANF));
         i += 1;
     }
     Cases {
@@ -92,7 +86,8 @@ fn count_cases(m: &[u8], n: usize, state: &[u8]) -> Cases
 
 // Copies at most twenty columns of a row into as many of a record. By way of an array: from slice to slice they would go byte by byte.
 fn copy_field(rec: &mut [u8], to: Columns, row: &[u8], from: Columns)
-    requires { ⌜ (Inside (to .first) (to .last) (now rec)) × (Inside (from .first) (from .last) (now row)) × (to .last + from .first ≡ from .last + to .first) × (to .last < to .first + 20) ⌝ }
+    requires { ⌜ (Inside (to .first) (to .last) (now rec))
+        × (Inside (from .first) (from .last) (now row)) × (to .last + from .first ≡ from .last + to .first) × (to .last < to .first + 20) ⌝ }
     ensures { λ _. ⌜ now (rec .exit) ≡ placed (to .first) (to .last) (columns (from .first) (from .last) (now (row .entry))) (now (rec .entry)) ⌝ }
 {
     let field = fields::field(row, from);
@@ -127,7 +122,8 @@ fn fill_rec(rec: &mut [u8], row: &[u8])
 // The RCT record.
 fn rct_record(state: &[u8], date: &[u8], cases: Cases) -> [u8; 245]
     requires { ⌜ (length (now state) ≡ 2) × (length (now date) ≡ 8) ⌝ }
-    ensures { λ r. ⌜ r ≡ RCT ++ now (state .entry) ++ digitField 9 (cases .tanf) ++ digitField 9 (cases .«non_tanf») ++ digitField 9 (cases .total) ++ now (date .entry) ++ spaces 205 ⌝ }
+    ensures { λ r. ⌜ r ≡ RCT ++ now (state .entry) ++ digitField 9 (cases .tanf) ++ digitField 9 (cases .«non_tanf»)
+        ++ digitField 9 (cases .total) ++ now (date .entry) ++ spaces 205 ⌝ }
 {
     let mut out = [0x40u8; 245];
     fields::put(&mut out, chart_07::IDENTIFIER, b"\xD9\xC3\xE3");
@@ -142,7 +138,8 @@ fn rct_record(state: &[u8], date: &[u8], cases: Cases) -> [u8; 245]
 // Writes the REC record of a row behind k records where the row is reported, and returns how many records there are.
 fn put_record(out: &mut [u8], k: usize, row: &[u8], state: &[u8]) -> usize
     requires { ⌜ (length (now row) ≡ 200) × ((k + length (recRecords (now state) (now row ∷ []))) * 245 ≤ length (now out)) ⌝ }
-    ensures { λ r. ⌜ Holds 245 (now (out .entry)) (now (out .exit)) r (blocks 245 k (now (out .entry)) ++ recRecords (now (state .entry)) (now (row .entry) ∷ [])) ⌝ }
+    ensures { λ r. ⌜ Holds 245 (now (out .entry)) (now (out .exit)) r
+        (blocks 245 k (now (out .entry)) ++ recRecords (now (state .entry)) (now (row .entry) ∷ [])) ⌝ }
 {
     if !is_reported(row, state) {
         return k;
@@ -177,7 +174,8 @@ pub fn reconcile(
     date: &[u8],
     out: &mut [u8],
 ) -> Reconciled
-    ensures { λ r. ⌜ reconciledAs r (now (out .exit)) ≡ reconcileOutcome (now (master .entry)) rows (now (state .entry)) (now (date .entry)) (now (out .entry)) ⌝ }
+    ensures { λ r. ⌜ reconciledAs r (now (out .exit))
+        ≡ reconcileOutcome (now (master .entry)) rows (now (state .entry)) (now (date .entry)) (now (out .entry)) ⌝ }
 {
     let refusal = refusals::master_refusal(master, rows);
     if refusal != 0 {

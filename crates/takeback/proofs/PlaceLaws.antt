@@ -1,28 +1,26 @@
 -- Laws of one place tested: each way out of the code. Assumes nothing.
 use Prim.Native.Nat.{ℕ, _+_, _-_, _*_, _≤_, _<_}
-use mathlib.Core.Path.{_≡_, refl, ap, subst, _∙_}
+use mathlib.Core.Path.{_≡_, refl, ap, _∙_}
 use mathlib.Core.Bool.{Bool, true, false, not, cond, _&&_}
 use mathlib.Core.List.{List, [], _∷_}
 use mathlib.Core.Option.{Option, none, some}
 use native.Mathlib.Omega.{arith}
-use lib.Dec.{ltb, lit≤}
+use lib.Dec.{lit≤}
 use lib.ListN.{length, take, drop, length-take, length-drop, drop-of-length-le}
-use lib.Seq.{take-take, take-length}
-use borrow.Author.Tests.{le-ltb, not-true, not-false}
-use Rattle.text.specs.Blocks.{blocks}
-use Rattle.text.specs.ByteOrder.{orderOf, isLess, belowFirst, rising}
+use lib.Seq.{take-take}
+use borrow.Author.Tests.{not-true, not-false}
+use Rattle.text.specs.ByteOrder.{orderOf, isLess}
 use Rattle.text.specs.ByteNumbers.{AreBytes, bytesNumber}
 use Rattle.text.proofs.ByteNumberLaws.{bytes-take, bytes-drop}
 use Rattle.text.proofs.BlocksLaws.{part-width}
 use Rattle.layout.specs.Limits.{maxRows}
-use Rattle.layout.proofs.LimitsLaws.{max-rows}
 use Rattle.casemaster.specs.Row.{rowKey, isSoundRow}
-use Rattle.casemaster.specs.Master.{keysOf, areSoundRows}
-use Rattle.casemaster.specs.Refusals.{refusal3, refusal4, masterRefusal}
+use Rattle.casemaster.specs.Refusals.{masterRefusal}
+use Rattle.casemaster.proofs.RefusalsLaws.{one-row}
 use Rattle.casemaster.proofs.PassLaws.{twelve-front, twelve-back}
 use Rattle.journal.specs.Journal.{entry, ReadEntry, noEntry, oneEntry, readEntry, beforeOthers, entriesIn}
 use Rattle.journal.specs.Reading.{reach, EntryOutOfReach, EntryFound, oldAt, IsEntry}
-use Rattle.takeback.specs.Testing.{isAfter, passes, IsKeyNumbers, IsLastIn, IsLast, Followed, OldFollowed, OldFollowedIf, rowIn, GoesOnOrFails, PlaceTested}
+use Rattle.takeback.specs.Testing.{isAfter, passesFrom, IsKeyNumbers, IsLastIn, IsLast, Followed, OldFollowed, OldFollowedIf, rowIn, GoesOnOrFails, PlaceTested}
 use Rattle.journal.specs.declared.entries.Found.{Found}
 use Rattle.takeback.specs.declared.testing.Tested.{Tested}
 use Rattle.journal.proofs.FormLaws.{entries-none, entries-bad, entries-next}
@@ -53,18 +51,6 @@ key-numbers bytes o front back h b f k =
       front-is = f ∙ ap bytesNumber (twelve-front o bytes);
       back-is = k ∙ ap bytesNumber (twelve-back o bytes);
     }
-
--- a master of one row, sound or not
-one-row : (row : List ℕ) → length row ≡ 200 → masterRefusal maxRows row 1 0 ≡ cond (isSoundRow row) 0 4
-unfolding masterRefusal refusal3 refusal4 areSoundRows keysOf rising belowFirst blocks
-one-row row l =
-    let n : take 200 row ≡ row = subst (λ (x : ℕ). take x row ≡ row) l (take-length row) in
-    let f : ltb maxRows 1 ≡ false = le-ltb maxRows 1 (omega (arith, max-rows)) in
-    rw (l, f, n) (go (isSoundRow row))
-  where
-    go : (t : Bool) → _≡_ {A = ℕ} (cond (not ((t && true) && (true && true))) 4 0) (cond t 0 4)
-    go true = refl
-    go false = refl
 
 module _ (bytes : List ℕ) (o at : ℕ) (s r : Tested) (t : ℕ) (l : o + 200 ≤ length bytes)
     (e : t ≡ masterRefusal maxRows (take (o + 200 - o) (drop o bytes)) 1 0) where
@@ -97,7 +83,7 @@ module _ (m : List ℕ) (p : ℕ) (journal : List ℕ) (s r : Tested) where
   -- a test failed
   fails : r .ok ≡ false
       → ((n before : ℕ) (last : Option (List ℕ)) (rows : List (List ℕ)) → n ≤ reach
-      → passes n before p (s .marks) last (entriesIn (drop (s .at) journal)) (rowIn m p ∷ rows) ≡ false)
+      → passesFrom n before p (s .marks) last (entriesIn (drop (s .at) journal)) (rowIn m p ∷ rows) ≡ false)
       → PlaceTested m p journal s r
   fails e f =
       record {
@@ -107,7 +93,7 @@ module _ (m : List ℕ) (p : ℕ) (journal : List ℕ) (s r : Tested) where
       }
     where
       go : (n before : ℕ) (last : Option (List ℕ)) (rows : List (List ℕ))
-          → passes n before p (s .marks) last (entriesIn (drop (s .at) journal)) (rowIn m p ∷ rows) ≡ false
+          → passesFrom n before p (s .marks) last (entriesIn (drop (s .at) journal)) (rowIn m p ∷ rows) ≡ false
           → GoesOnOrFails (r .ok) n before m p journal s r last rows
       go n before last rows g = rw e g
 
@@ -115,8 +101,8 @@ module _ (m : List ℕ) (p : ℕ) (journal : List ℕ) (s r : Tested) where
   by-key : (at : ℕ) (bytes : List ℕ) (o : ℕ) → Followed bytes o at s r → at ≤ length journal
       → ((n before : ℕ) (last : Option (List ℕ)) (rows : List (List ℕ)) → p < n → isSoundRow (rowIn m p) ≡ true
       → (b : Bool) → b ≡ isAfter last (take 12 (drop o bytes))
-      → passes n before p (s .marks) last (entriesIn (drop (s .at) journal)) (rowIn m p ∷ rows)
-      ≡ (b && passes n before (p + 1) (s .marks) (some (take 12 (drop o bytes))) (entriesIn (drop at journal)) rows))
+      → passesFrom n before p (s .marks) last (entriesIn (drop (s .at) journal)) (rowIn m p ∷ rows)
+      ≡ (b && passesFrom n before (p + 1) (s .marks) (some (take 12 (drop o bytes))) (entriesIn (drop at journal)) rows))
       → PlaceTested m p journal s r
   by-key at bytes o f l g =
       record {
@@ -126,8 +112,8 @@ module _ (m : List ℕ) (p : ℕ) (journal : List ℕ) (s r : Tested) where
       }
     where
       go : (n before : ℕ) (last : Option (List ℕ)) (rows : List (List ℕ)) (b : Bool) → r .ok ≡ b
-          → passes n before p (s .marks) last (entriesIn (drop (s .at) journal)) (rowIn m p ∷ rows)
-          ≡ (b && passes n before (p + 1) (s .marks) (some (take 12 (drop o bytes))) (entriesIn (drop at journal)) rows)
+          → passesFrom n before p (s .marks) last (entriesIn (drop (s .at) journal)) (rowIn m p ∷ rows)
+          ≡ (b && passesFrom n before (p + 1) (s .marks) (some (take 12 (drop o bytes))) (entriesIn (drop at journal)) rows)
           → GoesOnOrFails b n before m p journal s r last rows
       go n before last rows true e h =
           record { now-last = some (take 12 (drop o bytes)); last-is = f .last-is; same = h ∙ rw (f .at-is, f .marks-is) }
@@ -152,7 +138,7 @@ module _ (m : List ℕ) (p : ℕ) (journal : List ℕ) (s r : Tested) where
     no-entry-tested i n l f = fails f (λ k before last rows h. go k before last rows h (readEntry (drop (s .at) journal)) refl (rw (not-true (e .found) n) at i))
       where
         go : (k before : ℕ) (last : Option (List ℕ)) (rows : List (List ℕ)) → k ≤ reach → (x : ReadEntry) → readEntry (drop (s .at) journal) ≡ x
-            → EntryOutOfReach x → passes k before p (s .marks) last (entriesIn (drop (s .at) journal)) (rowIn m p ∷ rows) ≡ false
+            → EntryOutOfReach x → passesFrom k before p (s .marks) last (entriesIn (drop (s .at) journal)) (rowIn m p ∷ rows) ≡ false
         go k before last rows h noEntry y o =
             pass-none k before p (s .marks) last (entriesIn (drop (s .at) journal)) (rowIn m p ∷ rows)
             (entries-bad (drop (s .at) journal) (rw length-drop (omega arith)) y)

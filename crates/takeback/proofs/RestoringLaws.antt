@@ -11,13 +11,14 @@ use lib.ListN.{length, take, drop, length-drop, drop-of-length-le}
 use lib.Seq.{length-take-le}
 use borrow.Author.Tests.{ne-eqb, eq-eqb, leb-true, ltb-true, le-leb}
 use Rattle.text.specs.Blocks.{blocks, spliced}
+use Rattle.text.specs.Options.{oneOrNone}
 use Rattle.text.proofs.FieldsLaws.{and-left, and-right}
 use Rattle.text.proofs.BoolLaws.{and-both}
 use Rattle.text.proofs.BlocksLaws.{blocks-next, blocks-snoc, length-blocks, kept-further, part-width}
 use Rattle.casemaster.specs.Master.{rowsOf}
 use Rattle.casemaster.specs.Search.{RowPut}
 use Rattle.casemaster.proofs.MovedLaws.{row-put}
-use Rattle.journal.specs.Journal.{Entry, entry, ReadEntry, noEntry, oneEntry, readEntry, beforeOthers, entriesIn, rowOrNone}
+use Rattle.journal.specs.Journal.{Entry, entry, ReadEntry, noEntry, oneEntry, readEntry, beforeOthers, entriesIn}
 use Rattle.takeback.specs.Restored.{placesRise, placesBelow, restoredFrom}
 use Rattle.journal.specs.Reading.{reach, EntryOutOfReach, EntryFound, oldAt, IsEntryAt, IsEntry}
 use Rattle.takeback.specs.Testing.{rowIn}
@@ -50,26 +51,26 @@ first-place p e es r = (
   and-right (leb p (e .place)) (placesRise (suc (e .place)) es) r,
 )
 
-first-below : (n : ℕ) (e : Entry) (es : List Entry) → placesBelow n (e ∷ es) ≡ true → (e .place < n) × (placesBelow n es ≡ true)
+first-place-below : (n : ℕ) (e : Entry) (es : List Entry) → placesBelow n (e ∷ es) ≡ true → (e .place < n) × (placesBelow n es ≡ true)
 unfolding placesBelow
-first-below n e es r =
+first-place-below n e es r =
     (ltb-true (e .place) n (and-left (ltb (e .place) n) (placesBelow n es) r), and-right (ltb (e .place) n) (placesBelow n es) r)
 
 here-taken : (p : ℕ) (old : Option (List ℕ)) (es : List Entry) (row : List ℕ) (rows : List (List ℕ))
-    → restoredFrom p (entry p old ∷ es) (row ∷ rows) ≡ rowOrNone old ++ restoredFrom (p + 1) es rows
+    → restoredFrom p (entry p old ∷ es) (row ∷ rows) ≡ oneOrNone old ++ restoredFrom (p + 1) es rows
 unfolding restoredFrom
 here-taken p old es row rows = rw (eq-eqb p p refl, add-one p)
 
-above : (p q : ℕ) → p ≤ q → (q ≡ p → ⊥) → p < q
-above p q h n = omega arith
+place-above : (p q : ℕ) → p ≤ q → (q ≡ p → ⊥) → p < q
+place-above p q h n = omega arith
 
 -- an entry and those behind it are some entries
 data Split (e : Entry) (others : Option (List Entry)) (es : List Entry) : Type 0 where
   split-at : (rest : List Entry) → others ≡ some rest → es ≡ e ∷ rest → Split e others es
 
-split : (e : Entry) (o : Option (List Entry)) (es : List Entry) → beforeOthers e o ≡ some es → Split e o es
-split e none es h = let z : _≡_ {A = ℕ} 0 1 = cc in absurd (omega arith)
-split e (some rest) es h = split-at rest refl (cc)
+entries-split : (e : Entry) (o : Option (List Entry)) (es : List Entry) → beforeOthers e o ≡ some es → Split e o es
+entries-split e none es h = let z : _≡_ {A = ℕ} 0 1 = cc in absurd (omega arith)
+entries-split e (some rest) es h = split-at rest refl (cc)
 
 module _ (journal : List ℕ) (at p : ℕ) (c : CanRestore journal at p) (e : Found) (i : IsEntry at journal e) (l : at < length journal) where
   -- the entry is found
@@ -77,7 +78,7 @@ module _ (journal : List ℕ) (at p : ℕ) (c : CanRestore journal at p) (e : Fo
   must-find = go (e .found) i
     where
       other : (x : Entry) (bs : List ℕ) → reach ≤ x .place → Split x (entriesIn bs) (c .entries) → ⊥
-      other x bs h (split-at rest f g) = let b = first-below reach x rest (rw g at (c .below)) in omega (arith, b .0)
+      other x bs h (split-at rest f g) = let b = first-place-below reach x rest (rw g at (c .below)) in omega (arith, b .0)
 
       out : (r : ReadEntry) → readEntry (drop at journal) ≡ r → EntryOutOfReach r → ⊥
       out noEntry y h =
@@ -86,7 +87,7 @@ module _ (journal : List ℕ) (at p : ℕ) (c : CanRestore journal at p) (e : Fo
           let z : _≡_ {A = ℕ} 0 1 = cc in
           omega arith
       out (oneEntry x bs) y h =
-          other x bs h (split x (entriesIn bs) (c .entries) (sym (entries-next (drop at journal) x bs y) ∙ c .are))
+          other x bs h (entries-split x (entriesIn bs) (c .entries) (sym (entries-next (drop at journal) x bs y) ∙ c .are))
 
       go : (t : Bool) → IsEntryAt t at journal (e .place) (e .new) (e .row) (e .next) → EntryFound at journal (e .place) (e .new) (e .row) (e .next)
       go true h = h
@@ -94,7 +95,7 @@ module _ (journal : List ℕ) (at p : ℕ) (c : CanRestore journal at p) (e : Fo
 
   first-is : Split (entry (e .place) (oldAt (e .new) (e .row) journal)) (entriesIn (drop (e .next) journal)) (c .entries)
   first-is =
-      split (entry (e .place) (oldAt (e .new) (e .row) journal)) (entriesIn (drop (e .next) journal)) (c .entries)
+      entries-split (entry (e .place) (oldAt (e .new) (e .row) journal)) (entriesIn (drop (e .next) journal)) (c .entries)
       (sym (entries-next (drop at journal) (entry (e .place) (oldAt (e .new) (e .row) journal)) (drop (e .next) journal) (must-find .is)) ∙ c .are)
 
   -- another place: it is later
@@ -104,29 +105,29 @@ module _ (journal : List ℕ) (at p : ℕ) (c : CanRestore journal at p) (e : Fo
       go : Split (entry (e .place) (oldAt (e .new) (e .row) journal)) (entriesIn (drop (e .next) journal)) (c .entries) → IsLater p (c .entries)
       go (split-at rest f g) =
           let r = first-place p (entry (e .place) (oldAt (e .new) (e .row) journal)) rest (rw g at (c .rise)) in
-          let k : p < e .place = above p (e .place) (r .0) n in
+          let k : p < e .place = place-above p (e .place) (r .0) n in
           rw g k
 
   -- this place: what it leaves, and the entries behind it
   pub here : (at′ : ℕ) → at′ ≡ e .next → e .place ≡ p
       → (q : CanRestore journal at′ (p + 1))
-      × ((row : List ℕ) (rows : List (List ℕ)) → restoredFrom p (c .entries) (row ∷ rows) ≡ rowOrNone (oldAt (e .new) (e .row) journal) ++ restoredFrom (p + 1) (q .entries) rows)
+      × ((row : List ℕ) (rows : List (List ℕ)) → restoredFrom p (c .entries) (row ∷ rows) ≡ oneOrNone (oldAt (e .new) (e .row) journal) ++ restoredFrom (p + 1) (q .entries) rows)
   here at′ a y = go first-is
     where
       go : Split (entry (e .place) (oldAt (e .new) (e .row) journal)) (entriesIn (drop (e .next) journal)) (c .entries)
           → (q : CanRestore journal at′ (p + 1))
-          × ((row : List ℕ) (rows : List (List ℕ)) → restoredFrom p (c .entries) (row ∷ rows) ≡ rowOrNone (oldAt (e .new) (e .row) journal) ++ restoredFrom (p + 1) (q .entries) rows)
+          × ((row : List ℕ) (rows : List (List ℕ)) → restoredFrom p (c .entries) (row ∷ rows) ≡ oneOrNone (oldAt (e .new) (e .row) journal) ++ restoredFrom (p + 1) (q .entries) rows)
       go (split-at rest f g) =
           let x = entry (e .place) (oldAt (e .new) (e .row) journal) in
           let r = first-place p x rest (rw g at (c .rise)) in
-          let b = first-below reach x rest (rw g at (c .below)) in
+          let b = first-place-below reach x rest (rw g at (c .below)) in
           let w : suc (e .place) ≡ p + 1 = omega arith in (
             record { entries = rest; are = rw a f; rise = rw w at (r .1); below = b .1 },
             λ row rows. rw (g, y) (here-taken p (oldAt (e .new) (e .row) journal) rest row rows),
           )
 
 by-mark : (b c : Bool) → b ≡ c → (row : ℕ) (journal : List ℕ) (rows : List (List ℕ))
-    → rowOrNone (oldAt b row journal) ++ rows ≡ rowOrNone (oldAt c row journal) ++ rows
+    → oneOrNone (oldAt b row journal) ++ rows ≡ oneOrNone (oldAt c row journal) ++ rows
 by-mark b c e row journal rows = rw e
 
 nothing-taken : (p : ℕ) (es : List Entry) → restoredFrom p es [] ≡ []

@@ -73,12 +73,12 @@ module _ (limit : ℕ) (master : List ℕ) (rows : ℕ) where
 
 -- ---- carried out
 
-below-more : (a b : ℕ) (es : List Entry) → a ≤ b → placesBelow a es ≡ true → placesBelow b es ≡ true
+places-below-more : (a b : ℕ) (es : List Entry) → a ≤ b → placesBelow a es ≡ true → placesBelow b es ≡ true
 unfolding placesBelow
-below-more a b [] h t = refl
-below-more a b (e ∷ es) h t =
+places-below-more a b [] h t = refl
+places-below-more a b (e ∷ es) h t =
     let l = ltb-true (e .place) a (and-left (ltb (e .place) a) (placesBelow a es) t) in
-    and-both (ltb (e .place) b) (placesBelow b es) (lt-ltb (e .place) b (omega arith)) (below-more a b es h (and-right (ltb (e .place) a) (placesBelow a es) t))
+    and-both (ltb (e .place) b) (placesBelow b es) (lt-ltb (e .place) b (omega arith)) (places-below-more a b es h (and-right (ltb (e .place) a) (placesBelow a es) t))
 
 -- what is known of a journal that can be taken
 pub record Ready (bytes : List ℕ) (c : Counts) : Type 0 where
@@ -114,7 +114,7 @@ module _ (bytes : List ℕ) (rows : List (List ℕ)) (few : length rows < reach)
           let f : journalIn bytes ≡ some j = k .is ∙ rw e in
           let u = taken-tests j rows (rw f at t) in
           record {
-            can = record { entries = es; are = e; rise = u .2; below = below-more (c .after) reach es (omega (arith, u .0)) (u .1) };
+            can = record { entries = es; are = e; rise = u .2; below = places-below-more (c .after) reach es (omega (arith, u .0)) (u .1) };
             is = f;
             inside = k .inside;
           }

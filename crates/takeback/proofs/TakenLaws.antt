@@ -10,17 +10,17 @@ use lib.Dec.{eqb}
 use lib.ListN.{length}
 use borrow.Author.Tests.{ne-eqb, eq-eqb, lt-ltb, le-leb}
 use Rattle.text.specs.Fields.{sameBytes}
-use Rattle.text.specs.ByteOrder.{less, orderOf, isLess, isEqual, belowFirst, rising}
-use Rattle.text.proofs.FieldsLaws.{and-left}
+use Rattle.text.specs.Options.{oneOrNone}
+use Rattle.text.specs.ByteOrder.{less, orderOf, isLess, belowFirst, rising}
 use Rattle.text.proofs.BoolLaws.{and-both}
 use Rattle.text.proofs.SameLaws.{same-eq}
-use Rattle.text.proofs.ByteOrderLaws.{Sides, below, level, above, sides, less-sides, less-trans, same-order}
+use Rattle.text.proofs.ByteOrderLaws.{Sides, below, level, above, sides}
 use Rattle.casemaster.specs.Row.{rowKey}
 use Rattle.casemaster.specs.Master.{keysOf, areSoundRows}
 use Rattle.casemaster.specs.Rows.{rowWith}
-use Rattle.casemaster.proofs.RowsLaws.{found-here, found-behind, below-none}
+use Rattle.casemaster.proofs.RowsLaws.{found-here, found-behind, rows-first, below-other, below-behind, below-none, some-none}
 use Rattle.casemaster.proofs.SearchLaws.{rows-tail}
-use Rattle.journal.specs.Journal.{Entry, entry, entryOf, entriesFrom, journalOf, rowOrNone}
+use Rattle.journal.specs.Journal.{Entry, entry, entryOf, entriesFrom, journalOf}
 use Rattle.takeback.specs.Restored.{restoredFrom, restored, placesRise, placesBelow, newMarks, fits, canTakeBack}
 use Rattle.takeback.specs.Theorem.{Follows}
 
@@ -28,7 +28,7 @@ use Rattle.takeback.specs.Theorem.{Follows}
 
 abbrev oldOf : List (List ℕ) → List (List ℕ) → List (List ℕ)
 oldOf old [] = []
-oldOf old (row ∷ rows) = rowOrNone (rowWith (rowKey row) old) ++ oldOf old rows
+oldOf old (row ∷ rows) = oneOrNone (rowWith (rowKey row) old) ++ oldOf old rows
 
 -- a row before the place of each entry stays
 pub stays-before : (p q : ℕ) (old rest : List (List ℕ)) (row : List ℕ) (rows : List (List ℕ)) → p < q
@@ -73,27 +73,11 @@ taken-old p old (row ∷ rows) = go (rowWith (rowKey row) old) (taken-old (suc p
     changed was false t ih = rw (eq, ih)
 
     go : (o : Option (List ℕ)) → restoredFrom (suc p) es rows ≡ oldOf old rows
-        → restoredFrom p (entryOf p o row ++ es) (row ∷ rows) ≡ rowOrNone o ++ oldOf old rows
+        → restoredFrom p (entryOf p o row ++ es) (row ∷ rows) ≡ oneOrNone o ++ oldOf old rows
     go none ih = rw (eq, ih)
     go (some was) ih = changed was (sameBytes was row) refl ih
 
 -- ---- they are all rows at entry
-
--- a key that is above another is not the same
-above-other : (a b : List ℕ) → isLess (orderOf a b) ≡ true → sameBytes a b ≡ false
-unfolding isEqual
-above-other a b h = rw (same-order a b, less-sides a b h .0)
-
-first-below : (row : List ℕ) (rows : List (List ℕ)) → rising (keysOf (row ∷ rows)) ≡ true → belowFirst (rowKey row) (keysOf rows) ≡ true
-unfolding keysOf rising
-first-below row rows r = and-left (belowFirst (rowKey row) (keysOf rows)) (rising (keysOf rows)) r
-
--- below the first, and so below those behind it
-below-behind : (key row : List ℕ) (rows : List (List ℕ)) → isLess (orderOf key (rowKey row)) ≡ true → belowFirst (rowKey row) (keysOf rows) ≡ true
-    → belowFirst key (keysOf rows) ≡ true
-unfolding keysOf belowFirst
-below-behind key row [] h b = refl
-below-behind key row (r ∷ rows) h b = less-trans key (rowKey row) (rowKey r) h b
 
 -- a row at entry whose key is below the rest makes no difference there
 old-behind : (o : List ℕ) (os rows : List (List ℕ)) → belowFirst (rowKey o) (keysOf rows) ≡ true → rising (keysOf rows) ≡ true
@@ -102,8 +86,8 @@ unfolding keysOf belowFirst
 old-behind o os [] b r = refl
 old-behind o os (row ∷ rows) b r =
     rw (
-      found-behind (rowKey row) o os (above-other (rowKey o) (rowKey row) b),
-      old-behind o os rows (below-behind (rowKey o) row rows b (first-below row rows r)) (rows-tail row rows r),
+      found-behind (rowKey row) o os (below-other (rowKey o) (rowKey row) b),
+      old-behind o os rows (below-behind (rowKey o) row rows b (rows-first row rows r)) (rows-tail row rows r),
     )
 
 less-first : (key row : List ℕ) (rows : List (List ℕ)) → orderOf key (rowKey row) ≡ less → belowFirst key (keysOf (row ∷ rows)) ≡ true
@@ -114,9 +98,6 @@ old-none : (rows : List (List ℕ)) → oldOf [] rows ≡ []
 unfolding rowWith
 old-none [] = refl
 old-none (row ∷ rows) = old-none rows
-
-some-none : {row : List ℕ} → some row ≡ none → ⊥
-some-none e = let z : _≡_ {A = ℕ} 0 1 = cc in omega arith
 
 nothing-with : (key : List ℕ) → rowWith key [] ≡ none
 unfolding rowWith
@@ -134,7 +115,7 @@ old-all (n ∷ ns) (o ∷ os) r q h =
     both : rowKey o ≡ rowKey n → (key : List ℕ) → rowWith key ns ≡ none → (t : Bool) → sameBytes (rowKey n) key ≡ t → rowWith key os ≡ none
     both e key f true t =
         let k : key ≡ rowKey o = sym (e ∙ same-eq (rowKey n) key t) in
-        below-none key os (rw k (first-below o os r)) (rows-tail o os r)
+        below-none key os (rw k (rows-first o os r)) (rows-tail o os r)
     both e key f false t =
         sym (found-behind key o os (rw e t)) ∙ h key (found-behind key n ns t ∙ f)
 
@@ -152,7 +133,7 @@ old-all (n ∷ ns) (o ∷ os) r q h =
     go ih jh (level e) =
         rw (
           found-here (rowKey n) o os e,
-          old-behind o os ns (rw e (first-below n ns q)) (rows-tail n ns q),
+          old-behind o os ns (rw e (rows-first n ns q)) (rows-tail n ns q),
           ih (λ key f. both e key f (sameBytes (rowKey n) key) refl),
         )
     go ih jh (above x y) =
@@ -227,7 +208,7 @@ marks-new p old (row ∷ rows) = go (rowWith (rowKey row) old) (marks-new (suc p
     changed was false ih = omega arith
 
     go : (o : Option (List ℕ)) → length (oldOf old rows) + newMarks es ≡ length rows
-        → length (rowOrNone o ++ oldOf old rows) + newMarks (entryOf p o row ++ es) ≡ suc (length rows)
+        → length (oneOrNone o ++ oldOf old rows) + newMarks (entryOf p o row ++ es) ≡ suc (length rows)
     go none ih = omega arith
     go (some was) ih = changed was (sameBytes was row) ih
 

@@ -18,9 +18,9 @@ use Rattle.takeback.proofs.TakenLaws.{taken-back, journal-taken}
 use Rattle.journal.proofs.FormLaws.{journal-own-read}
 use Rattle.takeback.proofs.TakeBackLaws.{refusal-none}
 
-all-wide : (rows : List (List ℕ)) → AreWide rows → All IsWide rows
-all-wide [] w = tt
-all-wide (row ∷ rows) w = (w .0, all-wide rows (w .1))
+wide-all : (rows : List (List ℕ)) → AreWide rows → All IsWide rows
+wide-all [] w = tt
+wide-all (row ∷ rows) w = (w .0, wide-all rows (w .1))
 
 before-is : (old new : List (List ℕ)) → journalOf old new .before ≡ length old
 unfolding journalOf
@@ -31,7 +31,7 @@ unfolding takeBackOutcome
 takes-back limit old master rows k =
     let new : List (List ℕ) = rowsOf rows master in
     let j : Journal = journalOf old new in
-    let r : journalIn (journalBytes j) ≡ some j = journal-own-read old new (all-wide old (k .wide)) in
+    let r : journalIn (journalBytes j) ≡ some j = journal-own-read old new (wide-all old (k .wide)) in
     let t : canTakeBack (journalIn (journalBytes j)) new ≡ true = ap (λ o. canTakeBack o new) r ∙ journal-taken old new (k .follows) (k .sound) in
     let z : takeBackRefusal limit master rows (journalBytes j) ≡ 0 = sym (refusal-none limit master rows (journalBytes j) (k .passed) true (sym t) refl) in
     sym (outcome-done (takeBackRefusal limit master rows (journalBytes j)) master (takeBackRun (journalIn (journalBytes j)) master rows) z)

@@ -15,7 +15,7 @@ use Rattle.casemaster.specs.Row.{rowKey, isSoundRow}
 use Rattle.casemaster.specs.Master.{keysOf, areSoundRows}
 use Rattle.journal.specs.Journal.{Entry, entry, Journal, beforeOthers}
 use Rattle.takeback.specs.Restored.{placesBelow, placesRise, newMarks, restoredFrom, restored, fits, canTakeBack}
-use Rattle.takeback.specs.Testing.{withLast, isAfter, soundBehind, passes}
+use Rattle.takeback.specs.Testing.{withLast, isAfter, soundBehind, passesFrom}
 
 -- a sound row in front: it must stand behind the last one, and is the last one then
 behind-step : (last : Option (List ℕ)) (row : List ℕ) (rows : List (List ℕ)) (b : Bool) → isSoundRow row ≡ true → b ≡ isAfter last (rowKey row)
@@ -71,8 +71,8 @@ module _ (n before p marks : ℕ) (last : Option (List ℕ)) where
   -- a row that is kept
   pub pass-keep : (o : Option (List Entry)) (row : List ℕ) (rows : List (List ℕ)) (b : Bool) → Later p o → isSoundRow row ≡ true
       → b ≡ isAfter last (rowKey row)
-      → passes n before p marks last o (row ∷ rows) ≡ (b && passes n before (p + 1) marks (some (rowKey row)) o rows)
-  unfolding passes restoredFrom placesRise
+      → passesFrom n before p marks last o (row ∷ rows) ≡ (b && passesFrom n before (p + 1) marks (some (rowKey row)) o rows)
+  unfolding passesFrom restoredFrom placesRise
   pass-keep none row rows b h s e = sym (and-false b)
   pass-keep (some []) row rows b h s e =
       let f = behind-step last row rows b s e in
@@ -86,8 +86,8 @@ module _ (n before p marks : ℕ) (last : Option (List ℕ)) where
 
   -- a new row, which goes
   pub pass-new : (o : Option (List Entry)) (row : List ℕ) (rows : List (List ℕ)) → p < n
-      → passes n before p marks last (beforeOthers (entry p none) o) (row ∷ rows) ≡ passes n before (p + 1) (marks + 1) last o rows
-  unfolding passes restoredFrom placesRise placesBelow newMarks
+      → passesFrom n before p marks last (beforeOthers (entry p none) o) (row ∷ rows) ≡ passesFrom n before (p + 1) (marks + 1) last o rows
+  unfolding passesFrom restoredFrom placesRise placesBelow newMarks
   pass-new none row rows h = refl
   pass-new (some es) row rows h =
       let a : marks + (1 + newMarks es) ≡ marks + 1 + newMarks es = omega arith in
@@ -96,8 +96,8 @@ module _ (n before p marks : ℕ) (last : Option (List ℕ)) where
   -- an old row in its place
   pub pass-old : (o : Option (List Entry)) (old row : List ℕ) (rows : List (List ℕ)) (b : Bool) → p < n → isSoundRow old ≡ true
       → b ≡ isAfter last (rowKey old)
-      → passes n before p marks last (beforeOthers (entry p (some old)) o) (row ∷ rows) ≡ (b && passes n before (p + 1) marks (some (rowKey old)) o rows)
-  unfolding passes restoredFrom placesRise placesBelow newMarks
+      → passesFrom n before p marks last (beforeOthers (entry p (some old)) o) (row ∷ rows) ≡ (b && passesFrom n before (p + 1) marks (some (rowKey old)) o rows)
+  unfolding passesFrom restoredFrom placesRise placesBelow newMarks
   pass-old none old row rows b h s e = sym (and-false b)
   pass-old (some es) old row rows b h s e =
       let f = behind-step last old (restoredFrom (suc p) es rows) b s e in
@@ -106,8 +106,8 @@ module _ (n before p marks : ℕ) (last : Option (List ℕ)) where
       (swap (placesBelow n es && eqb (before + (marks + newMarks es)) n) b (placesRise (suc p) es) (soundBehind (some (rowKey old)) (restoredFrom (suc p) es rows)))
 
   pub pass-unsound : (o : Option (List Entry)) (old row : List ℕ) (rows : List (List ℕ)) → isSoundRow old ≡ false
-      → passes n before p marks last (beforeOthers (entry p (some old)) o) (row ∷ rows) ≡ false
-  unfolding passes restoredFrom placesRise placesBelow newMarks
+      → passesFrom n before p marks last (beforeOthers (entry p (some old)) o) (row ∷ rows) ≡ false
+  unfolding passesFrom restoredFrom placesRise placesBelow newMarks
   pass-unsound none old row rows s = refl
   pass-unsound (some es) old row rows s =
       let f = behind-unsound last old (restoredFrom (suc p) es rows) s in
@@ -115,25 +115,25 @@ module _ (n before p marks : ℕ) (last : Option (List ℕ)) where
       (gone ((ltb p n && placesBelow n es) && eqb (before + (marks + (0 + newMarks es))) n) (leb p p && placesRise (suc p) es))
 
   -- a place before this one
-  pub pass-low : (e : Entry) (o : Option (List Entry)) (rows : List (List ℕ)) → e .place < p → passes n before p marks last (beforeOthers e o) rows ≡ false
-  unfolding passes placesRise
+  pub pass-low : (e : Entry) (o : Option (List Entry)) (rows : List (List ℕ)) → e .place < p → passesFrom n before p marks last (beforeOthers e o) rows ≡ false
+  unfolding passesFrom placesRise
   pass-low e none rows h = refl
   pass-low e (some es) rows h =
       rw (lt-leb p (e .place) h) (and-false (placesBelow n (e ∷ es) && eqb (before + (marks + newMarks (e ∷ es))) n))
 
   -- a place behind the last
-  pub pass-far : (e : Entry) (o : Option (List Entry)) (rows : List (List ℕ)) → n ≤ e .place → passes n before p marks last (beforeOthers e o) rows ≡ false
-  unfolding passes placesBelow
+  pub pass-far : (e : Entry) (o : Option (List Entry)) (rows : List (List ℕ)) → n ≤ e .place → passesFrom n before p marks last (beforeOthers e o) rows ≡ false
+  unfolding passesFrom placesBelow
   pass-far e none rows h = refl
   pass-far e (some es) rows h = rw (le-ltb (e .place) n h)
 
-  pub pass-none : (o : Option (List Entry)) (rows : List (List ℕ)) → o ≡ none → passes n before p marks last o rows ≡ false
-  unfolding passes
+  pub pass-none : (o : Option (List Entry)) (rows : List (List ℕ)) → o ≡ none → passesFrom n before p marks last o rows ≡ false
+  unfolding passesFrom
   pass-none o rows e = rw e
 
   -- behind the last place
-  pub pass-end : passes n before p marks last (some []) [] ≡ eqb (before + marks) n
-  unfolding passes placesBelow newMarks placesRise restoredFrom soundBehind
+  pub pass-end : passesFrom n before p marks last (some []) [] ≡ eqb (before + marks) n
+  unfolding passesFrom placesBelow newMarks placesRise restoredFrom soundBehind
   pass-end =
       let a : before + (marks + 0) ≡ before + marks = omega arith in
       rw a (go last (eqb (before + marks) n))
@@ -151,8 +151,8 @@ unfolding areSoundRows soundBehind
 start-sound rows = refl
 
 pub pass-start : (j : Journal) (rows : List (List ℕ)) (n : ℕ) → length rows ≡ n → j .after ≡ n
-    → canTakeBack (some j) rows ≡ passes n (j .before) 0 0 none (some (j .entries)) rows
-unfolding canTakeBack fits passes
+    → canTakeBack (some j) rows ≡ passesFrom n (j .before) 0 0 none (some (j .entries)) rows
+unfolding canTakeBack fits passesFrom
 pass-start j rows n l e =
     let a : 0 + newMarks (j .entries) ≡ newMarks (j .entries) = omega arith in
     rw (l, e, eq-eqb n n refl, start-sound (restored j rows), a)

@@ -18,7 +18,7 @@ use Rattle.journal.specs.Numbers.{Read, unread, read, readNumber}
 use Rattle.journal.specs.Journal.{Entry, Journal, journal, ReadEntry, noEntry, oneEntry, readEntry, entriesIn, beforeOthers, withCounts, behindAfter, behindBefore, journalIn}
 use Rattle.takeback.specs.Restored.{newMarks, placesBelow, fits, canTakeBack}
 use Rattle.journal.specs.Reading.{reach, OutOfReach, NumberRead, IsNumber, IsNumberAt}
-use Rattle.takeback.specs.Testing.{passes, IsLast, rowIn, GoesOn, GoesOnOrFails, PlaceTested, CountsRead, IsCounts, IsCountsIf}
+use Rattle.takeback.specs.Testing.{passesFrom, IsLast, rowIn, GoesOn, GoesOnOrFails, PlaceTested, CountsRead, IsCounts, IsCountsIf}
 use Rattle.journal.specs.declared.numbers.Number.{Number}
 use Rattle.takeback.specs.declared.testing.Tested.{Tested}
 use Rattle.takeback.specs.declared.testing.Counts.{Counts}
@@ -33,8 +33,8 @@ pub record Testing (m : List ℕ) (n : ℕ) (journal : List ℕ) (before at₀ :
   pub few : s .marks ≤ p
   pub last : Option (List ℕ)
   pub last-is : IsLast s last
-  pub same : passes n before p (s .marks) last (entriesIn (drop (s .at) journal)) (drop p (rowsOf n m))
-      ≡ passes n before 0 0 none (entriesIn (drop at₀ journal)) (rowsOf n m)
+  pub same : passesFrom n before p (s .marks) last (entriesIn (drop (s .at) journal)) (drop p (rowsOf n m))
+      ≡ passesFrom n before 0 0 none (entriesIn (drop at₀ journal)) (rowsOf n m)
 
 pub testing-none : (m : List ℕ) (n : ℕ) (journal : List ℕ) (before at : ℕ) (s : Tested) → s .at ≡ at → s .marks ≡ 0 → s .held ≡ false → at ≤ length journal
     → Testing m n journal before at s 0
@@ -62,9 +62,9 @@ module _ (m : List ℕ) (n : ℕ) (journal : List ℕ) (before at₀ : ℕ) (s :
     goes = f .tested n before (t .last) (drop (p + 1) (rowsOf n m)) few l (t .last-is) row-sound
 
     -- a test failed
-    pub testing-stop : not (r .ok) ≡ true → false ≡ passes n before 0 0 none (entriesIn (drop at₀ journal)) (rowsOf n m)
+    pub testing-stop : not (r .ok) ≡ true → false ≡ passesFrom n before 0 0 none (entriesIn (drop at₀ journal)) (rowsOf n m)
     testing-stop e =
-        let g : passes n before p (s .marks) (t .last) (entriesIn (drop (s .at) journal)) (rowIn m p ∷ drop (p + 1) (rowsOf n m)) ≡ false =
+        let g : passesFrom n before p (s .marks) (t .last) (entriesIn (drop (s .at) journal)) (rowIn m p ∷ drop (p + 1) (rowsOf n m)) ≡ false =
         rw (not-true (r .ok) e) at goes in
         sym (sym (t .same) ∙ rw row-is g)
 
@@ -79,7 +79,7 @@ module _ (m : List ℕ) (n : ℕ) (journal : List ℕ) (before at₀ : ℕ) (s :
           few = omega (arith, f .few o, t .few);
           last = g .now-last;
           last-is = g .last-is;
-          same = sym (g .same) ∙ sym (ap (passes n before p (s .marks) (t .last) (entriesIn (drop (s .at) journal))) row-is) ∙ t .same;
+          same = sym (g .same) ∙ sym (ap (passesFrom n before p (s .marks) (t .last) (entriesIn (drop (s .at) journal))) row-is) ∙ t .same;
         }
 
   module _ (k : n ≤ p) where
@@ -87,23 +87,23 @@ module _ (m : List ℕ) (n : ℕ) (journal : List ℕ) (before at₀ : ℕ) (s :
     no-rows = drop-of-length-le (rowsOf n m) {i = p} (rw (length-blocks 200 n m) k)
 
     -- an entry is left
-    pub testing-left : s .at < length journal → false ≡ passes n before 0 0 none (entriesIn (drop at₀ journal)) (rowsOf n m)
+    pub testing-left : s .at < length journal → false ≡ passesFrom n before 0 0 none (entriesIn (drop at₀ journal)) (rowsOf n m)
     testing-left l = sym (sym (t .same) ∙ go (readEntry (drop (s .at) journal)) refl)
       where
         side : (e : Entry) (o : Option (List Entry)) (rows : List (List ℕ)) (b : Bool) → ltb (e .place) p ≡ b
-            → passes n before p (s .marks) (t .last) (beforeOthers e o) rows ≡ false
+            → passesFrom n before p (s .marks) (t .last) (beforeOthers e o) rows ≡ false
         side e o rows true b = pass-low n before p (s .marks) (t .last) e o rows (ltb-true (e .place) p b)
         side e o rows false b = pass-far n before p (s .marks) (t .last) e o rows (omega (arith, ltb-false (e .place) p b))
 
         go : (r : ReadEntry) → readEntry (drop (s .at) journal) ≡ r
-            → passes n before p (s .marks) (t .last) (entriesIn (drop (s .at) journal)) (drop p (rowsOf n m)) ≡ false
+            → passesFrom n before p (s .marks) (t .last) (entriesIn (drop (s .at) journal)) (drop p (rowsOf n m)) ≡ false
         go noEntry y =
             pass-none n before p (s .marks) (t .last) (entriesIn (drop (s .at) journal)) (drop p (rowsOf n m))
             (entries-bad (drop (s .at) journal) (rw length-drop (omega arith)) y)
         go (oneEntry e bs) y =
             rw (entries-next (drop (s .at) journal) e bs y) (side e (entriesIn bs) (drop p (rowsOf n m)) (ltb (e .place) p) refl)
 
-    pub testing-end : length journal ≤ s .at → eqb (n - s .marks) before ≡ passes n before 0 0 none (entriesIn (drop at₀ journal)) (rowsOf n m)
+    pub testing-end : length journal ≤ s .at → eqb (n - s .marks) before ≡ passesFrom n before 0 0 none (entriesIn (drop at₀ journal)) (rowsOf n m)
     testing-end l =
         let j : entriesIn (drop (s .at) journal) ≡ some [] = rw (drop-of-length-le journal {i = s .at} l) (entries-none [] refl) in
         let e : eqb (n - s .marks) before ≡ eqb (before + s .marks) n = turned (eqb (before + s .marks) n) refl in
@@ -195,9 +195,9 @@ module _ (m : List ℕ) (n : ℕ) (bytes : List ℕ) (c : Counts) (i : IsCounts 
       sym (rw (has-counts e .is) (after-far (c .before) (c .after) (entriesIn (drop (c .at) bytes)) (rowsOf n m) (rw rows-count h)))
 
   pub taken-passes : not (c .found) ≡ false → c .after ≡ n
-      → passes n (c .before) 0 0 none (entriesIn (drop (c .at) bytes)) (rowsOf n m) ≡ canTakeBack (journalIn bytes) (rowsOf n m)
+      → passesFrom n (c .before) 0 0 none (entriesIn (drop (c .at) bytes)) (rowsOf n m) ≡ canTakeBack (journalIn bytes) (rowsOf n m)
   taken-passes e a = sym (rw (has-counts e .is) (go (entriesIn (drop (c .at) bytes))))
     where
-      go : (o : Option (List Entry)) → canTakeBack (withCounts (c .before) (c .after) o) (rowsOf n m) ≡ passes n (c .before) 0 0 none o (rowsOf n m)
+      go : (o : Option (List Entry)) → canTakeBack (withCounts (c .before) (c .after) o) (rowsOf n m) ≡ passesFrom n (c .before) 0 0 none o (rowsOf n m)
       go none = no-journal (rowsOf n m) ∙ sym (pass-none n (c .before) 0 0 none none (rowsOf n m) refl)
       go (some es) = pass-start (journal (c .before) (c .after) es) (rowsOf n m) n rows-count a

@@ -5,15 +5,16 @@ use mathlib.Core.Bool.{Bool, true, false, cond, _&&_}
 use mathlib.Core.Option.{Option, none, some}
 use lib.Dec.{ltb, leb, eqb}
 use lib.ListN.{length}
+use Rattle.text.specs.Options.{oneOrNone}
 use Rattle.casemaster.specs.Master.{areSoundRows}
-use Rattle.journal.specs.Journal.{Entry, Journal, rowOrNone}
+use Rattle.journal.specs.Journal.{Entry, Journal}
 
 -- the rows left of those from a place on: without those marked 00, and with the old row for those marked 01
 unfoldable pub restoredFrom : ℕ → List Entry → List (List ℕ) → List (List ℕ)
 restoredFrom place [] rows = rows
 restoredFrom place (e ∷ es) [] = []
 restoredFrom place (e ∷ es) (row ∷ rows) =
-    cond (eqb (e .place) place) (rowOrNone (e .old) ++ restoredFrom (suc place) es rows) (row ∷ restoredFrom (suc place) (e ∷ es) rows)
+    cond (eqb (e .place) place) (oneOrNone (e .old) ++ restoredFrom (suc place) es rows) (row ∷ restoredFrom (suc place) (e ∷ es) rows)
 
 -- places in strictly rising order, from one on
 unfoldable pub placesRise : ℕ → List Entry → Bool

@@ -33,9 +33,9 @@ unfoldable pub soundBehind : Option (List ℕ) → List (List ℕ) → Bool
 soundBehind last rows = every isSoundRow rows && rising (withLast last (keysOf rows))
 
 -- the tests that are left from place p of n on, where `marks` marks 00 were met before: over the entries still to come and the rows from p on
-unfoldable pub passes : ℕ → ℕ → ℕ → ℕ → Option (List ℕ) → Option (List Entry) → List (List ℕ) → Bool
-passes n before p marks last none rows = false
-passes n before p marks last (some es) rows =
+unfoldable pub passesFrom : ℕ → ℕ → ℕ → ℕ → Option (List ℕ) → Option (List Entry) → List (List ℕ) → Bool
+passesFrom n before p marks last none rows = false
+passesFrom n before p marks last (some es) rows =
     (placesBelow n es && eqb (before + (marks + newMarks es)) n) && (placesRise p es && soundBehind last (restoredFrom p es rows))
 
 -- twelve bytes, by the numbers of the first eight and of the last four
@@ -76,12 +76,12 @@ rowIn m p = take 200 (drop (p * 200) m)
 pub record GoesOn (n before : ℕ) (m : List ℕ) (p : ℕ) (journal : List ℕ) (s r : Tested) (last : Option (List ℕ)) (rows : List (List ℕ)) : Type 0 where
   pub now-last : Option (List ℕ)
   pub last-is : IsLast r now-last
-  pub same : passes n before p (s .marks) last (entriesIn (drop (s .at) journal)) (rowIn m p ∷ rows)
-      ≡ passes n before (p + 1) (r .marks) now-last (entriesIn (drop (r .at) journal)) rows
+  pub same : passesFrom n before p (s .marks) last (entriesIn (drop (s .at) journal)) (rowIn m p ∷ rows)
+      ≡ passesFrom n before (p + 1) (r .marks) now-last (entriesIn (drop (r .at) journal)) rows
 
 abbrev pub GoesOnOrFails : Bool → ℕ → ℕ → List ℕ → ℕ → List ℕ → Tested → Tested → Option (List ℕ) → List (List ℕ) → Type 0
 GoesOnOrFails true n before m p journal s r last rows = GoesOn n before m p journal s r last rows
-GoesOnOrFails false n before m p journal s r last rows = passes n before p (s .marks) last (entriesIn (drop (s .at) journal)) (rowIn m p ∷ rows) ≡ false
+GoesOnOrFails false n before m p journal s r last rows = passesFrom n before p (s .marks) last (entriesIn (drop (s .at) journal)) (rowIn m p ∷ rows) ≡ false
 
 pub record PlaceTested (m : List ℕ) (p : ℕ) (journal : List ℕ) (s r : Tested) : Type 0 where
   pub inside : r .ok ≡ true → r .at ≤ length journal

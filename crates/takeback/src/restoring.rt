@@ -1,5 +1,6 @@
 // Rows restored: those that a journal marks 01 replaced, those that it marks 00 left out, the rest moved down, from the first place on.
 use casemaster::master;
+use casemaster::master::ROW_WIDTH;
 use journal::entries;
 use text::fields;
 ghost use Prim.Native.Nat.{_+_, _*_, _≤_, _<_};
@@ -15,7 +16,8 @@ pub struct Position {
 // A place that keeps its row.
 fn row_kept(m: &mut [u8], p: usize, journal: &[u8], s: Position) -> Position
     requires { ⌜ (p * 200 + 200 ≤ length (now m)) × (s .to ≤ p) × (s .at ≤ length (now journal)) ⌝ }
-    ensures { λ r. ⌜ ((c : CanRestore (now (journal .entry)) (s .at) p) → IsLater p (c .entries) → PlaceRestored (now (m .entry)) p (now (journal .entry)) s (now (m .exit)) r (c .entries)) ⌝ }
+    ensures { λ r. ⌜ ((c : CanRestore (now (journal .entry)) (s .at) p) → IsLater p (c .entries)
+        → PlaceRestored (now (m .entry)) p (now (journal .entry)) s (now (m .exit)) r (c .entries)) ⌝ }
 {
     let to = s.to;
     if p == to {
@@ -36,7 +38,8 @@ fn row_kept(m: &mut [u8], p: usize, journal: &[u8], s: Position) -> Position
 fn entry_restored(m: &mut [u8], p: usize, journal: &[u8], s: Position) -> Position
     requires { ⌜ (p * 200 + 200 ≤ length (now m)) × (s .to ≤ p) × (s .at < length (now journal)) ⌝ }
     requires { ⌜ CanRestore (now journal) (s .at) p ⌝ }
-    ensures { λ r. ⌜ ((c : CanRestore (now (journal .entry)) (s .at) p) → PlaceRestored (now (m .entry)) p (now (journal .entry)) s (now (m .exit)) r (c .entries)) ⌝ }
+    ensures { λ r. ⌜ ((c : CanRestore (now (journal .entry)) (s .at) p)
+        → PlaceRestored (now (m .entry)) p (now (journal .entry)) s (now (m .exit)) r (c .entries)) ⌝ }
 {
     let at = s.at;
     let to = s.to;
@@ -49,8 +52,8 @@ fn entry_restored(m: &mut [u8], p: usize, journal: &[u8], s: Position) -> Positi
     if e.new {
         return Position { at: e.next, to };
     }
-    let end = o + 200;
-    fields::copy_in(m, to * master::ROW_WIDTH, &journal[o..end]);
+    let end = o + ROW_WIDTH;
+    fields::copy_in(m, to * ROW_WIDTH, &journal[o..end]);
     Position {
         at: e.next,
         to: to + 1,
@@ -61,7 +64,8 @@ fn entry_restored(m: &mut [u8], p: usize, journal: &[u8], s: Position) -> Positi
 fn place_restored(m: &mut [u8], p: usize, journal: &[u8], s: Position) -> Position
     requires { ⌜ (p * 200 + 200 ≤ length (now m)) × (s .to ≤ p) × (s .at ≤ length (now journal)) ⌝ }
     requires { ⌜ CanRestore (now journal) (s .at) p ⌝ }
-    ensures { λ r. ⌜ ((c : CanRestore (now (journal .entry)) (s .at) p) → PlaceRestored (now (m .entry)) p (now (journal .entry)) s (now (m .exit)) r (c .entries)) ⌝ }
+    ensures { λ r. ⌜ ((c : CanRestore (now (journal .entry)) (s .at) p)
+        → PlaceRestored (now (m .entry)) p (now (journal .entry)) s (now (m .exit)) r (c .entries)) ⌝ }
 {
     let at = s.at;
     if at < journal.len() {

@@ -1,4 +1,5 @@
 // Refusal 26: a journal tested against a master, place by place, in one walk over both.
+use casemaster::master::ROW_WIDTH;
 use casemaster::refusals;
 use journal::entries;
 use journal::numbers;
@@ -14,7 +15,7 @@ ghost use Rattle.casemaster.specs.Master.{rowsOf, areSoundRows};
 ghost use Rattle.journal.specs.Journal.{entriesIn, journalIn};
 ghost use Rattle.takeback.specs.Restored.{canTakeBack};
 ghost use Rattle.journal.specs.Reading.{reach};
-ghost use Rattle.takeback.specs.Testing.{passes, IsCounts, IsLastIn, isAfter, IsKeyNumbers, Followed, OldFollowed, PlaceTested};
+ghost use Rattle.takeback.specs.Testing.{passesFrom, IsCounts, IsLastIn, isAfter, IsKeyNumbers, Followed, OldFollowed, PlaceTested};
 
 // How far the test has come: whether it passed so far, the index of the next entry, the marks 00 met, and the key of the last row that
 // would be left, if there is one, as the numbers of its first eight bytes and of its last four.
@@ -74,7 +75,7 @@ fn old_followed(journal: &[u8], o: usize, s: Tested, at: usize) -> Tested
     requires { ⌜ o + 200 ≤ length (now journal) ⌝ }
     ensures { λ r. ⌜ OldFollowed (now (journal .entry)) o at s r ⌝ }
 {
-    let end = o + 200;
+    let end = o + ROW_WIDTH;
     if refusals::master_refusal(&journal[o..end], 1) != 0 {
         return failed(s);
     }
@@ -97,7 +98,7 @@ fn entry_tested(m: &[u8], p: usize, journal: &[u8], s: Tested) -> Tested
         return failed(s);
     }
     if p < place {
-        return followed(m, p * 200, s, at);
+        return followed(m, p * ROW_WIDTH, s, at);
     }
     if e.new {
         return Tested {
@@ -121,13 +122,13 @@ fn place_tested(m: &[u8], p: usize, journal: &[u8], s: Tested) -> Tested
     if at < journal.len() {
         return entry_tested(m, p, journal, s);
     }
-    followed(m, p * 200, s, at)
+    followed(m, p * ROW_WIDTH, s, at)
 }
 
 // Every place, then that no entry is left and as many marks were 00 as the count grew.
 fn all_tested(m: &[u8], n: usize, journal: &[u8], before: usize, at: usize) -> bool
     requires { ⌜ (n * 200 ≤ length (now m)) × (areSoundRows (rowsOf n (now m)) ≡ true) × (at ≤ length (now journal)) × (n ≤ reach) ⌝ }
-    ensures { λ r. ⌜ r ≡ passes n before 0 0 none (entriesIn (drop at (now (journal .entry)))) (rowsOf n (now (m .entry))) ⌝ }
+    ensures { λ r. ⌜ r ≡ passesFrom n before 0 0 none (entriesIn (drop at (now (journal .entry)))) (rowsOf n (now (m .entry))) ⌝ }
 {
     let mut s = Tested {
         ok: true,

@@ -23,7 +23,7 @@ use Rattle.batch.specs.Apply.{IsOutcome, callRows, applyRun}
 use Rattle.batch.proofs.ApplyLaws.{apply-done, apply-refused}
 use Rattle.batch.proofs.CarriedLaws.{start-fit, rows-read}
 use Rattle.journaledapply.specs.Journaled.{JournaledCall, refusal25, journaledRefusal, callJournal, JournaledOutcome, journaledLent, journaledRun, journaledOutcome, lengthWritten, besideJournal}
-use Rattle.takingback.specs.TakenBack.{rowsBefore, takenBack, journalLeft}
+use Rattle.takingback.specs.TakenBack.{rowsAtEntry, takenBack, journalLeft}
 use Rattle.takingback.specs.JournaledBatch.{journalWritten, IsDone, EveryJournaledBatch, EveryBuffer, JournalLength, EnoughRoom, SameAsPlain, DoneAsPlain}
 use Rattle.takingback.proofs.LeftLaws.{length-over, before-limit, after-limit, entries-few}
 use Rattle.takingback.proofs.TakenBackProof.{every-batch}
@@ -72,7 +72,7 @@ module _ (j : JournaledCall) (o : JournaledOutcome) (d : IsDone j o) where
 
   left : callJournal (j .call) ≡ journalLeft (j .call) (besideJournal o)
   unfolding callJournal
-  left = ap (λ (rows : List (List ℕ)). journalBytes (journalOf (rowsBefore (j .call)) rows)) (sym (rows-read (j .call) (besideJournal o) is-outcome beside-done))
+  left = ap (λ (rows : List (List ℕ)). journalBytes (journalOf (rowsAtEntry (j .call)) rows)) (sym (rows-read (j .call) (besideJournal o) is-outcome beside-done))
 
   bound : (k : ℕ) → j .call .limit < 128 ^ suc k
       → length (callJournal (j .call)) ≤ suc k + suc k + (suc k + 201) * detailCount (j .call .batch)
@@ -82,7 +82,7 @@ module _ (j : JournaledCall) (o : JournaledOutcome) (d : IsDone j o) where
       let p = besideJournal o in
       let i = is-outcome in
       let t = beside-done in
-      let a = journal-length k (rowsBefore c) (callRows c) (start-fit c p i t .wide) (omega (arith, before-limit c p i t))
+      let a = journal-length k (rowsAtEntry c) (callRows c) (start-fit c p i t .wide) (omega (arith, before-limit c p i t))
       (omega (arith, after-limit c p i t)) in
       let b = mul-le-mul-left (suc k + 201) (entries-few c p i t) in
       omega (arith, a, b)

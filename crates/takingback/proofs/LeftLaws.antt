@@ -33,7 +33,7 @@ use Rattle.batch.specs.Call.{Call, callSettings}
 use Rattle.batch.specs.Apply.{ApplyOutcome, IsOutcome, rowCount, callRows}
 use Rattle.batch.proofs.KnownLaws.{Known}
 use Rattle.batch.proofs.CarriedLaws.{carried-known, start-fit, records, end-fit, count-read, master-read, rows-read}
-use Rattle.takingback.specs.TakenBack.{rowsBefore, HasRowsLeft}
+use Rattle.takingback.specs.TakenBack.{rowsAtEntry, HasRowsLeft}
 
 -- a run that ends without a row began without one
 run-none : (setting : Setting) (o : Option (List ℕ)) (details : List (List ℕ)) → runRow setting o details ≡ none → o ≡ none
@@ -45,10 +45,10 @@ are-wide : (rows : List (List ℕ)) → All IsWide rows → AreWide rows
 are-wide [] w = tt
 are-wide (row ∷ rows) w = (w .0, are-wide rows (w .1))
 
-length-joined : (rows : List (List ℕ)) → All IsWide rows → length (joined rows) ≡ length rows * 200
+length-rows : (rows : List (List ℕ)) → All IsWide rows → length (joined rows) ≡ length rows * 200
 unfolding joined
-length-joined [] w = refl
-length-joined (row ∷ rows) w = length-append row (joined rows) ∙ omega (arith, w .0, length-joined rows (w .1))
+length-rows [] w = refl
+length-rows (row ∷ rows) w = length-append row (joined rows) ∙ omega (arith, w .0, length-rows rows (w .1))
 
 pub length-over : (new old : List ℕ) → length new ≤ length old → length (over new old) ≡ length old
 unfolding over
@@ -61,10 +61,10 @@ unfolding refusal3
 passes-3 limit master rows a b c = rw (eq-eqb (length master % 200) 0 a, le-ltb (length master / 200) rows b, le-ltb limit rows c)
 
 -- and 4 too
-passes : (limit : ℕ) (master : List ℕ) (rows : ℕ) → refusal3 limit master rows ≡ false → areSoundRows (rowsOf rows master) ≡ true
+passes-4 : (limit : ℕ) (master : List ℕ) (rows : ℕ) → refusal3 limit master rows ≡ false → areSoundRows (rowsOf rows master) ≡ true
     → masterRefusal limit master rows 0 ≡ 0
 unfolding masterRefusal refusal4
-passes limit master rows a s = rw (a, s)
+passes-4 limit master rows a s = rw (a, s)
 
 -- each detail makes at most one more entry
 count-after : (settings : Settings) (old rows : List (List ℕ)) (d : List ℕ) → entryCount old (afterDetail settings rows d) ≤ suc (entryCount old rows)
@@ -83,45 +83,45 @@ module _ (c : Call) (o : ApplyOutcome) (i : IsOutcome c o) (t : isCarriedOut (o 
   facts = carried-known c o i t
 
   -- as many rows as there is room for
-  few : length (callRows c) ≤ c .rows + addsWithoutRow (rowsBefore c) (detailsOf (c .batch))
+  few : length (callRows c) ≤ c .rows + addsWithoutRow (rowsAtEntry c) (detailsOf (c .batch))
   few =
       omega (
         arith,
-        final-few (callSettings c) (facts .list) (rowsBefore c) (detailsOf (c .batch)) (records c o i t) (start-fit c o i t .wide) (start-fit c o i t .sound),
+        final-few (callSettings c) (facts .list) (rowsAtEntry c) (detailsOf (c .batch)) (records c o i t) (start-fit c o i t .wide) (start-fit c o i t .sound),
         length-blocks 200 (c .rows) (c .master),
       )
 
   -- rows keep to the limit, before and after
-  pub before-limit : length (rowsBefore c) ≤ c .limit
+  pub before-limit : length (rowsAtEntry c) ≤ c .limit
   before-limit = omega (arith, length-blocks 200 (c .rows) (c .master), facts .rows-limit)
 
   pub after-limit : length (callRows c) ≤ c .limit
   after-limit = omega (arith, few, facts .room-limit)
 
   -- at most one entry for each detail
-  pub entries-few : entryCount (rowsBefore c) (callRows c) ≤ detailCount (c .batch)
+  pub entries-few : entryCount (rowsAtEntry c) (callRows c) ≤ detailCount (c .batch)
   unfolding detailsOf
   entries-few =
       omega (
         arith,
-        count-final (callSettings c) (rowsBefore c) (rowsBefore c) (detailsOf (c .batch)),
-        count-start (rowsBefore c) (rows-rise (rowsBefore c) (start-fit c o i t .sound)),
+        count-final (callSettings c) (rowsAtEntry c) (rowsAtEntry c) (detailsOf (c .batch)),
+        count-start (rowsAtEntry c) (rows-rise (rowsAtEntry c) (start-fit c o i t .sound)),
         length-blocks 245 (detailCount (c .batch)) (c .batch),
       )
 
   same-length : length (o .buffers .master) ≡ length (c .master)
   same-length =
       ap length (master-read c o i t)
-      ∙ length-over (joined (callRows c)) (c .master) (omega (arith, length-joined (callRows c) (end-fit c o i t .wide), few, facts .room))
+      ∙ length-over (joined (callRows c)) (c .master) (omega (arith, length-rows (callRows c) (end-fit c o i t .wide), few, facts .room))
 
-  follows : Follows (rowsBefore c) (callRows c)
+  follows : Follows (rowsAtEntry c) (callRows c)
   follows =
       record {
-        old-rise = rows-rise (rowsBefore c) (start-fit c o i t .sound);
+        old-rise = rows-rise (rowsAtEntry c) (start-fit c o i t .sound);
         new-rise = rows-rise (callRows c) (end-fit c o i t .sound);
         stays = λ key e.
-            run-none (settingUnder (callSettings c) key) (rowWith key (rowsBefore c)) (detailsUnder key (detailsOf (c .batch)))
-            (sym (found-final (callSettings c) key (rowsBefore c) (detailsOf (c .batch)) (records c o i t) (start-fit c o i t .wide)) ∙ e);
+            run-none (settingUnder (callSettings c) key) (rowWith key (rowsAtEntry c)) (detailsUnder key (detailsOf (c .batch)))
+            (sym (found-final (callSettings c) key (rowsAtEntry c) (detailsOf (c .batch)) (records c o i t) (start-fit c o i t .wide)) ∙ e);
       }
 
   pub own-passes : refusal3 (c .limit) (o .buffers .master) (rowCount (o .answer)) ≡ false
@@ -129,17 +129,17 @@ module _ (c : Call) (o : ApplyOutcome) (i : IsOutcome c o) (t : isCarriedOut (o 
       passes-3 (c .limit) (o .buffers .master) (rowCount (o .answer)) (ap (λ (n : ℕ). n % 200) same-length ∙ facts .master-whole)
       (omega (arith, count-read c o i t, few, facts .room, same-length)) (omega (arith, count-read c o i t, after-limit))
 
-  pub left-by : (master : List ℕ) → HasRowsLeft c o master → IsLeftBy (c .limit) (rowsBefore c) master (rowCount (o .answer))
+  pub left-by : (master : List ℕ) → HasRowsLeft c o master → IsLeftBy (c .limit) (rowsAtEntry c) master (rowCount (o .answer))
   left-by master h =
       let e : rowsOf (rowCount (o .answer)) master ≡ callRows c = h .rows ∙ rows-read c o i t in
       record {
-        wide = are-wide (rowsBefore c) (start-fit c o i t .wide);
+        wide = are-wide (rowsAtEntry c) (start-fit c o i t .wide);
         sound = start-fit c o i t .sound;
         passed =
-            passes (c .limit) master (rowCount (o .answer)) (h .passes-3)
+            passes-4 (c .limit) master (rowCount (o .answer)) (h .passes-3)
             (subst (λ (rows : List (List ℕ)). areSoundRows rows ≡ true) (sym e) (end-fit c o i t .sound));
-        follows = subst (λ (rows : List (List ℕ)). Follows (rowsBefore c) rows) (sym e) follows;
+        follows = subst (λ (rows : List (List ℕ)). Follows (rowsAtEntry c) rows) (sym e) follows;
       }
 
-  pub count-before : length (rowsBefore c) ≡ c .rows
+  pub count-before : length (rowsAtEntry c) ≡ c .rows
   count-before = length-blocks 200 (c .rows) (c .master)

@@ -15,12 +15,12 @@ use Rattle.batch.specs.Call.{Call}
 use Rattle.batch.specs.Apply.{ApplyOutcome, IsOutcome, rowCount, rowsLeft}
 
 -- the rows at entry
-abbrev pub rowsBefore : Call → List (List ℕ)
-rowsBefore c = rowsOf (c .rows) (c .master)
+abbrev pub rowsAtEntry : Call → List (List ℕ)
+rowsAtEntry c = rowsOf (c .rows) (c .master)
 
 -- the journal of the call
 abbrev pub journalLeft : Call → ApplyOutcome → List ℕ
-journalLeft c o = journalBytes (journalOf (rowsBefore c) (rowsLeft o))
+journalLeft c o = journalBytes (journalOf (rowsAtEntry c) (rowsLeft o))
 
 -- a master with the rows and the row count that the batch left; its buffer may be of another length, if 3 lets it pass, and the bytes behind
 -- the rows may be any
@@ -34,7 +34,7 @@ takenBack c o master journal = takeBackOutcome (c .limit) master (rowCount (o .a
 
 -- carried out, with the old row count and the old rows; the bytes past them are those of the master handed in
 abbrev pub asBefore : Call → List ℕ → TakeBackOutcome
-asBefore c master = record { answer = done (c .rows); buffers = over (joined (rowsBefore c)) master }
+asBefore c master = record { answer = done (c .rows); buffers = over (joined (rowsAtEntry c)) master }
 
 abbrev pub EveryBatch : Type 0
 EveryBatch =

@@ -11,7 +11,7 @@ use lib.ListN.{length, getD, take, drop, length-append, length-take, length-drop
 use lib.Seq.{drop-cons, drop-drop, length-take-le, take-at, drop-at, take-take, getD-take, getD-drop}
 use borrow.Author.Tests.{eqb-true}
 use Rattle.text.specs.Characters.{isDigit}
-use Rattle.text.specs.Fields.{every, any, columns, placed, Inside, allDigits, areDigits}
+use Rattle.text.specs.Fields.{every, atLeastOne, columns, placed, Inside, allDigits, areDigits}
 use Rattle.text.specs.Blocks.{spliced}
 
 -- ---- two tests
@@ -39,13 +39,13 @@ module _ (f : ℕ → Bool) (s : List ℕ) (i : ℕ) where
   pub every-tail : i < length s → every f (drop i s) ≡ true → every f (drop (i + 1) s) ≡ true
   every-tail h t = and-right (f (getD s i 0)) (every f (drop (i + 1) s)) (sym (every-step h) ∙ t)
 
-  pub any-pass : i < length s → f (getD s i 0) ≡ true → any f (drop i s) ≡ true
+  pub any-pass : i < length s → f (getD s i 0) ≡ true → atLeastOne f (drop i s) ≡ true
   any-pass h t = rw (drop-cons s i 0 h, t)
 
-  pub any-fail : i < length s → f (getD s i 0) ≡ false → any f (drop i s) ≡ any f (drop (i + 1) s)
+  pub any-fail : i < length s → f (getD s i 0) ≡ false → atLeastOne f (drop i s) ≡ atLeastOne f (drop (i + 1) s)
   any-fail h t = rw (drop-cons s i 0 h, t, add-one i)
 
-  pub any-end : length s ≤ i → any f (drop i s) ≡ false
+  pub any-end : length s ≤ i → atLeastOne f (drop i s) ≡ false
   any-end h = rw (drop-of-length-le s h)
 
 -- a test that each byte passes, each of any columns passes

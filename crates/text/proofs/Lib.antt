@@ -14,3 +14,4 @@ pub mod SumLaws
 pub mod WidthLaws
 pub mod WordLaws
 pub mod PartsLaws
+pub mod ZerosLaws

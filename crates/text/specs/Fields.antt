@@ -26,9 +26,9 @@ every f [] = true
 every f (x ∷ xs) = f x && every f xs
 
 -- at least one byte passes the test
-abbrev pub any : (ℕ → Bool) → List ℕ → Bool
-any f [] = false
-any f (b ∷ bs) = f b || any f bs
+abbrev pub atLeastOne : (ℕ → Bool) → List ℕ → Bool
+atLeastOne f [] = false
+atLeastOne f (b ∷ bs) = f b || atLeastOne f bs
 
 -- blank: every byte is a space
 unfoldable pub isBlank : List ℕ → Bool

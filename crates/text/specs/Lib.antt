@@ -3,3 +3,4 @@ pub mod ByteNumbers
 pub mod ByteOrder
 pub mod Characters
 pub mod Fields
+pub mod Options

@@ -46,7 +46,8 @@ pub fn put(dst: &mut [u8], c: Columns, src: &[u8])
 
 // Copies the columns `from` of src into the columns `to` of dst, which are as many.
 pub fn copy(dst: &mut [u8], to: Columns, src: &[u8], from: Columns)
-    requires { ⌜ (Inside (to .first) (to .last) (now dst)) × (Inside (from .first) (from .last) (now src)) × (to .last + from .first ≡ from .last + to .first) ⌝ }
+    requires { ⌜ (Inside (to .first) (to .last) (now dst))
+        × (Inside (from .first) (from .last) (now src)) × (to .last + from .first ≡ from .last + to .first) ⌝ }
     ensures { λ _. ⌜ now (dst .exit) ≡ placed (to .first) (to .last) (columns (from .first) (from .last) (now (src .entry))) (now (dst .entry)) ⌝ }
 {
     put(dst, to, field(src, from));

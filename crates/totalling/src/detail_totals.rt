@@ -1,10 +1,9 @@
 // The totals that the details of a batch give, whatever its last record says.
+use batchfile::refusals;
 use batchfile::totals;
-use layout::limits::MAX_RECORDS;
 use layout::records::RECORD_WIDTH;
 ghost use mathlib.Core.Path.{_≡_};
 ghost use Rattle.layout.specs.Limits.{maxRows};
-ghost use Rattle.batchfile.specs.Refusals.{refusal5};
 ghost use Rattle.totalling.specs.DetailTotals.{totalledAs, totalsAnswer};
 
 // The answer of the call: the two counts and the two amounts, or the number of the refusal.
@@ -18,19 +17,11 @@ pub enum Totalled {
     Refused(u64),
 }
 
-// Refusal 5: a batch that is empty, no multiple of a record's width, or of too many records.
-fn is_wrong_length(batch: &[u8]) -> bool
-    ensures { λ r. ⌜ r ≡ refusal5 maxRows (now (batch .entry)) ⌝ }
-{
-    let n = batch.len();
-    (n == 0) | (n % RECORD_WIDTH != 0) | (MAX_RECORDS < n / RECORD_WIDTH)
-}
-
 // The counts and amounts of a batch's details, under each case type.
 pub fn total(batch: &[u8]) -> Totalled
     ensures { λ r. ⌜ totalledAs r ≡ totalsAnswer maxRows (now (batch .entry)) ⌝ }
 {
-    if is_wrong_length(batch) {
+    if refusals::is_wrong_length(batch) {
         return Totalled::Refused(5);
     }
     let details = batch.len() / RECORD_WIDTH - 1;

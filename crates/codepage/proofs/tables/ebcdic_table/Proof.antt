@@ -2,12 +2,12 @@
 -- Assumes nothing.
 use mathlib.Core.Path.{refl}
 use Rattle.codepage.specs.CodePage.{characters, codeAmong, ebcdicOf}
-use Rattle.codepage.specs.Tables.{entriesFrom, tableOf}
+use Rattle.codepage.specs.Tables.{tableFrom, tableOf}
 use Rattle.codepage.proofs.tables.ebcdic_table.Statement.{statement}
 use Rattle.codepage.proofs.tables.ebcdic_table.Tie as tie
 
 returns : tie.Need-returns
-unfolding characters codeAmong ebcdicOf entriesFrom tableOf
+unfolding characters codeAmong ebcdicOf tableFrom tableOf
 returns c = refl
 
 pub ebcdic-table-spec : {M : Type 1} → statement M

@@ -10,22 +10,18 @@ use Rattle.contactupdate.proofs.noting.note_record.Tie as tie
 is-faulty-requires : tie.Need-is-faulty-requires
 is-faulty-requires c κs = search needs
 
-mul-faulty : tie.Need-mul-faulty
-mul-faulty c = search needs
-
-slice-write-faulty : tie.Need-slice-write-faulty
-slice-write-faulty c = search needs
-
-add-result : tie.Need-add-result
-add-result c = search needs
+list-number-requires : tie.Need-list-number-requires
+list-number-requires c κs = search needs
 
 same-length : tie.Need-same-length
 same-length c = search needs
 
 returns : tie.Need-returns
 returns c =
-    let e = sym (c .before .is-faulty .ensures) ∙ c .if1 .taken in
-    ((rw e), (rw e), (rw e))
+    let n = c .before .before in
+    let t = n .before .before in
+    let e = sym (t .before .is-faulty .ensures) ∙ t .if1 .taken in
+    (rw e (n .list-number .ensures .0), rw e, rw e (n .list-number .ensures .1))
 
 key-number-requires : tie.Need-key-number-requires
 key-number-requires c κs =
@@ -50,9 +46,7 @@ note-record-spec =
     tie.close
     (tie.spec
     is-faulty-requires
-    mul-faulty
-    slice-write-faulty
-    add-result
+    list-number-requires
     same-length
     returns
     key-number-requires

@@ -1,5 +1,6 @@
 -- `work`: what the passes leave is what the merge needs (`ready`), and the merge is each record in turn (`new-table`). Assumes nothing.
-use Rattle.contactupdate.proofs.MarksLaws.{zeros-get, flag-small}
+use Rattle.text.proofs.ZerosLaws.{zeros-get}
+use Rattle.contactupdate.proofs.MarksLaws.{flag-small}
 use Rattle.contactupdate.proofs.ReadyLaws.{ready, new-count, new-table}
 use Rattle.contacttable.specs.Table.{contactsOf}
 use lib.ListN.{replicate, length-replicate}

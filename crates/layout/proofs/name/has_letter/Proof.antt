@@ -4,14 +4,14 @@ use Prim.Native.Nat.{_-_, _≤_}
 use lib.ListN.{length, drop}
 use borrow.Author.Needs.{needs}
 use Rattle.text.specs.Characters.{isLetter}
-use Rattle.text.specs.Fields.{any}
+use Rattle.text.specs.Fields.{atLeastOne}
 use Rattle.layout.specs.Name.{hasLetter}
 use Rattle.text.proofs.FieldsLaws.{any-pass, any-fail, any-end}
 use Rattle.layout.proofs.name.has_letter.Statement.{statement}
 use Rattle.layout.proofs.name.has_letter.Tie as tie
 
 abbrev Inv-loop : tie.InvT-loop
-Inv-loop s i₀ i = (i ≤ length s) × (any isLetter s ≡ any isLetter (drop i s))
+Inv-loop s i₀ i = (i ≤ length s) × (atLeastOne isLetter s ≡ atLeastOne isLetter (drop i s))
 
 abbrev μ-loop : tie.MeasureT-loop
 μ-loop s i₀ i = length s - i

@@ -8,36 +8,31 @@ use Rattle.posting.proofs.post.note.Tie as tie
 returns : tie.Need-returns
 returns c = search needs
 
-add-lines : tie.Need-add-lines
-add-lines c = omega (arith, list-number, c .before .pre .1)
+add-list-number : tie.Need-add-list-number
+add-list-number c = omega (arith, list-number, c .before .before .before .pre .1)
 
-cast-lines : tie.Need-cast-lines
-cast-lines c = omega (arith, list-number, c .before .pre .1)
+cast-list-number : tie.Need-cast-list-number
+cast-list-number c = omega (arith, list-number, c .before .before .before .pre .1)
 
-mul-lines : tie.Need-mul-lines
-mul-lines c = search needs
-
-slice-write-lines : tie.Need-slice-write-lines
-slice-write-lines c = search needs
-
-add-result : tie.Need-add-result
-add-result c = search needs
+list-number-requires : tie.Need-list-number-requires
+list-number-requires c κs = search needs
 
 same-length : tie.Need-same-length
 same-length c = search needs
 
 returns-2 : tie.Need-returns-2
-returns-2 c = (rw (c .if1 .left), rw (c .if1 .left))
+returns-2 c =
+    let n = c .before .before in
+    let e = n .before .before .if1 .left in
+    (rw e (n .list-number .ensures .0), rw e (n .list-number .ensures .1))
 
 pub note-spec : {M : Type 1} → statement M
 note-spec =
     tie.close
     (tie.spec
     returns
-    add-lines
-    cast-lines
-    mul-lines
-    slice-write-lines
-    add-result
+    add-list-number
+    cast-list-number
+    list-number-requires
     same-length
     returns-2)
