@@ -5,7 +5,7 @@ use mathlib.Core.List.{List, [], _∷_, _++_}
 use mathlib.Core.Bool.{true, false}
 use mathlib.Core.Option.{none, some}
 use Rattle.answers.specs.Answer.{Leaves, Refuses}
-use Rattle.text.specs.Characters.{space, zeroDigit, A, D, H, I, L, M, N, O, S, T}
+use Rattle.text.specs.Characters.{space, zeroDigit, A, D, H, I, L, M, N, O, S, letterT}
 use Rattle.text.specs.Fields.{digitField, spaces}
 use Rattle.casemaster.specs.Row.{isSoundRow}
 use Rattle.collectionfile.specs.Line.{amountCents}
@@ -17,7 +17,7 @@ use Rattle.posting.specs.Post.{PostBuffers, postOutcome, postCall}
 -- a row of OH, SSN 123456789, N, SMITH
 unfoldable pub row : ℕ → ℕ → ℕ → List ℕ
 row dollars cents status =
-    (O ∷ H ∷ []) ++ digitField 9 123456789 ++ (N ∷ []) ++ digitField 3 0 ++ spaces 15 ++ (S ∷ M ∷ I ∷ T ∷ H ∷ []) ++ spaces 15
+    (O ∷ H ∷ []) ++ digitField 9 123456789 ++ (N ∷ []) ++ digitField 3 0 ++ spaces 15 ++ (S ∷ M ∷ I ∷ letterT ∷ H ∷ []) ++ spaces 15
     ++ spaces 15 ++ digitField 8 dollars ++ spaces 5 ++ digitField 12 0 ++ spaces 104 ++ (0 ∷ status ∷ []) ++ digitField 2 cents ++ spaces 2
 
 -- a line of that key with two amount fields
@@ -38,7 +38,7 @@ last adjustments collections = lastOf totalText adjustments collections
 
 -- TOTAL, three spaces and a zero
 abbrev pub wrongText : List ℕ
-wrongText = T ∷ O ∷ T ∷ A ∷ L ∷ space ∷ space ∷ space ∷ zeroDigit ∷ []
+wrongText = letterT ∷ O ∷ letterT ∷ A ∷ L ∷ space ∷ space ∷ space ∷ zeroDigit ∷ []
 
 -- ten zeros and a last byte
 unfoldable pub field : ℕ → List ℕ

@@ -4,7 +4,7 @@ use Prim.Native.Nat.{ℕ, _+_}
 use mathlib.Core.List.{List, [], _∷_}
 use mathlib.Core.Bool.{Bool, cond, _&&_, _||_}
 use lib.Dec.{eqb}
-use Rattle.text.specs.Characters.{A, C, L, M, N, T}
+use Rattle.text.specs.Characters.{A, C, L, M, N, letterT}
 use Rattle.text.specs.Fields.{columns, isBlank, allDigits, areDigits, number, sameBytes}
 use Rattle.layout.specs.States.{isState}
 use Rattle.layout.specs.ChartA1.{arrearage}
@@ -13,7 +13,7 @@ use Rattle.layout.specs.Record.{isType, caseTypeOf}
 
 -- the letters CTL
 abbrev pub CTL : List ℕ
-CTL = C ∷ T ∷ L ∷ []
+CTL = C ∷ letterT ∷ L ∷ []
 
 -- columns 3–5 are CTL
 unfoldable pub hasCTL : List ℕ → Bool

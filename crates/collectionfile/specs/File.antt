@@ -5,7 +5,7 @@ use mathlib.Core.Bool.{Bool, not, cond, _&&_, _||_}
 use lib.Dec.{eqb, ltb}
 use lib.ListN.{length, take, drop}
 use Rattle.answers.specs.Answer.{refuseIf}
-use Rattle.text.specs.Characters.{space, A, L, O, T}
+use Rattle.text.specs.Characters.{space, A, L, O, letterT}
 use Rattle.text.specs.Fields.{areDigits, number, sameBytes}
 use Rattle.text.specs.Blocks.{blocks}
 use Rattle.collectionfile.specs.Chart04.{lineWidth}
@@ -31,7 +31,7 @@ refusal22 limit file = eqb (length file) 0 || not (eqb (length file % lineWidth)
 
 -- TOTAL and four spaces
 abbrev pub totalText : List ℕ
-totalText = T ∷ O ∷ T ∷ A ∷ L ∷ space ∷ space ∷ space ∷ space ∷ []
+totalText = letterT ∷ O ∷ letterT ∷ A ∷ L ∷ space ∷ space ∷ space ∷ space ∷ []
 
 -- the number of lines with an amount above zero (a bad one is zero)
 unfoldable pub linesAbove : (List ℕ → ℕ) → List (List ℕ) → ℕ

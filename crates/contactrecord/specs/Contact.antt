@@ -4,7 +4,7 @@ use mathlib.Core.List.{List, [], _∷_}
 use mathlib.Core.Bool.{Bool, true, not, cond, _&&_, _||_}
 use lib.ListN.{length, getD}
 use lib.Dec.{eqb}
-use Rattle.text.specs.Characters.{space, hyphen, isDigit, A, C, D, F, H, I, L, M, O, P, R, S, T, U, Y}
+use Rattle.text.specs.Characters.{space, hyphen, isDigit, A, C, D, F, H, I, L, M, O, P, R, S, letterT, U, Y}
 use Rattle.text.specs.Fields.{columns, isBlank, allDigits, areDigits}
 use Rattle.layout.specs.States.{isState}
 use Rattle.contactrecord.specs.ChartA3.{contactState, contactCode, telephone1, extension1, telephone2, extension2, agencyName, contactLine1, contactLine2, contactLine3, contactLine4, contactFiller}
@@ -44,10 +44,10 @@ areTelephones rec =
     && ((isBlank (telephone2 rec) || isTelephone (telephone2 rec)) && isExtension (extension2 rec)))
 
 abbrev pub childSupport : List ℕ
-childSupport = C ∷ H ∷ I ∷ L ∷ D ∷ space ∷ S ∷ U ∷ P ∷ P ∷ O ∷ R ∷ T ∷ []
+childSupport = C ∷ H ∷ I ∷ L ∷ D ∷ space ∷ S ∷ U ∷ P ∷ P ∷ O ∷ R ∷ letterT ∷ []
 
 abbrev pub familySupport : List ℕ
-familySupport = F ∷ A ∷ M ∷ I ∷ L ∷ Y ∷ space ∷ S ∷ U ∷ P ∷ P ∷ O ∷ R ∷ T ∷ []
+familySupport = F ∷ A ∷ M ∷ I ∷ L ∷ Y ∷ space ∷ S ∷ U ∷ P ∷ P ∷ O ∷ R ∷ letterT ∷ []
 
 -- the agency name contains CHILD SUPPORT or FAMILY SUPPORT
 unfoldable pub isAgencyName : List ℕ → Bool

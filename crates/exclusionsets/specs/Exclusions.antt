@@ -5,7 +5,7 @@ use mathlib.Core.Bool.{Bool, cond, _||_}
 use mathlib.Core.Option.{Option, none, some}
 use lib.Bits.{bitOr}
 use lib.Dec.{eqb, ltb}
-use Rattle.text.specs.Characters.{comma, space, A, C, D, E, F, I, K, L, M, N, P, R, S, T, «V», X}
+use Rattle.text.specs.Characters.{comma, space, A, C, D, E, F, I, K, L, M, N, P, R, S, letterT, letterV, X}
 use Rattle.text.specs.Fields.{sameBytes, spaces, unlessEmpty}
 use Rattle.exclusionsets.specs.declared.exclusions.Exclusions.{Exclusions}
 use Rattle.exclusionsets.specs.declared.exclusions.Exclusions.the-variants.{Set, Failure}
@@ -13,8 +13,8 @@ use Rattle.exclusionsets.specs.declared.exclusions.Exclusions.the-varian
 -- the set's bits, lowest first: ADM RET VEN SAL TAX PAS FIN DCK
 unfoldable pub exclusionNames : List (List ℕ)
 exclusionNames =
-    (A ∷ D ∷ M ∷ []) ∷ (R ∷ E ∷ T ∷ []) ∷ («V» ∷ E ∷ N ∷ []) ∷ (S ∷ A ∷ L ∷ []) ∷
-    (T ∷ A ∷ X ∷ []) ∷ (P ∷ A ∷ S ∷ []) ∷ (F ∷ I ∷ N ∷ []) ∷ (D ∷ C ∷ K ∷ []) ∷ []
+    (A ∷ D ∷ M ∷ []) ∷ (R ∷ E ∷ letterT ∷ []) ∷ (letterV ∷ E ∷ N ∷ []) ∷ (S ∷ A ∷ L ∷ []) ∷
+    (letterT ∷ A ∷ X ∷ []) ∷ (P ∷ A ∷ S ∷ []) ∷ (F ∷ I ∷ N ∷ []) ∷ (D ∷ C ∷ K ∷ []) ∷ []
 
 -- commas and spaces divide the field into words
 unfoldable pub isSeparator : ℕ → Bool

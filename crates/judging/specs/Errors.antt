@@ -5,7 +5,7 @@ use mathlib.Core.List.{List, [], _∷_, _++_}
 use mathlib.Core.Bool.{Bool, true, false, not, cond, _&&_, _||_}
 use mathlib.Core.Option.{Option, none, some}
 use lib.Dec.{ltb}
-use Rattle.text.specs.Characters.{isLetter, zeroDigit, A, B, C, L, M, R, S, T, Z}
+use Rattle.text.specs.Characters.{isLetter, zeroDigit, A, B, C, L, M, R, S, letterT, Z}
 use Rattle.text.specs.Fields.{columns, isBlank, areDigits, number, sameBytes, isOneOf}
 use Rattle.layout.specs.States.{isState}
 use Rattle.layout.specs.Ssn.{wrongSsn}
@@ -79,7 +79,7 @@ error11 rec = isType C rec && isBlank (columns 15 29 rec)
 
 -- 12 (T): 75–76 not in the table
 unfoldable pub error12 : List ℕ → Bool
-error12 rec = isType T rec && not (isState (columns 75 76 rec))
+error12 rec = isType letterT rec && not (isState (columns 75 76 rec))
 
 -- 13 (S): 80–83 not four digits Y with year − 7 ≤ Y ≤ year
 unfoldable pub error13 : ℕ → List ℕ → Bool

@@ -13,7 +13,7 @@ use lib.ListN.{length, take, drop, getD, set, length-append, length-drop, length
 use lib.Seq.{getD-take, length-take-le, take-at, drop-at}
 use Rattle.sorting.specs.Sorting.{sorted}
 use Rattle.sorting.proofs.SortingLaws.{Different, length-sorted}
-use Rattle.text.specs.Characters.{A, B, C, D, L, M, R, S, T, Z}
+use Rattle.text.specs.Characters.{A, B, C, D, L, M, R, S, letterT, Z}
 use Rattle.layout.specs.Codes.{numberOfCodes}
 use Rattle.layout.specs.Record.{recordKey, typeOf}
 use Rattle.judging.specs.Front.{frontErrors}
@@ -89,11 +89,11 @@ kind-chain false false false false false false false false false false = (refl, 
 
 pub kind-add : (t : ℕ) → eqb (kindOf t) 0 ≡ eqb t A
 unfolding kindOf
-kind-add t = kind-chain (eqb t A) (eqb t B) (eqb t C) (eqb t D) (eqb t L) (eqb t M) (eqb t R) (eqb t S) (eqb t T) (eqb t Z) .0
+kind-add t = kind-chain (eqb t A) (eqb t B) (eqb t C) (eqb t D) (eqb t L) (eqb t M) (eqb t R) (eqb t S) (eqb t letterT) (eqb t Z) .0
 
 pub kind-rename : (t : ℕ) → eqb (kindOf t) 1 ≡ (not (eqb t A) && eqb t B)
 unfolding kindOf
-kind-rename t = kind-chain (eqb t A) (eqb t B) (eqb t C) (eqb t D) (eqb t L) (eqb t M) (eqb t R) (eqb t S) (eqb t T) (eqb t Z) .1
+kind-rename t = kind-chain (eqb t A) (eqb t B) (eqb t C) (eqb t D) (eqb t L) (eqb t M) (eqb t R) (eqb t S) (eqb t letterT) (eqb t Z) .1
 
 b-only : (t : ℕ) → (not (eqb t A) && eqb t B) ≡ eqb t B
 b-only t = go (eqb t B) refl

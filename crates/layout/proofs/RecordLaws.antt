@@ -7,7 +7,7 @@ use native.Mathlib.Omega.{arith}
 use lib.Dec.{eqb, lit≤}
 use lib.ListN.{length, getD, length-append}
 use lib.Seq.{getD-append-add}
-use Rattle.text.specs.Characters.{A, B, C, D, L, M, R, S, T, Z}
+use Rattle.text.specs.Characters.{A, B, C, D, L, M, R, S, letterT, Z}
 use Rattle.text.specs.Fields.{columns}
 use Rattle.text.proofs.FieldsLaws.{length-columns, one-column}
 use Rattle.text.proofs.ColumnsLaws.{columns-between}
@@ -51,7 +51,7 @@ module _ (rec : List ℕ) (e : length rec ≡ 245) where
 
 -- a record of one of the ten types
 pub known-type : (rec : List ℕ) (kind : ℕ) → typeOf rec ≡ kind
-    → (eqb kind A || eqb kind B || eqb kind C || eqb kind D || eqb kind L || eqb kind M || eqb kind R || eqb kind S || eqb kind T || eqb kind Z) ≡ true
+    → (eqb kind A || eqb kind B || eqb kind C || eqb kind D || eqb kind L || eqb kind M || eqb kind R || eqb kind S || eqb kind letterT || eqb kind Z) ≡ true
     → isKnownType rec ≡ true
 unfolding isKnownType
 known-type rec kind e t = rw e t

@@ -4,7 +4,7 @@ use mathlib.Core.List.{List, _++_}
 use mathlib.Core.Bool.{Bool, _||_}
 use lib.ListN.{getD}
 use lib.Dec.{eqb}
-use Rattle.text.specs.Characters.{A, B, C, D, L, M, R, S, T, Z}
+use Rattle.text.specs.Characters.{A, B, C, D, L, M, R, S, letterT, Z}
 use Rattle.layout.specs.ChartA1.{sentState, ssn, caseType}
 
 -- its key is columns 1–2, 6–14, 74, sound or not
@@ -22,7 +22,7 @@ isType t rec = eqb (typeOf rec) t
 unfoldable pub isKnownType : List ℕ → Bool
 isKnownType rec =
     isType A rec || isType B rec || isType C rec || isType D rec || isType L rec || isType M rec || isType R rec || isType S rec
-    || isType T rec || isType Z rec
+    || isType letterT rec || isType Z rec
 
 -- column 74, the case type, and column 50, the first letter of the first name
 abbrev pub caseTypeOf : List ℕ → ℕ

@@ -6,7 +6,7 @@ use mathlib.Core.List.{List}
 use mathlib.Core.Bool.{Bool, true, false, cond}
 use mathlib.Core.Option.{Option, none, some}
 use lib.ListN.{length}
-use Rattle.text.specs.Characters.{A, B, C, D, L, M, R, S, T}
+use Rattle.text.specs.Characters.{A, B, C, D, L, M, R, S, letterT}
 use Rattle.text.specs.Fields.{columns}
 use Rattle.layout.specs.Locals.{isLocalList}
 use Rattle.casemaster.specs.Row.{isLive, isSoundRow}
@@ -72,7 +72,7 @@ each-change P rec row h =
     (either P (isType M rec) (amended rec row) _ (h .of-amended)
     (either P (isType R rec) (excluded rec row) _ (λ t. h .of-excluded)
     (either P (isType S rec) (paid rec row) _ (h .of-paid)
-    (either P (isType T rec) (transferred rec row) (readdressed rec row) (λ t. h .of-transferred)
+    (either P (isType letterT rec) (transferred rec row) (readdressed rec row) (λ t. h .of-transferred)
     (h .of-readdressed))))))))
 
 -- with no error: a fresh row, a live row certified again, or a live row changed

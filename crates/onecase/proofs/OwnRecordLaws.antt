@@ -7,7 +7,7 @@ use mathlib.Core.Option.{some}
 use borrow.Author.Tests.{not-true}
 use lib.Dec.{eqb, lit≤}
 use lib.ListN.{length}
-use Rattle.text.specs.Characters.{A, B, C, D, L, M, R, S, T, Z}
+use Rattle.text.specs.Characters.{A, B, C, D, L, M, R, S, letterT, Z}
 use Rattle.text.specs.Fields.{columns, isBlank, areDigits}
 use Rattle.text.proofs.BoolLaws.{or-left, or-right}
 use Rattle.text.proofs.SameLaws.{eq-same}
@@ -34,11 +34,11 @@ pub record Sent (kind : ℕ) (row rec : List ℕ) : Type 0 where
 
 -- a type that is none of A, B, S, T and Z
 pub record IsKind (kind : ℕ) : Type 0 where
-  pub known : (eqb kind A || eqb kind B || eqb kind C || eqb kind D || eqb kind L || eqb kind M || eqb kind R || eqb kind S || eqb kind T || eqb kind Z) ≡ true
+  pub known : (eqb kind A || eqb kind B || eqb kind C || eqb kind D || eqb kind L || eqb kind M || eqb kind R || eqb kind S || eqb kind letterT || eqb kind Z) ≡ true
   pub no-a : eqb kind A ≡ false
   pub no-b : eqb kind B ≡ false
   pub no-s : eqb kind S ≡ false
-  pub no-t : eqb kind T ≡ false
+  pub no-t : eqb kind letterT ≡ false
   pub no-z : eqb kind Z ≡ false
 
 -- no error that goes by the record's own field

@@ -5,7 +5,7 @@ use mathlib.Core.Path.{_≡_}
 use mathlib.Core.List.{List}
 use mathlib.Core.Bool.{cond}
 use mathlib.Core.Option.{Option, none, some}
-use Rattle.text.specs.Characters.{A, B, C, D, L, M, R, S, T}
+use Rattle.text.specs.Characters.{A, B, C, D, L, M, R, S, letterT}
 use Rattle.casemaster.specs.Row.{isLive}
 use Rattle.layout.specs.Record.{isType}
 use Rattle.onecase.specs.Verdict.{isAccepted, judgement, meaning, saysAccepted}
@@ -25,7 +25,7 @@ changed rec row =
     (cond (isType M rec) (amended rec row)
     (cond (isType R rec) (excluded rec row)
     (cond (isType S rec) (paid rec row)
-    (cond (isType T rec) (transferred rec row)
+    (cond (isType letterT rec) (transferred rec row)
     (readdressed rec row))))))))
 
 -- A: with no row, or a deleted one, a fresh row

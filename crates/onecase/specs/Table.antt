@@ -6,7 +6,7 @@ use mathlib.Core.List.{List, [], _∷_, _++_}
 use mathlib.Core.Bool.{true, false}
 use mathlib.Core.Option.{Option, none, some}
 use lib.ListN.{length}
-use Rattle.text.specs.Characters.{isLetter, space, hyphen, comma, A, D, E, F, H, I, J, L, M, N, O, P, R, S, T, X}
+use Rattle.text.specs.Characters.{isLetter, space, hyphen, comma, A, D, E, F, H, I, J, L, M, N, O, P, R, S, letterT, X}
 use Rattle.text.specs.Fields.{placed, digitField, spaces, sameBytes}
 use Rattle.layout.specs.Ssn.{wrongSsn}
 use Rattle.layout.specs.Name.{isName}
@@ -31,7 +31,7 @@ abbrev pub ohio : List ℕ
 ohio = O ∷ H ∷ []
 
 abbrev pub smith : List ℕ
-smith = S ∷ M ∷ I ∷ T ∷ H ∷ []
+smith = S ∷ M ∷ I ∷ letterT ∷ H ∷ []
 
 abbrev pub john : List ℕ
 john = J ∷ O ∷ H ∷ N ∷ []
@@ -127,14 +127,14 @@ blank = []
 
 -- `RET,PAS FIN`
 abbrev pub threeWords : List ℕ
-threeWords = R ∷ E ∷ T ∷ comma ∷ P ∷ A ∷ S ∷ space ∷ F ∷ I ∷ N ∷ []
+threeWords = R ∷ E ∷ letterT ∷ comma ∷ P ∷ A ∷ S ∷ space ∷ F ∷ I ∷ N ∷ []
 
 -- `,,TAX`
 abbrev pub oneWord : List ℕ
-oneWord = comma ∷ comma ∷ T ∷ A ∷ X ∷ []
+oneWord = comma ∷ comma ∷ letterT ∷ A ∷ X ∷ []
 
 abbrev pub RETPAS : List ℕ
-RETPAS = R ∷ E ∷ T ∷ P ∷ A ∷ S ∷ []
+RETPAS = R ∷ E ∷ letterT ∷ P ∷ A ∷ S ∷ []
 
 -- ---- the records of line (i)
 

@@ -3,7 +3,7 @@ use Prim.Native.Nat.{ℕ, _-_}
 use mathlib.Core.List.{List, [], _∷_, _++_}
 use lib.Count.{ones}
 use lib.ListN.{getD}
-use Rattle.text.specs.Characters.{A, C, E, L, O, S, T}
+use Rattle.text.specs.Characters.{A, C, E, L, O, S, letterT}
 use Rattle.text.specs.Fields.{digitField, spaces}
 use Rattle.casemaster.specs.Row.{rowKey, rowLocalCode, rowLastName, rowFirstName, rowArrearage, rowExclusions}
 
@@ -30,7 +30,7 @@ abbrev pub CASES : List ℕ
 CASES = C ∷ A ∷ S ∷ E ∷ S ∷ []
 
 abbrev pub TOTAL : List ℕ
-TOTAL = T ∷ O ∷ T ∷ A ∷ L ∷ []
+TOTAL = letterT ∷ O ∷ letterT ∷ A ∷ L ∷ []
 
 -- the heading is CASES, a space and the digits of page number, filled with spaces
 unfoldable pub heading : ℕ → List ℕ

@@ -6,7 +6,7 @@ use lib.Dec.{eqb, ltb}
 use lib.ListN.{length, getD}
 use Rattle.answers.specs.Answer.{refuseIf, Answer, refused, done, Outcome, Run, outcomeBy}
 use Rattle.layout.specs.Limits.{maxRows}
-use Rattle.text.specs.Characters.{A, C, E, N, R, T}
+use Rattle.text.specs.Characters.{A, C, E, N, R, letterT}
 use Rattle.text.specs.Fields.{columns, sameBytes, digitField, spaces}
 use Rattle.layout.specs.States.{isState}
 use Rattle.dates.specs.Calendar.{isDate}
@@ -26,7 +26,7 @@ abbrev pub REC : List ℕ
 REC = R ∷ E ∷ C ∷ []
 
 abbrev pub RCT : List ℕ
-RCT = R ∷ C ∷ T ∷ []
+RCT = R ∷ C ∷ letterT ∷ []
 
 -- the record of a row, Chart 0-6, field behind field; the first name is cut to ten
 unfoldable pub recRecord : List ℕ → List ℕ

@@ -28,7 +28,7 @@ hyphen = 0x60
 abbrev pub comma : ℕ
 comma = 0x6B
 
--- the letters and the digit zero by name, for the text of the papers
+-- the letters and the digit zero by name, for the text of the papers; T is a name of the library, V one of the language
 
 abbrev pub A : ℕ
 A = 0xC1
@@ -87,14 +87,14 @@ R = 0xD9
 abbrev pub S : ℕ
 S = 0xE2
 
-abbrev pub T : ℕ
-T = 0xE3
+abbrev pub letterT : ℕ
+letterT = 0xE3
 
 abbrev pub U : ℕ
 U = 0xE4
 
-abbrev pub «V» : ℕ
-«V» = 0xE5
+abbrev pub letterV : ℕ
+letterV = 0xE5
 
 abbrev pub W : ℕ
 W = 0xE6
