@@ -1,19 +1,23 @@
--- Laws of a record's key: a good record has a sound one, it is the state and the code, and its bytes say whether it is sound.
+-- Laws of a record's key: a good record has a sound one, it is the state and the code, and its bytes say whether it is sound; and of IRS and FMS
+-- in its fields.
 -- Assumes nothing.
-use mathlib.Core.Path.{_≡_, sym, ap, _∙_}
-use mathlib.Core.Bool.{true, false, not, _&&_}
+use mathlib.Core.Path.{_≡_, refl, sym, ap, _∙_}
+use mathlib.Core.Bool.{Bool, true, false, not, _&&_, true≢false}
 use mathlib.Core.List.{List, _++_}
-use Prim.Native.Nat.{ℕ}
+use Prim.Native.Nat.{ℕ, _+_}
 use native.Mathlib.Omega.{arith}
-use lib.ListN.{take, drop, take-append-drop}
-use lib.Seq.{take-take}
+use lib.Dec.{lit<}
+use lib.ListN.{length, take, drop, take-append-drop, length-drop}
+use lib.Seq.{take-take, take-all, drop-drop}
 use borrow.Author.Tests.{not-false}
-use Rattle.text.specs.Fields.{areDigits, isBlank}
+use Rattle.text.specs.Fields.{columns, areDigits, isBlank}
 use Rattle.text.proofs.FieldsLaws.{and-left, and-right}
 use Rattle.text.proofs.SplicedLaws.{drop-take}
 use Rattle.layout.specs.States.{isState}
 use Rattle.contactrecord.specs.ChartA3.{contactState, contactCode, contactKey, agencyName, contactFiller}
-use Rattle.contactrecord.specs.Contact.{isContactKey, areTelephones, isAgencyName, hasIrsOrFms, hasAddress, isFaulty}
+use Rattle.contactrecord.specs.Contact.{isContactKey, areTelephones, isAgencyName, irs, fms, namesIrsOrFms, hasIrsOrFms, hasAddress, isFaulty}
+use Rattle.contactrecord.specs.Wording.{contains}
+use Rattle.contactrecord.proofs.WordingLaws.{not-contained, contains-part}
 
 pub good-key : (rec : List ℕ) → isFaulty rec ≡ false → isContactKey rec ≡ true
 unfolding isFaulty
@@ -51,3 +55,31 @@ module _ (rec : List ℕ) where
 pub same-soundness : (rec other : List ℕ) → contactKey rec ≡ contactKey other → isContactKey rec ≡ isContactKey other
 same-soundness rec other e =
     key-tells rec ∙ ap (λ (k : List ℕ). isState (take 2 k) && areDigits 3 (drop 2 k)) e ∙ sym (key-tells other)
+
+-- ---- IRS or FMS in a field
+
+module _ (rec : List ℕ) (wide : length rec ≡ 220) where
+  -- what the searched columns don't contain no part of them does
+  part-without : (word : List ℕ) (k n : ℕ) → contains word (columns 27 220 rec) ≡ false → contains word (take n (drop (26 + k) rec)) ≡ false
+  part-without word k n f = go (contains word (take n (drop (26 + k) rec))) refl
+    where
+      all-of : columns 27 220 rec ≡ drop 26 rec
+      all-of = take-all 194 (drop 26 rec) (rw (length-drop 26 rec) (omega arith))
+
+      go : (b : Bool) → contains word (take n (drop (26 + k) rec)) ≡ b → contains word (take n (drop (26 + k) rec)) ≡ false
+      go false e = e
+      go true e =
+          let h : contains word (drop 26 rec) ≡ true = contains-part word (drop 26 rec) k n (rw (drop-drop k 26 rec) e) in
+          absurd (true≢false (sym h ∙ rw all-of at f))
+
+  -- a field of those columns has neither
+  field-without : (k n : ℕ) → contains irs (columns 27 220 rec) ≡ false → contains fms (columns 27 220 rec) ≡ false
+      → namesIrsOrFms (take n (drop (26 + k) rec)) ≡ false
+  unfolding namesIrsOrFms
+  field-without k n i f =
+      rw (not-contained irs (take n (drop (26 + k) rec)) (lit< tt) (part-without irs k n i), not-contained fms (take n (drop (26 + k) rec)) (lit< tt) (part-without fms k n f))
+
+  pub none-without : contains irs (columns 27 220 rec) ≡ false → contains fms (columns 27 220 rec) ≡ false → hasIrsOrFms rec ≡ false
+  unfolding hasIrsOrFms
+  none-without i f =
+      rw (field-without 15 35 i f, field-without 50 35 i f, field-without 85 35 i f, field-without 120 35 i f, field-without 155 35 i f)

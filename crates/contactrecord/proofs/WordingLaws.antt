@@ -2,15 +2,16 @@
 use mathlib.Core.Path.{_≡_, refl, sym, ap, _∙_}
 use mathlib.Core.Bool.{Bool, true, false, not, _&&_, _||_, cond, and-true, or-true, or-false, or-assoc}
 use mathlib.Core.List.{List, [], _∷_, _++_}
-use Prim.Native.Nat.{ℕ, suc, _+_, _-_, _≤_, _<_}
+use Prim.Native.Nat.{ℕ, zero, suc, _+_, _-_, _≤_, _<_}
 use native.Mathlib.Numerals.{add-one}
 use native.Mathlib.Omega.{arith}
 use borrow.Author.Tests.{ne-eqb}
-use lib.ListN.{length, getD, take, drop, drop-of-length-le}
+use lib.ListN.{length, getD, take, drop, take-append-drop, drop-of-length-le}
 use lib.Dec.{eqb}
 use lib.Seq.{drop-cons, take-all, take-append-seam, append-snoc}
 use Rattle.text.specs.Characters.{isDigit, isLetter}
 use Rattle.text.specs.Fields.{sameBytes, isOneOf, isBlank, unlessEmpty}
+use Rattle.text.proofs.FieldsLaws.{and-left, and-right}
 use Rattle.text.proofs.PartsLaws.{part-more}
 use Rattle.text.proofs.SameLaws.{same-lengths, same-self, same-eq}
 use Rattle.contactrecord.specs.Wording.{startsWith, contains, runsFrom, hasRun}
@@ -200,3 +201,34 @@ module _ (word s : List ℕ) (a i : ℕ) (n : 0 < length word) (h : a ≤ i) (l 
   run-next true e t u v = run-letter word s a i h l (sym t)
   run-next false true t u v = cc
   run-next false false t u v = run-other word s a i n l (sym t) ∙ (rw (← u))
+
+-- ---- a text contained in a part
+
+starts-take : (text s : List ℕ) (n : ℕ) → sameBytes (take (length text) (take n s)) text ≡ true → sameBytes (take (length text) s) text ≡ true
+unfolding sameBytes
+starts-take [] s n t = refl
+starts-take (x ∷ text) [] zero t = t
+starts-take (x ∷ text) [] (suc n) t = t
+starts-take (x ∷ text) (y ∷ s) zero t = cc
+starts-take (x ∷ text) (y ∷ s) (suc n) t =
+    rw (and-left (eqb y x) (sameBytes (take (length text) (take n s)) text) t)
+    (starts-take text s n (and-right (eqb y x) (sameBytes (take (length text) (take n s)) text) t))
+
+-- in the front
+contains-take : (text s : List ℕ) (n : ℕ) → contains text (take n s) ≡ true → contains text s ≡ true
+unfolding contains startsWith
+contains-take text [] zero t = t
+contains-take text [] (suc n) t = t
+contains-take text (b ∷ s) zero t = cc
+contains-take text (b ∷ s) (suc n) t = go (startsWith text (b ∷ take n s)) refl t (contains-take text s n)
+  where
+    go : (p : Bool) → startsWith text (b ∷ take n s) ≡ p → (p || contains text (take n s)) ≡ true
+        → (contains text (take n s) ≡ true → contains text s ≡ true)
+        → (startsWith text (b ∷ s) || contains text s) ≡ true
+    go true e u k = rw (starts-take text (b ∷ s) (suc n) e)
+    go false e u k = rw (k u) (or-true (startsWith text (b ∷ s)))
+
+-- anywhere
+pub contains-part : (text s : List ℕ) (k n : ℕ) → contains text (take n (drop k s)) ≡ true → contains text s ≡ true
+contains-part text s k n t =
+    rw (take-append-drop k s) at (contains-behind text (take k s) (drop k s) (contains-take text (drop k s) n t))

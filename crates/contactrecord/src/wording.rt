@@ -57,7 +57,7 @@ fn ends_run(word: &[u8], run: &[u8], letter: bool) -> bool
 }
 
 // Whether a word of three bytes stands at some place of s. The loop never ends early: several places are looked at at a time.
-fn holds_three(s: &[u8], word: &[u8]) -> bool
+pub fn holds_three(s: &[u8], word: &[u8]) -> bool
     requires { ⌜ length (now word) ≡ 3 ⌝ }
     ensures { λ r. ⌜ r ≡ contains (now (word .entry)) (now (s .entry)) ⌝ }
 {
