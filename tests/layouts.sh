@@ -120,23 +120,18 @@ compare 'columns of the Java records' "$(for layout in $layouts; do
         "bindings/java/src/fantanolive/$(pascal "$layout").java"
 done)" "$(fields | cut -d' ' -f1-5)"
 
-# --- The program's own columns: each stands in the table, with its title. That they leave no gap is a test of the program.
-
-# A line `LAYOUT FIRST LAST TITLE` for each field that the program names
-of_program() {
-    tr -s ' \n' ' ' <program/src/records/columns.rs | sed 's/pub mod /\n/g' | sed '1d' | while read -r layout rest; do
-        grep -oE '\b(text|number|amount|field)\( ?"[^"]*", [0-9]+, [0-9]+|\b(ssn|filler)\([0-9]+, [0-9]+' <<<"$rest" |
-            sed -E -e "s/^ssn\(([0-9]+), ([0-9]+)/$layout \1 \2 SSN/" -e "s/^filler\(([0-9]+), ([0-9]+)/$layout \1 \2 Filler/" \
-                -e "s/^[a-z]+\( ?\"([^\"]*)\", ([0-9]+), ([0-9]+)/$layout \2 \3 \1/"
-    done | grep -v '^local_code ' | sort -u
+# The kind by which the program shows a field: its Numbers are the counts and totals of control records
+kind_shown() {
+    awk '$5 == "date" || $5 == "number" && $1 !~ /^(control|reject_control|total|rct)$/ { $5 = "text" } { print $1, $2, $3, $4, $5 }'
 }
-titled() {
-    awk '/^\{"name"/ { split($0, part, "\""); layout = part[4] }
-        /^  \{"name"/ { split($0, part, "\""); match($0, /"first": [0-9]+, "last": [0-9]+/); numbers = substr($0, RSTART, RLENGTH); gsub(/[^0-9 ]/, "", numbers); split(numbers, n, " ")
-            print layout, n[1], n[2], part[8] }' "$table" | sort -u
-}
-compare 'columns of the program that the table has not' "$(comm -23 <(of_program) <(titled))" ''
-compare 'layouts of the program' "$(of_program | cut -d' ' -f1 | sort -u)" "$(printf '%s\n' $layouts | grep -v '^page_' | sort)"
+compare 'columns of the program' \
+    "$(sed -nE -e 's/^pub mod ([a-z_]+) \{$/ \1/p' \
+        -e 's/^    pub const ([A-Z0-9_]+): Field = field\("[^"]*", ([0-9]+), ([0-9]+), Kind::([A-Za-z]+)\);$/\1 \2 \3 \4/p' \
+        program/src/records/columns.rs | awk '/^ / { layout = $1; next } { print layout, $2, $3, tolower($1), tolower($4) }')" \
+    "$(fields | grep -v '^page_' | kind_shown)"
+compare 'fields of the program' \
+    "$(sed -nE -e 's/^pub mod ([a-z_]+) \{$/ \1/p' -e 's/^        ([A-Z0-9_]+),$/\1/p' program/src/records/columns.rs | awk '/^ / { layout = $1; next } { print layout, tolower($1) }')" \
+    "$(fields | grep -v '^page_' | awk '{ print $1, $4 }')"
 
 has_python() {
     python3 -c 'import sys; sys.exit(sys.version_info < (3, 8))' 2>/dev/null

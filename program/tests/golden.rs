@@ -206,3 +206,57 @@ fn converted() {
     assert_eq!(back.status, 0);
     assert_eq!(folder.read("back.bin"), paper_batch());
 }
+
+/// A line and a last record in which every field of Charts 0-4 and 0-5 is full, so that its first and last column show. The library reads
+/// few of these columns.
+#[test]
+fn collection_file_by_its_charts() {
+    let folder = Folder::new("golden-collections");
+    let line = [
+        (1, "OH"),
+        (3, "B-C"),
+        (6, "123456789"),
+        (15, "D-------------E"),
+        (30, "F------------------G"),
+        (50, "H-------------I"),
+        (65, "01000000101"),
+        (76, "01000000202"),
+        (87, "01000000303"),
+        (98, "2001"),
+        (102, "2002"),
+        (106, "J"),
+        (107, "N"),
+        (108, "KY"),
+        (110, "L-M"),
+        (113, "N---------------------------------O"),
+        (148, "P---------------------------------Q"),
+        (183, "R-----------------------S"),
+        (208, "T-------U"),
+        (217, "V-W"),
+        (220, "10404"),
+        (225, "X"),
+        (226, "Y"),
+        (227, "Z--------A"),
+        (237, "B--C"),
+    ];
+    let last = [
+        (1, "OH"),
+        (3, "D-E"),
+        (6, "TOTAL    "),
+        (15, "F------------------G"),
+        (35, "000000000000001"),
+        (50, "000000000000002"),
+        (65, "01000000303"),
+        (76, "01000000404"),
+        (87, "01000000505"),
+        (98, "01000000606"),
+        (109, "H"),
+        (240, "I"),
+    ];
+    folder.write(
+        "weekly.bin",
+        &[filled(240, &line), filled(240, &last)].concat(),
+    );
+    let show = ["show", "collections", "weekly.bin", "--list"];
+    compare(&folder, &show, 0, "show-collections.txt");
+}

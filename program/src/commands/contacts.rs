@@ -32,7 +32,7 @@ line 4 not blank, and the filler blank.";
 const FIELDS: [(&str, Field); 3] = [
     ("state", contact::STATE),
     ("local_code", contact::LOCAL_CODE),
-    ("agency_name", contact::AGENCY),
+    ("agency_name", contact::AGENCY_NAME),
 ];
 
 pub fn run(arguments: &Arguments, progress: &Progress) -> Result<Status, Failure> {
@@ -189,5 +189,5 @@ fn put_line(form: &Form, record: &[u8], text: &mut String) {
     form.put(&contact::STATE, record, text);
     form.put(&contact::LOCAL_CODE, record, text);
     text.push_str("  ");
-    form.put(&contact::AGENCY, record, text);
+    form.put(&contact::AGENCY_NAME, record, text);
 }

@@ -70,7 +70,7 @@ impl CaseChange {
 
     /// The fields of the row that a record changes.
     pub fn changed_by(&self, record: &[u8]) -> Vec<Field> {
-        let is_of = |kind: &&str| argument(kind.as_bytes()) == detail::TYPE.of(record);
+        let is_of = |kind: &&str| argument(kind.as_bytes()) == detail::TRANSACTION_TYPE.of(record);
         let found = TYPES.iter().find(|(kind, _)| is_of(&kind));
         let written = found.map_or(&[][..], |(_, fields)| fields);
         let changed = written.iter().filter(|field| self.differs(field));

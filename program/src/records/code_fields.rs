@@ -11,7 +11,7 @@ const ADDRESS: u32 = 14;
 
 /// An address that is right, by its parts: the lines, the city, the state and the ZIP code.
 const PARTS: [(&[Field], &str); 4] = [
-    (&[detail::ADDRESS_1, detail::ADDRESS_2], "A"),
+    (&[detail::ADDRESS_LINE_1, detail::ADDRESS_LINE_2], "A"),
     (&[detail::CITY], "A"),
     (&[detail::ADDRESS_STATE], "OH"),
     (&[detail::ZIP], "000000000"),
@@ -22,7 +22,7 @@ pub fn fields_of(code: u32, record: &[u8]) -> Vec<Field> {
     match code {
         1 => vec![detail::STATE],
         2 => vec![detail::SSN],
-        3 => vec![detail::TYPE],
+        3 => vec![detail::TRANSACTION_TYPE],
         4 => vec![detail::CASE_TYPE],
         5 | 17 => vec![detail::LAST_NAME],
         6 => vec![detail::FIRST_NAME],
@@ -46,7 +46,7 @@ fn wrong_parts(record: &[u8]) -> Vec<Field> {
     let is_wrong = |part: &&(&[Field], &str)| {
         let right = PARTS.map(|(fields, text)| (fields[0], text));
         let mut probe = record_of("", &right);
-        for field in [detail::TYPE].iter().chain(part.0) {
+        for field in [detail::TRANSACTION_TYPE].iter().chain(part.0) {
             field.set(&mut probe, field.of(record));
         }
         has_code(judged(&probe).0, ADDRESS)
@@ -81,7 +81,10 @@ mod tests {
 
     #[test]
     fn parts_of_an_address() {
-        let (line, city) = ((detail::ADDRESS_2, "1 MAIN ST"), (detail::CITY, "AKRON"));
+        let (line, city) = (
+            (detail::ADDRESS_LINE_2, "1 MAIN ST"),
+            (detail::CITY, "AKRON"),
+        );
         let (state, zip) = ((detail::ADDRESS_STATE, "OH"), (detail::ZIP, "44301"));
         assert_eq!(wrong("Z", &[line, city, state, zip]), [""; 0]);
         let lines = ["Obligor Address Line 1", "Obligor Address Line 2"];

@@ -1,5 +1,7 @@
 //! The columns of each kind of record, in the words of the charts; those of a row in the words of document 01 where the charts
 //! have none. Columns count from 1.
+//!
+//! Written by bin/generate-layouts from package/layouts.json; not to be edited.
 
 /// How the bytes of a field are shown.
 #[derive(Clone, Copy, Debug, PartialEq, Eq)]
@@ -37,43 +39,33 @@ const fn field(name: &'static str, first: usize, last: usize, kind: Kind) -> Fie
     }
 }
 
-const fn text(name: &'static str, first: usize, last: usize) -> Field {
-    field(name, first, last, Kind::Text)
-}
-
-const fn number(name: &'static str, first: usize, last: usize) -> Field {
-    field(name, first, last, Kind::Number)
-}
-
-const fn ssn(first: usize, last: usize) -> Field {
-    field("SSN", first, last, Kind::Ssn)
-}
-
-const fn amount(name: &'static str, first: usize, last: usize) -> Field {
-    field(name, first, last, Kind::Amount)
-}
-
-const fn filler(first: usize, last: usize) -> Field {
-    field("Filler", first, last, Kind::Filler)
-}
-
-/// A row of a master (document 01, "A case's row"; the cents by document 02, item 6).
+/// A row of the master (a case's row, 200 bytes).
+#[rustfmt::skip]
 pub mod row {
     use super::*;
 
-    pub const STATE: Field = text("Submitting State Code", 1, 2);
-    pub const SSN: Field = ssn(3, 11);
-    pub const CASE_TYPE: Field = text("Case Type Indicator", 12, 12);
-    pub const LOCAL_CODE: Field = text("Local Code", 13, 15);
-    pub const CASE_ID: Field = text("Case ID", 16, 30);
-    pub const LAST_NAME: Field = text("Obligor Last Name", 31, 50);
-    pub const FIRST_NAME: Field = text("Obligor First Name", 51, 65);
-    pub const ARREARAGE: Field = text("Arrearage Amount", 66, 73);
-    pub const PAYMENT_YEAR: Field = text("Payment Year", 79, 82);
-    pub const PAYMENT: Field = text("Accumulated Payment Amount", 83, 90);
+    pub const STATE: Field = field("Submitting State Code", 1, 2, Kind::Text);
+    pub const SSN: Field = field("SSN", 3, 11, Kind::Ssn);
+    pub const CASE_TYPE: Field = field("Case Type Indicator", 12, 12, Kind::Text);
+    pub const LOCAL_CODE: Field = field("Local Code", 13, 15, Kind::Text);
+    pub const CASE_ID: Field = field("Case ID", 16, 30, Kind::Text);
+    pub const LAST_NAME: Field = field("Obligor Last Name", 31, 50, Kind::Text);
+    pub const FIRST_NAME: Field = field("Obligor First Name", 51, 65, Kind::Text);
+    pub const ARREARAGE: Field = field("Arrearage Amount", 66, 73, Kind::Text);
+    pub const TRANSFER_STATE: Field = field("Transfer State Code", 74, 75, Kind::Text);
+    pub const TRANSFER_LOCAL_CODE: Field = field("Transfer Local Code", 76, 78, Kind::Text);
+    pub const PAYMENT_YEAR: Field = field("Payment Year", 79, 82, Kind::Text);
+    pub const PAYMENT: Field = field("Accumulated Payment Amount", 83, 90, Kind::Text);
+    pub const ADDRESS_LINE_1: Field = field("Obligor Address Line 1", 91, 120, Kind::Text);
+    pub const ADDRESS_LINE_2: Field = field("Obligor Address Line 2", 121, 150, Kind::Text);
+    pub const CITY: Field = field("Obligor City", 151, 175, Kind::Text);
+    pub const ADDRESS_STATE: Field = field("Obligor State", 176, 177, Kind::Text);
+    pub const ZIP: Field = field("Obligor Zip Code", 178, 186, Kind::Text);
+    pub const DATE_ISSUED: Field = field("Date Issued", 187, 194, Kind::Text);
     pub const EXCLUSIONS: Field = field("Exclusion Indicator(s)", 195, 195, Kind::Set);
-    pub const STATUS: Field = text("Status", 196, 196);
-    pub const CENTS: Field = text("Cents", 197, 198);
+    pub const STATUS: Field = field("Status", 196, 196, Kind::Text);
+    pub const CENTS: Field = field("Cents", 197, 198, Kind::Text);
+    pub const FILLER: Field = field("Filler", 199, 200, Kind::Filler);
     pub const FIELDS: Layout = &[
         STATE,
         SSN,
@@ -83,46 +75,49 @@ pub mod row {
         LAST_NAME,
         FIRST_NAME,
         ARREARAGE,
-        text("Transfer State Code", 74, 75),
-        text("Transfer Local Code", 76, 78),
+        TRANSFER_STATE,
+        TRANSFER_LOCAL_CODE,
         PAYMENT_YEAR,
         PAYMENT,
-        text("Obligor Address Line 1", 91, 120),
-        text("Obligor Address Line 2", 121, 150),
-        text("Obligor City", 151, 175),
-        text("Obligor State", 176, 177),
-        text("Obligor Zip Code", 178, 186),
-        text("Date Issued", 187, 194),
+        ADDRESS_LINE_1,
+        ADDRESS_LINE_2,
+        CITY,
+        ADDRESS_STATE,
+        ZIP,
+        DATE_ISSUED,
         EXCLUSIONS,
         STATUS,
         CENTS,
-        filler(199, 200),
+        FILLER,
     ];
 }
 
-/// A detail of a batch (Chart A-1).
+/// A detail of a batch (Chart A-1, 245 bytes).
+#[rustfmt::skip]
 pub mod detail {
     use super::*;
 
-    pub const STATE: Field = text("Submitting State Code", 1, 2);
-    pub const LOCAL_CODE: Field = text("Local Code", 3, 5);
-    pub const SSN: Field = ssn(6, 14);
-    pub const CASE_ID: Field = text("Case ID", 15, 29);
-    pub const LAST_NAME: Field = text("Obligor Last Name", 30, 49);
-    pub const FIRST_NAME: Field = text("Obligor First Name", 50, 64);
-    pub const ARREARAGE: Field = text("Arrearage Amount", 65, 72);
-    pub const TYPE: Field = text("Transaction Type", 73, 73);
-    pub const CASE_TYPE: Field = text("Case Type Indicator", 74, 74);
-    pub const TRANSFER_STATE: Field = text("Transfer State Code", 75, 76);
-    pub const PROCESS_YEAR: Field = text("Process Year", 80, 83);
-    pub const ADDRESS_1: Field = text("Obligor Address Line 1", 84, 113);
-    pub const ADDRESS_2: Field = text("Obligor Address Line 2", 114, 143);
-    pub const CITY: Field = text("Obligor City", 144, 168);
-    pub const ADDRESS_STATE: Field = text("Obligor State", 169, 170);
-    pub const ZIP: Field = text("Obligor Zip Code", 171, 179);
-    pub const DATE_ISSUED: Field = text("Date Issued", 180, 187);
-    pub const EXCLUSIONS: Field = text("Exclusion Indicator(s)", 188, 227);
-    pub const FILLER: Field = filler(228, 244);
+    pub const STATE: Field = field("Submitting State Code", 1, 2, Kind::Text);
+    pub const LOCAL_CODE: Field = field("Local Code", 3, 5, Kind::Text);
+    pub const SSN: Field = field("SSN", 6, 14, Kind::Ssn);
+    pub const CASE_ID: Field = field("Case ID", 15, 29, Kind::Text);
+    pub const LAST_NAME: Field = field("Obligor Last Name", 30, 49, Kind::Text);
+    pub const FIRST_NAME: Field = field("Obligor First Name", 50, 64, Kind::Text);
+    pub const ARREARAGE: Field = field("Arrearage Amount", 65, 72, Kind::Text);
+    pub const TRANSACTION_TYPE: Field = field("Transaction Type", 73, 73, Kind::Text);
+    pub const CASE_TYPE: Field = field("Case Type Indicator", 74, 74, Kind::Text);
+    pub const TRANSFER_STATE: Field = field("Transfer State Code", 75, 76, Kind::Text);
+    pub const TRANSFER_LOCAL_CODE: Field = field("Transfer Local Code", 77, 79, Kind::Text);
+    pub const PROCESS_YEAR: Field = field("Process Year", 80, 83, Kind::Text);
+    pub const ADDRESS_LINE_1: Field = field("Obligor Address Line 1", 84, 113, Kind::Text);
+    pub const ADDRESS_LINE_2: Field = field("Obligor Address Line 2", 114, 143, Kind::Text);
+    pub const CITY: Field = field("Obligor City", 144, 168, Kind::Text);
+    pub const ADDRESS_STATE: Field = field("Obligor State", 169, 170, Kind::Text);
+    pub const ZIP: Field = field("Obligor Zip Code", 171, 179, Kind::Text);
+    pub const DATE_ISSUED: Field = field("Date Issued", 180, 187, Kind::Text);
+    pub const EXCLUSIONS: Field = field("Exclusion Indicator(s)", 188, 227, Kind::Text);
+    pub const FILLER: Field = field("Filler", 228, 244, Kind::Filler);
+    pub const REQUEST_CODE: Field = field("Request Code", 245, 245, Kind::Text);
     pub const FIELDS: Layout = &[
         STATE,
         LOCAL_CODE,
@@ -131,33 +126,35 @@ pub mod detail {
         LAST_NAME,
         FIRST_NAME,
         ARREARAGE,
-        TYPE,
+        TRANSACTION_TYPE,
         CASE_TYPE,
         TRANSFER_STATE,
-        text("Transfer Local Code", 77, 79),
+        TRANSFER_LOCAL_CODE,
         PROCESS_YEAR,
-        ADDRESS_1,
-        ADDRESS_2,
+        ADDRESS_LINE_1,
+        ADDRESS_LINE_2,
         CITY,
         ADDRESS_STATE,
         ZIP,
         DATE_ISSUED,
         EXCLUSIONS,
         FILLER,
-        text("Request Code", 245, 245),
+        REQUEST_CODE,
     ];
 }
 
-/// The control record of a batch (Chart A-2).
+/// The control record of a batch (Chart A-2, 245 bytes).
+#[rustfmt::skip]
 pub mod control {
     use super::*;
 
-    pub const STATE: Field = text("Submitting State Code", 1, 2);
-    pub const MARK: Field = text("Control", 3, 5);
-    pub const TANF_RECORDS: Field = number("Total TANF Records", 6, 14);
-    pub const NON_TANF_RECORDS: Field = number("Total Non-TANF Records", 15, 23);
-    pub const TANF_AMOUNT: Field = number("Total TANF Amount", 24, 34);
-    pub const NON_TANF_AMOUNT: Field = number("Total Non-TANF Amount", 35, 45);
+    pub const STATE: Field = field("Submitting State Code", 1, 2, Kind::Text);
+    pub const MARK: Field = field("Control", 3, 5, Kind::Text);
+    pub const TANF_RECORDS: Field = field("Total TANF Records", 6, 14, Kind::Number);
+    pub const NON_TANF_RECORDS: Field = field("Total Non-TANF Records", 15, 23, Kind::Number);
+    pub const TANF_AMOUNT: Field = field("Total TANF Amount", 24, 34, Kind::Number);
+    pub const NON_TANF_AMOUNT: Field = field("Total Non-TANF Amount", 35, 45, Kind::Number);
+    pub const FILLER: Field = field("Filler", 46, 245, Kind::Filler);
     pub const FIELDS: Layout = &[
         STATE,
         MARK,
@@ -165,155 +162,120 @@ pub mod control {
         NON_TANF_RECORDS,
         TANF_AMOUNT,
         NON_TANF_AMOUNT,
-        filler(46, 245),
+        FILLER,
     ];
 }
 
-/// A record of a reject file (Chart 0-1).
+/// A reject record (Chart 0-1, 245 bytes).
+#[rustfmt::skip]
 pub mod reject {
     use super::*;
 
-    pub const CODES: Field = text("Rejected Error Codes", 228, 239);
-    pub const STORED_NAME: Field = text("OCSE Last Name", 240, 243);
+    pub const STATE: Field = field("Submitting State Code", 1, 2, Kind::Text);
+    pub const LOCAL_CODE: Field = field("Local Code", 3, 5, Kind::Text);
+    pub const SSN: Field = field("SSN", 6, 14, Kind::Ssn);
+    pub const CASE_ID: Field = field("Case ID", 15, 29, Kind::Text);
+    pub const LAST_NAME: Field = field("Obligor Last Name", 30, 49, Kind::Text);
+    pub const FIRST_NAME: Field = field("Obligor First Name", 50, 64, Kind::Text);
+    pub const ARREARAGE: Field = field("Arrearage Amount", 65, 72, Kind::Text);
+    pub const TRANSACTION_TYPE: Field = field("Transaction Type", 73, 73, Kind::Text);
+    pub const CASE_TYPE: Field = field("Case Type Indicator", 74, 74, Kind::Text);
+    pub const TRANSFER_STATE: Field = field("Transfer State Code", 75, 76, Kind::Text);
+    pub const TRANSFER_LOCAL_CODE: Field = field("Transfer Local Code", 77, 79, Kind::Text);
+    pub const PROCESS_YEAR: Field = field("Process Year", 80, 83, Kind::Text);
+    pub const ADDRESS_LINE_1: Field = field("Obligor Address Line 1", 84, 113, Kind::Text);
+    pub const ADDRESS_LINE_2: Field = field("Obligor Address Line 2", 114, 143, Kind::Text);
+    pub const CITY: Field = field("Obligor City", 144, 168, Kind::Text);
+    pub const ADDRESS_STATE: Field = field("Obligor State", 169, 170, Kind::Text);
+    pub const ZIP: Field = field("Obligor Zip Code", 171, 179, Kind::Text);
+    pub const DATE_ISSUED: Field = field("Date Issued", 180, 187, Kind::Text);
+    pub const EXCLUSIONS: Field = field("Exclusion Indicator(s)", 188, 227, Kind::Text);
+    pub const ERROR_CODES: Field = field("Rejected Error Codes", 228, 239, Kind::Text);
+    pub const STORED_NAME: Field = field("OCSE Last Name", 240, 243, Kind::Text);
+    pub const FILLER: Field = field("Filler", 244, 244, Kind::Filler);
+    pub const REQUEST_CODE: Field = field("Request Code", 245, 245, Kind::Text);
     pub const FIELDS: Layout = &[
-        detail::STATE,
-        detail::LOCAL_CODE,
-        detail::SSN,
-        detail::CASE_ID,
-        detail::LAST_NAME,
-        detail::FIRST_NAME,
-        detail::ARREARAGE,
-        detail::TYPE,
-        detail::CASE_TYPE,
-        detail::TRANSFER_STATE,
-        text("Transfer Local Code", 77, 79),
-        detail::PROCESS_YEAR,
-        detail::ADDRESS_1,
-        detail::ADDRESS_2,
-        detail::CITY,
-        detail::ADDRESS_STATE,
-        detail::ZIP,
-        detail::DATE_ISSUED,
-        detail::EXCLUSIONS,
-        CODES,
+        STATE,
+        LOCAL_CODE,
+        SSN,
+        CASE_ID,
+        LAST_NAME,
+        FIRST_NAME,
+        ARREARAGE,
+        TRANSACTION_TYPE,
+        CASE_TYPE,
+        TRANSFER_STATE,
+        TRANSFER_LOCAL_CODE,
+        PROCESS_YEAR,
+        ADDRESS_LINE_1,
+        ADDRESS_LINE_2,
+        CITY,
+        ADDRESS_STATE,
+        ZIP,
+        DATE_ISSUED,
+        EXCLUSIONS,
+        ERROR_CODES,
         STORED_NAME,
-        filler(244, 244),
-        text("Request Code", 245, 245),
+        FILLER,
+        REQUEST_CODE,
     ];
 }
 
-/// The control record of a reject file (Chart 0-2).
+/// The control record of a reject file (Chart 0-2, 245 bytes).
+#[rustfmt::skip]
 pub mod reject_control {
     use super::*;
 
-    pub const MARK: Field = text("Reject Control", 3, 5);
-    pub const FIELDS: Layout = &[
-        text("Submitting State Code", 1, 2),
-        MARK,
-        number("TANF Accepted", 6, 14),
-        number("TANF Rejected", 15, 23),
-        number("Non-TANF Accepted", 24, 32),
-        number("Non-TANF Rejected", 33, 41),
-        number("TANF Warning", 42, 50),
-        number("Non-TANF Warning", 51, 59),
-        filler(60, 245),
-    ];
-}
-
-/// A line of a collection file (Chart 0-4).
-pub mod line {
-    use super::*;
-
-    pub const STATE: Field = text("Submitting State Code", 1, 2);
-    pub const SSN: Field = ssn(6, 14);
-    pub const LAST_NAME: Field = text("Obligor Last Name", 30, 49);
-    pub const FIRST_NAME: Field = text("Obligor First Name", 50, 64);
-    pub const ARREARAGE: Field = amount("Certified Arrearage Amount", 65, 75);
-    pub const COLLECTION: Field = amount("Collection Amount", 76, 86);
-    pub const ADJUSTMENT: Field = amount("Adjustment Amount", 87, 97);
-    pub const CASE_TYPE: Field = text("Case Type Indicator", 107, 107);
+    pub const STATE: Field = field("Submitting State Code", 1, 2, Kind::Text);
+    pub const MARK: Field = field("Reject Control", 3, 5, Kind::Text);
+    pub const TANF_ACCEPTED: Field = field("TANF Accepted", 6, 14, Kind::Number);
+    pub const TANF_REJECTED: Field = field("TANF Rejected", 15, 23, Kind::Number);
+    pub const NON_TANF_ACCEPTED: Field = field("Non-TANF Accepted", 24, 32, Kind::Number);
+    pub const NON_TANF_REJECTED: Field = field("Non-TANF Rejected", 33, 41, Kind::Number);
+    pub const TANF_WARNED: Field = field("TANF Warning", 42, 50, Kind::Number);
+    pub const NON_TANF_WARNED: Field = field("Non-TANF Warning", 51, 59, Kind::Number);
+    pub const FILLER: Field = field("Filler", 60, 245, Kind::Filler);
     pub const FIELDS: Layout = &[
         STATE,
-        text("Local Code", 3, 5),
-        SSN,
-        text("Case ID", 15, 29),
-        LAST_NAME,
-        FIRST_NAME,
-        ARREARAGE,
-        COLLECTION,
-        ADJUSTMENT,
-        text("Adjustment Year", 98, 101),
-        text("Offset Year", 102, 105),
-        text("Return Indicator", 106, 106),
-        CASE_TYPE,
-        text("Transfer State Code", 108, 109),
-        text("Transfer Local Code", 110, 112),
-        text("Payment Name", 113, 147),
-        text("Payment Street Address", 148, 182),
-        text("Payment City and State", 183, 207),
-        text("Payment Zip Code", 208, 216),
-        text("Offset Type", 217, 219),
-        amount("Fee Amount", 220, 224),
-        text("Injured Spouse Indicator", 225, 225),
-        text("Zero Balance Delete Indicator", 226, 226),
-        text("TOP Trace Number", 227, 236),
-        filler(237, 240),
-    ];
-}
-
-/// The last record of a collection file (Chart 0-5).
-pub mod total {
-    use super::*;
-
-    pub const MARK: Field = text("Total Control", 6, 14);
-    pub const ADJUSTMENTS: Field = number("Total Adjustments", 35, 49);
-    pub const COLLECTIONS: Field = number("Total Collections", 50, 64);
-    pub const ARREARAGES: Field = amount("Total Certified Arrearage Amount", 65, 75);
-    pub const COLLECTED: Field = amount("Total Collection Amount", 76, 86);
-    pub const ADJUSTED: Field = amount("Total Adjustment Amount", 87, 97);
-    pub const NET: Field = amount("Total Net Amount", 98, 108);
-    pub const FIELDS: Layout = &[
-        text("Submitting State Code", 1, 2),
-        filler(3, 5),
         MARK,
-        filler(15, 34),
-        ADJUSTMENTS,
-        COLLECTIONS,
-        ARREARAGES,
-        COLLECTED,
-        ADJUSTED,
-        NET,
-        filler(109, 240),
+        TANF_ACCEPTED,
+        TANF_REJECTED,
+        NON_TANF_ACCEPTED,
+        NON_TANF_REJECTED,
+        TANF_WARNED,
+        NON_TANF_WARNED,
+        FILLER,
     ];
 }
 
-/// A record of a reconciliation file (Chart 0-6).
+/// A REC record of a reconciliation file (Chart 0-6, 245 bytes).
+#[rustfmt::skip]
 pub mod rec {
     use super::*;
 
-    pub const STATE: Field = text("Submitting State Code", 4, 5);
-    pub const LOCAL_CODE: Field = text("Local Code", 6, 8);
-    pub const SSN: Field = ssn(9, 17);
-    pub const CASE_ID: Field = text("Case ID", 18, 32);
-    pub const LAST_NAME: Field = text("Obligor Last Name", 33, 52);
-    pub const FIRST_NAME: Field = text("Obligor First Name", 53, 62);
-    pub const ARREARAGE: Field = text("Current Arrearage Amount", 63, 70);
-    pub const CASE_TYPE: Field = text("Case Type Indicator", 71, 71);
-    pub const NOTICE_DATE: Field = text("Last Pre-Offset Notice Date", 72, 79);
-    pub const ADM: Field = text("Administrative Offset Exclusion Indicator", 82, 84);
-    pub const RET: Field = text("Federal Retirement Offset Exclusion Indicator", 85, 87);
-    pub const VEN: Field = text("Vendor Payments Exclusion Indicator", 88, 90);
-    pub const SAL: Field = text("Federal Salary Exclusion Indicator", 91, 93);
-    pub const TAX: Field = text("Tax Refund Offset Exclusion Indicator", 94, 96);
-    pub const PAS: Field = text("Passport Denial Exclusion Indicator", 97, 99);
-    pub const FIN: Field = text(
-        "Multi-State Financial Institution Data Match Exclusion Indicator",
-        100,
-        102,
-    );
-    pub const DCK: Field = text("Debt Check Exclusion Indicator", 103, 105);
+    pub const MARK: Field = field("Record Identifier", 1, 3, Kind::Text);
+    pub const STATE: Field = field("Submitting State Code", 4, 5, Kind::Text);
+    pub const LOCAL_CODE: Field = field("Local Code", 6, 8, Kind::Text);
+    pub const SSN: Field = field("SSN", 9, 17, Kind::Ssn);
+    pub const CASE_ID: Field = field("Case ID", 18, 32, Kind::Text);
+    pub const LAST_NAME: Field = field("Obligor Last Name", 33, 52, Kind::Text);
+    pub const FIRST_NAME: Field = field("Obligor First Name", 53, 62, Kind::Text);
+    pub const ARREARAGE: Field = field("Current Arrearage Amount", 63, 70, Kind::Text);
+    pub const CASE_TYPE: Field = field("Case Type Indicator", 71, 71, Kind::Text);
+    pub const NOTICE_DATE: Field = field("Last Pre-Offset Notice Date", 72, 79, Kind::Text);
+    pub const NOTICE_HOLD: Field = field("Pre-Offset Notice Hold Indicator", 80, 80, Kind::Text);
+    pub const PASSPORT_ACTION: Field = field("Department of State Action Indicator", 81, 81, Kind::Text);
+    pub const EXCLUSION_ADM: Field = field("Administrative Offset Exclusion Indicator", 82, 84, Kind::Text);
+    pub const EXCLUSION_RET: Field = field("Federal Retirement Offset Exclusion Indicator", 85, 87, Kind::Text);
+    pub const EXCLUSION_VEN: Field = field("Vendor Payments Exclusion Indicator", 88, 90, Kind::Text);
+    pub const EXCLUSION_SAL: Field = field("Federal Salary Exclusion Indicator", 91, 93, Kind::Text);
+    pub const EXCLUSION_TAX: Field = field("Tax Refund Offset Exclusion Indicator", 94, 96, Kind::Text);
+    pub const EXCLUSION_PAS: Field = field("Passport Denial Exclusion Indicator", 97, 99, Kind::Text);
+    pub const EXCLUSION_FIN: Field = field("Multi-State Financial Institution Data Match Exclusion Indicator", 100, 102, Kind::Text);
+    pub const EXCLUSION_DCK: Field = field("Debt Check Exclusion Indicator", 103, 105, Kind::Text);
+    pub const FILLER: Field = field("Filler", 106, 245, Kind::Filler);
     pub const FIELDS: Layout = &[
-        text("Record Identifier", 1, 3),
+        MARK,
         STATE,
         LOCAL_CODE,
         SSN,
@@ -323,73 +285,60 @@ pub mod rec {
         ARREARAGE,
         CASE_TYPE,
         NOTICE_DATE,
-        text("Pre-Offset Notice Hold Indicator", 80, 80),
-        text("Department of State Action Indicator", 81, 81),
-        ADM,
-        RET,
-        VEN,
-        SAL,
-        TAX,
-        PAS,
-        FIN,
-        DCK,
-        filler(106, 245),
-    ];
-    /// The fields in which two files can differ: not those that the federal side alone fills.
-    pub const COMPARED: Layout = &[
-        LOCAL_CODE,
-        CASE_ID,
-        LAST_NAME,
-        FIRST_NAME,
-        ARREARAGE,
-        NOTICE_DATE,
-        ADM,
-        RET,
-        VEN,
-        SAL,
-        TAX,
-        PAS,
-        FIN,
-        DCK,
+        NOTICE_HOLD,
+        PASSPORT_ACTION,
+        EXCLUSION_ADM,
+        EXCLUSION_RET,
+        EXCLUSION_VEN,
+        EXCLUSION_SAL,
+        EXCLUSION_TAX,
+        EXCLUSION_PAS,
+        EXCLUSION_FIN,
+        EXCLUSION_DCK,
+        FILLER,
     ];
 }
 
-/// The control record of a reconciliation file (Chart 0-7).
+/// The RCT record of a reconciliation file (Chart 0-7, 245 bytes).
+#[rustfmt::skip]
 pub mod rct {
     use super::*;
 
-    pub const MARK: Field = text("Record Identifier", 1, 3);
-    pub const STATE: Field = text("Submitting State Code", 4, 5);
-    pub const TOTAL: Field = number("Total Cases Returned", 24, 32);
-    pub const TANF: Field = number("TANF Cases Returned", 6, 14);
-    pub const NON_TANF: Field = number("Non-TANF Cases Returned", 15, 23);
+    pub const MARK: Field = field("Record Identifier", 1, 3, Kind::Text);
+    pub const STATE: Field = field("Submitting State Code", 4, 5, Kind::Text);
+    pub const TANF: Field = field("TANF Cases Returned", 6, 14, Kind::Number);
+    pub const NON_TANF: Field = field("Non-TANF Cases Returned", 15, 23, Kind::Number);
+    pub const TOTAL: Field = field("Total Cases Returned", 24, 32, Kind::Number);
+    pub const DATE: Field = field("Extract Date", 33, 40, Kind::Text);
+    pub const FILLER: Field = field("Filler", 41, 245, Kind::Filler);
     pub const FIELDS: Layout = &[
         MARK,
         STATE,
         TANF,
         NON_TANF,
         TOTAL,
-        text("Extract Date", 33, 40),
-        filler(41, 245),
+        DATE,
+        FILLER,
     ];
 }
 
-/// A contact record (Chart A-3).
+/// A contact record (Chart A-3, 220 bytes).
+#[rustfmt::skip]
 pub mod contact {
     use super::*;
 
-    pub const STATE: Field = text("Submitting State Code", 1, 2);
-    pub const LOCAL_CODE: Field = text("Local Code", 3, 5);
-    pub const TELEPHONE_1: Field = text("Telephone Number 1", 6, 19);
-    pub const EXTENSION_1: Field = text("Extension 1", 20, 23);
-    pub const TELEPHONE_2: Field = text("Telephone Number 2", 24, 37);
-    pub const EXTENSION_2: Field = text("Extension 2", 38, 41);
-    pub const AGENCY: Field = text("State Agency Name", 42, 76);
-    pub const ADDRESS_1: Field = text("State Agency Address Line 1", 77, 111);
-    pub const ADDRESS_2: Field = text("State Agency Address Line 2", 112, 146);
-    pub const ADDRESS_3: Field = text("State Agency Address Line 3", 147, 181);
-    pub const ADDRESS_4: Field = text("State Agency Address Line 4", 182, 216);
-    pub const FILLER: Field = filler(217, 220);
+    pub const STATE: Field = field("Submitting State Code", 1, 2, Kind::Text);
+    pub const LOCAL_CODE: Field = field("Local Code", 3, 5, Kind::Text);
+    pub const TELEPHONE_1: Field = field("Telephone Number 1", 6, 19, Kind::Text);
+    pub const EXTENSION_1: Field = field("Extension 1", 20, 23, Kind::Text);
+    pub const TELEPHONE_2: Field = field("Telephone Number 2", 24, 37, Kind::Text);
+    pub const EXTENSION_2: Field = field("Extension 2", 38, 41, Kind::Text);
+    pub const AGENCY_NAME: Field = field("State Agency Name", 42, 76, Kind::Text);
+    pub const ADDRESS_LINE_1: Field = field("State Agency Address Line 1", 77, 111, Kind::Text);
+    pub const ADDRESS_LINE_2: Field = field("State Agency Address Line 2", 112, 146, Kind::Text);
+    pub const ADDRESS_LINE_3: Field = field("State Agency Address Line 3", 147, 181, Kind::Text);
+    pub const ADDRESS_LINE_4: Field = field("State Agency Address Line 4", 182, 216, Kind::Text);
+    pub const FILLER: Field = field("Filler", 217, 220, Kind::Filler);
     pub const FIELDS: Layout = &[
         STATE,
         LOCAL_CODE,
@@ -397,12 +346,102 @@ pub mod contact {
         EXTENSION_1,
         TELEPHONE_2,
         EXTENSION_2,
-        AGENCY,
-        ADDRESS_1,
-        ADDRESS_2,
-        ADDRESS_3,
-        ADDRESS_4,
+        AGENCY_NAME,
+        ADDRESS_LINE_1,
+        ADDRESS_LINE_2,
+        ADDRESS_LINE_3,
+        ADDRESS_LINE_4,
         FILLER,
+    ];
+}
+
+/// A line of a collection file (Chart 0-4, 240 bytes).
+#[rustfmt::skip]
+pub mod line {
+    use super::*;
+
+    pub const STATE: Field = field("Submitting State Code", 1, 2, Kind::Text);
+    pub const LOCAL_CODE: Field = field("Local Code", 3, 5, Kind::Text);
+    pub const SSN: Field = field("SSN", 6, 14, Kind::Ssn);
+    pub const CASE_ID: Field = field("Case ID", 15, 29, Kind::Text);
+    pub const LAST_NAME: Field = field("Obligor Last Name", 30, 49, Kind::Text);
+    pub const FIRST_NAME: Field = field("Obligor First Name", 50, 64, Kind::Text);
+    pub const CERTIFIED_ARREARAGE: Field = field("Certified Arrearage Amount", 65, 75, Kind::Amount);
+    pub const COLLECTION: Field = field("Collection Amount", 76, 86, Kind::Amount);
+    pub const ADJUSTMENT: Field = field("Adjustment Amount", 87, 97, Kind::Amount);
+    pub const ADJUSTMENT_YEAR: Field = field("Adjustment Year", 98, 101, Kind::Text);
+    pub const OFFSET_YEAR: Field = field("Offset Year", 102, 105, Kind::Text);
+    pub const RETURN_INDICATOR: Field = field("Return Indicator", 106, 106, Kind::Text);
+    pub const CASE_TYPE: Field = field("Case Type Indicator", 107, 107, Kind::Text);
+    pub const TRANSFER_STATE: Field = field("Transfer State Code", 108, 109, Kind::Text);
+    pub const TRANSFER_LOCAL_CODE: Field = field("Transfer Local Code", 110, 112, Kind::Text);
+    pub const PAYMENT_NAME: Field = field("Payment Name", 113, 147, Kind::Text);
+    pub const PAYMENT_STREET: Field = field("Payment Street Address", 148, 182, Kind::Text);
+    pub const PAYMENT_CITY_AND_STATE: Field = field("Payment City and State", 183, 207, Kind::Text);
+    pub const PAYMENT_ZIP: Field = field("Payment Zip Code", 208, 216, Kind::Text);
+    pub const OFFSET_TYPE: Field = field("Offset Type", 217, 219, Kind::Text);
+    pub const FEE: Field = field("Fee Amount", 220, 224, Kind::Amount);
+    pub const INJURED_SPOUSE: Field = field("Injured Spouse Indicator", 225, 225, Kind::Text);
+    pub const ZERO_BALANCE_DELETE: Field = field("Zero Balance Delete Indicator", 226, 226, Kind::Text);
+    pub const TRACE_NUMBER: Field = field("TOP Trace Number", 227, 236, Kind::Text);
+    pub const FILLER: Field = field("Filler", 237, 240, Kind::Filler);
+    pub const FIELDS: Layout = &[
+        STATE,
+        LOCAL_CODE,
+        SSN,
+        CASE_ID,
+        LAST_NAME,
+        FIRST_NAME,
+        CERTIFIED_ARREARAGE,
+        COLLECTION,
+        ADJUSTMENT,
+        ADJUSTMENT_YEAR,
+        OFFSET_YEAR,
+        RETURN_INDICATOR,
+        CASE_TYPE,
+        TRANSFER_STATE,
+        TRANSFER_LOCAL_CODE,
+        PAYMENT_NAME,
+        PAYMENT_STREET,
+        PAYMENT_CITY_AND_STATE,
+        PAYMENT_ZIP,
+        OFFSET_TYPE,
+        FEE,
+        INJURED_SPOUSE,
+        ZERO_BALANCE_DELETE,
+        TRACE_NUMBER,
+        FILLER,
+    ];
+}
+
+/// The TOTAL record of a collection file (Chart 0-5, 240 bytes).
+#[rustfmt::skip]
+pub mod total {
+    use super::*;
+
+    pub const STATE: Field = field("Submitting State Code", 1, 2, Kind::Text);
+    pub const FILLER_1: Field = field("Filler", 3, 5, Kind::Filler);
+    pub const MARK: Field = field("Total Control", 6, 14, Kind::Text);
+    pub const FILLER_2: Field = field("Filler", 15, 34, Kind::Filler);
+    pub const ADJUSTMENTS: Field = field("Total Adjustments", 35, 49, Kind::Number);
+    pub const COLLECTIONS: Field = field("Total Collections", 50, 64, Kind::Number);
+    pub const CERTIFIED_ARREARAGE: Field = field("Total Certified Arrearage Amount", 65, 75, Kind::Amount);
+    pub const COLLECTION: Field = field("Total Collection Amount", 76, 86, Kind::Amount);
+    pub const ADJUSTMENT: Field = field("Total Adjustment Amount", 87, 97, Kind::Amount);
+    pub const NET: Field = field("Total Net Amount", 98, 108, Kind::Amount);
+    pub const FILLER_3: Field = field("Filler", 109, 240, Kind::Filler);
+    pub const FIELDS: Layout = &[
+        STATE,
+        FILLER_1,
+        MARK,
+        FILLER_2,
+        ADJUSTMENTS,
+        COLLECTIONS,
+        CERTIFIED_ARREARAGE,
+        COLLECTION,
+        ADJUSTMENT,
+        NET,
+        FILLER_3,
     ];
 }
 
@@ -410,37 +449,5 @@ pub mod contact {
 pub mod local_code {
     use super::*;
 
-    pub const FIELDS: Layout = &[text("Local Code", 1, 3)];
-}
-
-#[cfg(test)]
-mod tests {
-    use super::*;
-    use fantanolive::{CONTACT, LINE, LOCAL_CODE, RECORD, ROW};
-
-    #[test]
-    fn fields_stand_without_gaps() {
-        let layouts: [(Layout, usize); 11] = [
-            (row::FIELDS, ROW),
-            (detail::FIELDS, RECORD),
-            (control::FIELDS, RECORD),
-            (reject::FIELDS, RECORD),
-            (reject_control::FIELDS, RECORD),
-            (line::FIELDS, LINE),
-            (total::FIELDS, LINE),
-            (rec::FIELDS, RECORD),
-            (rct::FIELDS, RECORD),
-            (contact::FIELDS, CONTACT),
-            (local_code::FIELDS, LOCAL_CODE),
-        ];
-        for (fields, width) in layouts {
-            let mut next = 1;
-            for field in fields {
-                assert_eq!(field.first, next, "{}", field.name);
-                assert!(field.last >= field.first, "{}", field.name);
-                next = field.last + 1;
-            }
-            assert_eq!(next, width + 1);
-        }
-    }
+    pub const FIELDS: Layout = &[field("Local Code", 1, 3, Kind::Text)];
 }

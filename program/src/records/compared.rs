@@ -5,12 +5,30 @@ use std::cmp::Ordering;
 
 use fantanolive::{KEY, RECORD};
 
-use super::columns::{rec, Field};
+use super::columns::{rec, Field, Layout};
 
 pub type Key = [u8; KEY];
 
 /// The fields of a REC record that make its key.
 pub const KEY_FIELDS: [Field; 3] = [rec::STATE, rec::SSN, rec::CASE_TYPE];
+
+/// The fields in which two files can differ: not the filler, nor those that the federal side alone fills.
+pub const COMPARED_FIELDS: Layout = &[
+    rec::LOCAL_CODE,
+    rec::CASE_ID,
+    rec::LAST_NAME,
+    rec::FIRST_NAME,
+    rec::ARREARAGE,
+    rec::NOTICE_DATE,
+    rec::EXCLUSION_ADM,
+    rec::EXCLUSION_RET,
+    rec::EXCLUSION_VEN,
+    rec::EXCLUSION_SAL,
+    rec::EXCLUSION_TAX,
+    rec::EXCLUSION_PAS,
+    rec::EXCLUSION_FIN,
+    rec::EXCLUSION_DCK,
+];
 
 /// The key of a REC record.
 pub fn key_of(record: &[u8]) -> Key {
@@ -99,7 +117,7 @@ impl Compared<'_> {
         record(self.there, number)
     }
 
-    /// The fields in which two records differ, but those that the other side alone fills, and the filler.
+    /// The fields in which two records differ.
     pub fn differing(
         &self,
         here: usize,
@@ -107,7 +125,7 @@ impl Compared<'_> {
     ) -> impl Iterator<Item = &'static Field> + '_ {
         let (here, there) = (self.here(here), self.there(there));
         let differs = move |field: &&Field| field.of(here) != field.of(there);
-        rec::COMPARED.iter().filter(differs)
+        COMPARED_FIELDS.iter().filter(differs)
     }
 
     /// How many cases were found so.

@@ -13,12 +13,16 @@ const PARTS: [(&[Field], &str); 10] = [
     (&[contact::EXTENSION_1], ""),
     (&[contact::TELEPHONE_2], ""),
     (&[contact::EXTENSION_2], ""),
-    (&[contact::AGENCY], "CHILD SUPPORT"),
+    (&[contact::AGENCY_NAME], "CHILD SUPPORT"),
     (
-        &[contact::ADDRESS_1, contact::ADDRESS_2, contact::ADDRESS_3],
+        &[
+            contact::ADDRESS_LINE_1,
+            contact::ADDRESS_LINE_2,
+            contact::ADDRESS_LINE_3,
+        ],
         "A",
     ),
-    (&[contact::ADDRESS_4], "A"),
+    (&[contact::ADDRESS_LINE_4], "A"),
     (&[contact::FILLER], ""),
 ];
 
@@ -67,9 +71,9 @@ mod tests {
             (contact::EXTENSION_1, "1 2"),
             (contact::TELEPHONE_2, "(301)555-1212"),
             (contact::EXTENSION_2, "A"),
-            (contact::AGENCY, "SUPPORT"),
-            (contact::AGENCY, "IRS CHILD SUPPORT"),
-            (contact::ADDRESS_4, ""),
+            (contact::AGENCY_NAME, "SUPPORT"),
+            (contact::AGENCY_NAME, "IRS CHILD SUPPORT"),
+            (contact::ADDRESS_LINE_4, ""),
             (contact::FILLER, "X"),
         ] {
             let record = with(&[(field, text)]);
@@ -77,8 +81,8 @@ mod tests {
             let wrong: Vec<usize> = wrong_fields(&record).iter().map(|f| f.first).collect();
             assert_eq!(wrong, [field.first], "{text}");
         }
-        let record = with(&[(contact::ADDRESS_1, ""), (contact::STATE, "ZZ")]);
+        let record = with(&[(contact::ADDRESS_LINE_1, ""), (contact::STATE, "ZZ")]);
         assert_eq!(wrong_fields(&record).len(), 4);
-        assert!(wrong_fields(&with(&[(contact::ADDRESS_2, "A")])).is_empty());
+        assert!(wrong_fields(&with(&[(contact::ADDRESS_LINE_2, "A")])).is_empty());
     }
 }

@@ -37,7 +37,7 @@ pub fn record_of(kind: &str, fields: &[(Field, &str)]) -> Vec<u8> {
         (detail::STATE, STATE),
         (detail::SSN, SSN),
         (detail::CASE_TYPE, CASE_TYPE),
-        (detail::TYPE, kind),
+        (detail::TRANSACTION_TYPE, kind),
         (detail::LAST_NAME, NAME),
     ];
     text_in(RECORD, &[&own[..], fields].concat())

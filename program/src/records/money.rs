@@ -114,9 +114,9 @@ impl Money {
 
 /// The amount totals of the last record, each with the field of the lines that it is the sum of.
 const TOTALS: [(Field, Field); 3] = [
-    (total::ARREARAGES, line::ARREARAGE),
-    (total::COLLECTED, line::COLLECTION),
-    (total::ADJUSTED, line::ADJUSTMENT),
+    (total::CERTIFIED_ARREARAGE, line::CERTIFIED_ARREARAGE),
+    (total::COLLECTION, line::COLLECTION),
+    (total::ADJUSTMENT, line::ADJUSTMENT),
 ];
 
 /// Notes on the amount totals of the last record, which no rule reads: those that are not what the lines add up to. One that is

@@ -32,7 +32,7 @@ fn key_of(record: &[u8]) -> Key {
 /// The keys of the B records, in order, each once with its first B.
 fn with_name_change(details: &[u8]) -> Vec<Renamed> {
     let name_change = argument(b"B");
-    let is_one = |(_, record): &(usize, &[u8])| detail::TYPE.of(record) == name_change;
+    let is_one = |(_, record): &(usize, &[u8])| detail::TRANSACTION_TYPE.of(record) == name_change;
     let records = details.chunks_exact(RECORD).enumerate().filter(is_one);
     let mut list: Vec<Renamed> = records
         .map(|(number, record)| Renamed {

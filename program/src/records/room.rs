@@ -17,7 +17,7 @@ pub fn adds_in(details: &[u8]) -> u64 {
     let add = argument(b"A");
     let records = details.chunks_exact(RECORD);
     records
-        .filter(|record| detail::TYPE.of(record) == add)
+        .filter(|record| detail::TRANSACTION_TYPE.of(record) == add)
         .count() as u64
 }
 

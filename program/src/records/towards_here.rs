@@ -9,14 +9,14 @@ use crate::code_page::argument;
 
 /// The exclusion words of a REC record, the lowest bit of a row's set first.
 const WORDS: [(Field, &str); 8] = [
-    (rec::ADM, "ADM"),
-    (rec::RET, "RET"),
-    (rec::VEN, "VEN"),
-    (rec::SAL, "SAL"),
-    (rec::TAX, "TAX"),
-    (rec::PAS, "PAS"),
-    (rec::FIN, "FIN"),
-    (rec::DCK, "DCK"),
+    (rec::EXCLUSION_ADM, "ADM"),
+    (rec::EXCLUSION_RET, "RET"),
+    (rec::EXCLUSION_VEN, "VEN"),
+    (rec::EXCLUSION_SAL, "SAL"),
+    (rec::EXCLUSION_TAX, "TAX"),
+    (rec::EXCLUSION_PAS, "PAS"),
+    (rec::EXCLUSION_FIN, "FIN"),
+    (rec::EXCLUSION_DCK, "DCK"),
 ];
 
 /// The set of a REC record's exclusions.

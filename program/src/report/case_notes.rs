@@ -42,7 +42,7 @@ impl Changes<'_> {
             screen.plain("")?;
         }
         for (number, record) in self.records.chunks_exact(RECORD).enumerate() {
-            let kind = self.form.field(&detail::TYPE, record);
+            let kind = self.form.field(&detail::TRANSACTION_TYPE, record);
             let changed = self.change.changed_by(record);
             let list = changed.iter().map(|field| {
                 let (old, new) = (&self.change.row, &self.change.wanted);
@@ -63,7 +63,7 @@ impl Changes<'_> {
             for field in self.change.changed_by(record) {
                 json.begin_object()?;
                 json.number_of("record", number as u64 + 1)?;
-                let kind = self.form.field(&detail::TYPE, record);
+                let kind = self.form.field(&detail::TRANSACTION_TYPE, record);
                 json.text_of("transaction_type", &kind)?;
                 json.text_of("field", field.name)?;
                 json.text_of("row", &self.form.field(&field, &self.change.row))?;

@@ -4,7 +4,7 @@ use std::io::{self, Write};
 
 use crate::failure::headed;
 use crate::records::columns::{rec, Field};
-use crate::records::compared::{Compared, Found, KEY_FIELDS};
+use crate::records::compared::{Compared, Found, COMPARED_FIELDS, KEY_FIELDS};
 use crate::records::field::Form;
 use crate::report::json::Json;
 use crate::report::listing::Listing;
@@ -138,16 +138,16 @@ impl Sheet for Comparison<'_> {
 
 /// How many cases differ in each field, for a chart.
 pub fn chart_of(compared: &Compared) -> Vec<(String, u64, String)> {
-    let mut counts = vec![0; rec::COMPARED.len()];
+    let mut counts = vec![0; COMPARED_FIELDS.len()];
     for found in &compared.found {
         if let Found::Differs(here, there) = *found {
             for field in compared.differing(here, there) {
-                let place = rec::COMPARED.iter().position(|other| other == field);
+                let place = COMPARED_FIELDS.iter().position(|other| other == field);
                 counts[place.unwrap_or_default()] += 1;
             }
         }
     }
-    let fields = rec::COMPARED.iter().zip(counts);
+    let fields = COMPARED_FIELDS.iter().zip(counts);
     let differing = fields.filter(|(_, count)| *count > 0);
     differing
         .map(|(field, count)| (field.name.to_string(), count, String::new()))

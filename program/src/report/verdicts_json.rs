@@ -15,7 +15,7 @@ const FIELDS: [(&str, Field); 8] = [
     ("state", detail::STATE),
     ("ssn", detail::SSN),
     ("case_type", detail::CASE_TYPE),
-    ("transaction_type", detail::TYPE),
+    ("transaction_type", detail::TRANSACTION_TYPE),
     ("last_name", detail::LAST_NAME),
     ("first_name", detail::FIRST_NAME),
     ("case_id", detail::CASE_ID),

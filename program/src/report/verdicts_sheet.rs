@@ -35,7 +35,7 @@ impl VerdictsSheet<'_> {
         let number = (coded.number + 1).to_string();
         let key = self.verdicts.key(coded);
         let fields = [
-            detail::TYPE,
+            detail::TRANSACTION_TYPE,
             detail::LAST_NAME,
             detail::FIRST_NAME,
             detail::CASE_ID,

@@ -107,7 +107,7 @@ fn put_record<W: Write>(
         coded.number + 1,
         verdicts.key(coded)
     );
-    form.put(&detail::TYPE, coded.detail, &mut text);
+    form.put(&detail::TRANSACTION_TYPE, coded.detail, &mut text);
     text.push_str("  ");
     form.put_name(
         &detail::LAST_NAME,
