@@ -66,7 +66,7 @@ expected() {
     printf '%s\n' '644 lib/libfantanolive.a' "$soname lib/libfantanolive.so" "libfantanolive.so.$version lib/$soname" "755 lib/libfantanolive.so.$version"
     printf '644 lib/cmake/fantanolive/%s.cmake\n' fantanolive-config-version fantanolive-config
     printf '644 lib/pkgconfig/%s.pc\n' fantanolive-static fantanolive
-    printf '644 share/doc/fantanolive/%s\n' CHANGELOG.md MANUAL.md agreement/README.md agreement/no-case.txt
+    printf '644 share/doc/fantanolive/%s\n' CHANGELOG.md JSON.md MANUAL.md agreement/README.md agreement/no-case.txt
     printf '755 share/doc/fantanolive/agreement/%s\n' example.py run.py
     for file in agreement/cases/*.txt; do echo "644 share/doc/fantanolive/$file"; done
     for file in examples/c/*.c examples/cobol/*.cob bindings/python/examples/*.py bindings/rust/examples/judge.rs bindings/java/examples/*.java; do echo "644 share/doc/fantanolive/examples/${file##*/}"; done

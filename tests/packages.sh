@@ -52,6 +52,8 @@ used() {
 mkdir "$work/empty"
 tar -xzf "$packages/fantanolive-$version-x86_64-linux.tar.gz" -C "$work/empty"
 used 'tarball' "$work/empty/fantanolive-$version-x86_64-linux"
+want 'links of its documents that lead nowhere' "$(cd -- "$work/empty/fantanolive-$version-x86_64-linux/share/doc/fantanolive" &&
+    grep -ohE '\]\([^)#]+' ./*.md | sed 's/^](//' | grep -v '^https:' | sort -u | while read -r file; do [ -e "$file" ] || echo "$file"; done)" ''
 want 'owners in the tarball' "$(tar --numeric-owner -tvzf "$packages/fantanolive-$version-x86_64-linux.tar.gz" | awk '{ print $2 }' | sort -u)" 0/0
 
 # --- The Rust crate, with the library of the tarball.
