@@ -1,5 +1,5 @@
 #!/usr/bin/env bash
-# Holds the tables of docs/MANUAL.md against the rest: codes and refusals against include/fantanolive_text.h, the orders of refusals against
+# Holds the contents of docs/MANUAL.md against its headings, and its tables against the rest: codes and refusals against include/fantanolive_text.h, the orders of refusals against
 # include/fantanolive.h, columns and states against the definitions in crates/*/specs, names of theorems against those that are there, the version
 # against the header. Prints each difference, and then status 1.
 set -u
@@ -23,6 +23,16 @@ compare() {
 section() {
     awk -v heading="$1" '/^##/ { on = ($0 == heading); next } on' "$manual"
 }
+
+# --- The contents.
+
+# anchors: headings as the names that links use
+anchors() {
+    sed -E 's/^#+ //' | tr '[:upper:]' '[:lower:]' | sed -e 's/[^a-z0-9 _-]//g' -e 's/ /-/g'
+}
+compare contents "$(sed -nE 's/^([0-9]+)\. \[(.*)\]\(#(.*)\)$/\1 \2 \3/p' "$manual")" \
+    "$(grep '^## ' "$manual" | sed 's/^## //' | paste -d' ' - <(grep '^## ' "$manual" | anchors) | awk '{ print NR, $0 }')"
+compare 'links that lead nowhere' "$(grep -oE '\]\(#[^)]*\)' "$manual" | sed -E 's/^\]\(#(.*)\)$/\1/' | sort -u | comm -23 - <(grep -E '^##+ ' "$manual" | anchors | sort -u))" ''
 
 # --- Codes and refusals.
 

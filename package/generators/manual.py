@@ -26,11 +26,9 @@ def rows(layout):
 
 
 def replaced(text, layout):
-    """The manual with the table below the layout's heading, where it has one."""
+    """The manual with the table below the layout's heading."""
     heading = f"### {layout['title']} ({layout['width']} bytes)\n"
-    if heading not in text:
-        return text
-    before, after = text.split(heading, 1)
+    before, after = text.split(heading)
     form = re.compile(re.escape(HEAD) + r"(?:\|.*\n)+")
     return before + heading + form.sub(lambda _: HEAD + rows(layout), after, count=1)
 
