@@ -116,28 +116,41 @@ pub fn run(arguments: &Arguments, progress: &Progress) -> Result<Status, Failure
     }
     let asked = asked(arguments)?;
     let mut other = other(arguments)?;
-    let (calls, skipped): (Vec<usize>, Vec<usize>) =
+    let (mut calls, skipped): (Vec<usize>, Vec<usize>) =
         asked.calls.iter().partition(|&&call| other.has(call));
-    let calls: Vec<usize> = calls
-        .into_iter()
-        .filter(|&call| CALLS[call].since <= asked.request)
-        .collect();
+    calls.retain(|&call| CALLS[call].since <= asked.request);
     if calls.is_empty() {
-        return Err(Failure::file(
-            arguments.path(0),
-            "it has none of the calls asked for",
-        ));
+        let none = "it has none of the calls asked for";
+        return Err(Failure::file(arguments.path(0), none));
     }
-    let mut ours = library();
+    let report = compared(arguments, progress, &asked, &calls, &mut other)?;
+    let done = judged(arguments, &asked, calls, names(&skipped), report);
+    save(arguments, &done.report.found)?;
+    progress.over();
+    put(arguments, &done).map_err(|error| Failure::Output {
+        error,
+        changed: false,
+    })?;
+    Ok(done.status)
+}
+
+/// Cases made or replayed, through both engines.
+fn compared(
+    arguments: &Arguments,
+    progress: &Progress,
+    asked: &Asked,
+    calls: &[usize],
+    other: &mut Remote,
+) -> Result<Report, Failure> {
     let mut pair = Pair {
-        ours: &mut ours,
-        theirs: &mut other,
+        ours: &mut library(),
+        theirs: other,
         older: Older {
             request: asked.request,
         },
     };
     let options = Options {
-        calls: calls.clone(),
+        calls: calls.to_vec(),
         cases: asked.cases,
         time: USUAL_TIME,
         seed: asked.seed,
@@ -148,18 +161,10 @@ pub fn run(arguments: &Arguments, progress: &Progress) -> Result<Status, Failure
         let kinds = counted(kinds as u64, "kind");
         progress.now(format!("{} cases, {kinds} of difference", grouped(cases)));
     };
-    let report = match arguments.value("--replay") {
-        None => run_cases(&mut pair, &options, &mut tell),
-        Some(folder) => replayed(&mut pair, &options, Path::new(folder))?,
-    };
-    let done = judged(arguments, &asked, calls, names(&skipped), report);
-    save(arguments, &done.report.found)?;
-    progress.over();
-    put(arguments, &done).map_err(|error| Failure::Output {
-        error,
-        changed: false,
-    })?;
-    Ok(done.status)
+    match arguments.value("--replay") {
+        None => Ok(run_cases(&mut pair, &options, &mut tell)),
+        Some(folder) => replayed(&mut pair, &options, Path::new(folder)),
+    }
 }
 
 fn judged(

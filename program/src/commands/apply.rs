@@ -65,44 +65,36 @@ pub fn check(arguments: &Arguments, progress: &Progress) -> Result<Status, Failu
 }
 
 pub fn apply(arguments: &Arguments, progress: &Progress) -> Result<Status, Failure> {
+    let made: &[&'static str] = match arguments.flag("--journal") {
+        true => &["--rejects", "--journal"],
+        false => &["--rejects"],
+    };
     let wanted = Wanted {
         state: true,
-        made: &with_reports(
-            arguments,
-            match arguments.flag("--journal") {
-                true => &["--rejects", "--journal"],
-                false => &["--rejects"],
-            },
-        ),
+        made: &with_reports(arguments, made),
         inputs: &[arguments.path(1), Path::new(arguments.needed("--locals"))],
     };
     let outputs = Outputs::open(arguments, &wanted)?;
     let files = Files::read(arguments, progress)?;
-    let record = Record::begin("apply", outputs.master(), &files.master, &files.inputs())?;
+    let mut record = Record::begin("apply", outputs.master(), &files.master, &files.inputs())?;
     record.see_not_taken(arguments, &files.batch)?;
     let mut judged = files.judge(arguments, progress)?;
 
     let charset = arguments.charset();
-    if charset.is_ascii() {
-        convert(&mut judged.rejects, charset).map_err(|place| {
-            let note = format!("the reject file has no ASCII form: byte {place}");
-            notes::refused(Refusal::NoCounterpart, vec![note])
-        })?;
-    }
+    judged.write_rejects_in(charset)?;
     let rows = &judged.master.bytes[..judged.counts.rows as usize * ROW];
     let summary = judged.summary("apply");
     let mut staged = vec![outputs.stage_records("--rejects", progress, &judged.rejects, RECORD)?];
-    let mut record = record;
     if let Some(journal) = &judged.journal {
         record = record.with_journal(Path::new(arguments.needed("--journal")), journal);
         let file = outputs.stage_bytes("--journal", progress, journal)?;
         staged.push(file.before_others());
     }
     let verdicts = judged.verdicts(arguments, charset);
-    let reports = stage_reports(&outputs, arguments, progress, &summary, &verdicts)?;
-    staged.extend(reports);
-    let log = record.finish(&summary, rows);
-    staged.push(outputs.stage_log(progress, &log)?);
+    staged.extend(stage_reports(
+        &outputs, arguments, progress, &summary, &verdicts,
+    )?);
+    staged.push(outputs.stage_log(progress, &record.finish(&summary, rows))?);
     staged.push(outputs.stage_state(progress, rows)?);
     let summary = summary.placed(outputs.put_in_place(staged)?);
     report(arguments, progress, &summary, &verdicts)
@@ -137,80 +129,36 @@ impl Files {
     }
 
     /// Applies the batch in memory.
-    fn judge(self, arguments: &Arguments, progress: &Progress) -> Result<Judged, Failure> {
-        judge(self, arguments, progress)
+    fn judge(mut self, arguments: &Arguments, progress: &Progress) -> Result<Judged, Failure> {
+        let year = arguments.number("--year")?.unwrap_or_default();
+        let details = self.batch.records().saturating_sub(1);
+        let rows_before = self.master.records();
+        let mut lent = Lent::of(details, arguments.flag("--journal"))?;
+        progress.now(format!("judging {}", counted(details as u64, "record")));
+        let counts = self.apply(year, &mut lent).map_err(|refusal| {
+            let notes = self.notes_of(refusal, arguments.flag("--full"));
+            notes::refused(refusal, notes)
+        })?;
+        let listed = lent.verdicts.iter().filter(|&&verdict| verdict != 0);
+        lent.rejects.truncate(RECORD * (listed.count() + 1));
+        Ok(Judged {
+            batch: self.batch,
+            master: self.master,
+            rows_before,
+            verdicts: lent.verdicts,
+            rejects: lent.rejects,
+            journal: lent.journal,
+            counts,
+        })
     }
-}
 
-fn judge(files: Files, arguments: &Arguments, progress: &Progress) -> Result<Judged, Failure> {
-    let Files {
-        batch,
-        locals,
-        mut master,
-    } = files;
-    let year = arguments.number("--year")?.unwrap_or_default();
-    let details = batch.records().saturating_sub(1);
-    let rows_before = master.records();
-    let mut verdicts = zeros(details)?;
-    let mut rejects = zeros(RECORD * (details + 1))?;
-    let mut journal = match arguments.flag("--journal") {
-        true => Some(zeros(journal_size(details))?),
-        false => None,
-    };
-    progress.now(format!("judging {}", counted(details as u64, "record")));
-    let call = Call {
-        master: &mut master.bytes,
-        rows: rows_before,
-        batch: &batch.bytes,
-        locals: &locals.bytes,
-        year,
-        verdicts: &mut verdicts,
-        rejects: &mut rejects,
-    };
-    let counts = call.make(journal.as_mut()).map_err(|refusal| {
-        let full = arguments.flag("--full");
-        notes::refused(
-            refusal,
-            notes_of(refusal, &mut master, &batch, &locals, full),
-        )
-    })?;
-    let listed = verdicts.iter().filter(|&&verdict| verdict != 0).count();
-    rejects.truncate(RECORD * (listed + 1));
-    Ok(Judged {
-        batch,
-        master,
-        rows_before,
-        verdicts,
-        rejects,
-        journal,
-        counts,
-    })
-}
-
-/// What is lent to the call.
-struct Call<'a> {
-    master: &'a mut [u8],
-    rows: usize,
-    batch: &'a [u8],
-    locals: &'a [u8],
-    year: u64,
-    verdicts: &'a mut [u64],
-    rejects: &'a mut [u8],
-}
-
-impl Call<'_> {
-    /// Applies the batch, with a journal or without; the journal is then as long as it is.
-    fn make(self, journal: Option<&mut Vec<u8>>) -> Result<Counts, Refusal> {
-        let Call {
-            master,
-            rows,
-            batch,
-            locals,
-            year,
-            verdicts,
-            rejects,
-        } = self;
-        let Some(journal) = journal else {
+    /// The call, with a journal or without; the journal is then as long as it is.
+    fn apply(&mut self, year: u64, lent: &mut Lent) -> Result<Counts, Refusal> {
+        let rows = self.master.records();
+        let master = &mut self.master.bytes;
+        let (batch, locals) = (&self.batch.bytes, &self.locals.bytes);
+        let (verdicts, rejects) = (&mut lent.verdicts, &mut lent.rejects);
+        let Some(journal) = &mut lent.journal else {
             return fantanolive::apply(master, rows, batch, locals, year, verdicts, rejects);
         };
         let (counts, length) = fantanolive::apply_journaled(
@@ -219,26 +167,39 @@ impl Call<'_> {
         journal.truncate(length as usize);
         Ok(counts)
     }
+
+    /// What is known of the files where the batch is refused.
+    fn notes_of(&mut self, refusal: Refusal, full: bool) -> Vec<String> {
+        let (batch, master) = (&self.batch, &mut self.master);
+        let rows = master.records();
+        match refusal {
+            Refusal::WrongLocals => notes::of_locals(&self.locals),
+            Refusal::WrongMaster => length::of_length(master),
+            Refusal::UnsoundRow => notes::of_rows(master, rows, full),
+            Refusal::NoRoom => {
+                let adds = adds_in(&batch.bytes[..batch.bytes.len() - RECORD]);
+                vec![note_of(&master.name(), rows as u64, adds)]
+            }
+            _ => batch_notes::of_batch(refusal, batch),
+        }
+    }
 }
 
-/// What is known of the files of a batch that was refused.
-fn notes_of(
-    refusal: Refusal,
-    master: &mut Input,
-    batch: &Input,
-    locals: &Input,
-    full: bool,
-) -> Vec<String> {
-    let rows = master.records();
-    match refusal {
-        Refusal::WrongLocals => notes::of_locals(locals),
-        Refusal::WrongMaster => length::of_length(master),
-        Refusal::UnsoundRow => notes::of_rows(master, rows, full),
-        Refusal::NoRoom => {
-            let adds = adds_in(&batch.bytes[..batch.bytes.len() - RECORD]);
-            vec![note_of(&master.name(), rows as u64, adds)]
-        }
-        _ => batch_notes::of_batch(refusal, batch),
+/// What the call writes besides the master.
+struct Lent {
+    verdicts: Vec<u64>,
+    rejects: Vec<u8>,
+    journal: Option<Vec<u8>>,
+}
+
+impl Lent {
+    fn of(details: usize, with_journal: bool) -> Result<Lent, Failure> {
+        let journal = with_journal.then(|| zeros(journal_size(details)));
+        Ok(Lent {
+            verdicts: zeros(details)?,
+            rejects: zeros(RECORD * (details + 1))?,
+            journal: journal.transpose()?,
+        })
     }
 }
 
@@ -260,6 +221,17 @@ fn verdict_of(command: &str, to_fix: u64, counts: &Counts) -> String {
 }
 
 impl Judged {
+    /// Turns the reject file into the characters that are asked for.
+    fn write_rejects_in(&mut self, charset: Charset) -> Result<(), Failure> {
+        if !charset.is_ascii() {
+            return Ok(());
+        }
+        convert(&mut self.rejects, charset).map_err(|place| {
+            let note = format!("the reject file has no ASCII form: byte {place}");
+            notes::refused(Refusal::NoCounterpart, vec![note])
+        })
+    }
+
     fn summary(&self, command: &'static str) -> Summary {
         let to_fix = self.verdicts.iter().filter(|&v| v & ERRORS != 0).count() as u64;
         let form = Form::new(Charset::Ebcdic, Placeholder::Dot, false);

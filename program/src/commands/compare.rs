@@ -33,16 +33,7 @@ const DATE: &[u8] = b"20000101";
 pub fn run(arguments: &Arguments, progress: &Progress) -> Result<Status, Failure> {
     let listing = Listing::of(arguments)?;
     let charset = arguments.charset();
-    let with_records: &[&'static str] = match arguments.flag("--records") {
-        true => &["--records"],
-        false => &[],
-    };
-    let wanted = Wanted {
-        state: false,
-        made: &with_reports(arguments, with_records),
-        inputs: &with_list(arguments, &[arguments.path(0), arguments.path(1)]),
-    };
-    let outputs = Outputs::open(arguments, &wanted)?;
+    let outputs = open(arguments)?;
     let received = read_received(arguments, charset, progress)?;
     let locals = read_list(arguments, charset, progress)?;
     let mut master = read_master(arguments, 0, progress)?;
@@ -74,6 +65,20 @@ pub fn run(arguments: &Arguments, progress: &Progress) -> Result<Status, Failure
         |screen| comparison.put_text(screen),
         |json| comparison.put_json(json),
     )
+}
+
+/// The files that are asked for.
+fn open(arguments: &Arguments) -> Result<Outputs, Failure> {
+    let with_records: &[&'static str] = match arguments.flag("--records") {
+        true => &["--records"],
+        false => &[],
+    };
+    let wanted = Wanted {
+        state: false,
+        made: &with_reports(arguments, with_records),
+        inputs: &with_list(arguments, &[arguments.path(0), arguments.path(1)]),
+    };
+    Outputs::open(arguments, &wanted)
 }
 
 /// Writes the reports that are asked for.

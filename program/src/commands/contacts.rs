@@ -45,26 +45,15 @@ pub fn run(arguments: &Arguments, progress: &Progress) -> Result<Status, Failure
     let listing = Listing::of(arguments)?;
     let charset = arguments.charset();
     let file = read(arguments.path(1), &CONTACTS, charset, progress)?.into_ebcdic()?;
-    let sent = file.records();
-    let mut table = read_table(arguments, sent, progress)?;
-    let before = table.records();
-    let mut list = zeros(sent)?;
-    progress.now(format!(
-        "reading {}",
-        counted(sent as u64, "contact record")
-    ));
-    let counts = fantanolive::contacts_update(&mut table.bytes, before, &file.bytes, &mut list)
-        .map_err(|refusal| notes::refused(refusal, notes_of(refusal, &table, &file)))?;
-    list.truncate(counts.faulty as usize);
-    let records = &table.bytes[..counts.contacts as usize * CONTACT];
-    let summary = summary_of(&counts, sent as u64, before as u64);
+    let updated = Updated::of(arguments, &file, progress)?;
+    let summary = updated.summary(file.records() as u64);
     let form = form_of(arguments, Charset::Ebcdic);
     let reason = |_, record: &[u8]| reason_of(&form, record);
     let listed = Listed {
         most_in_files: listing.most_in_files,
-        ..faulty(arguments, &list, &file, &reason)
+        ..faulty(arguments, &updated.faulty, &file, &reason)
     };
-    let chart = report_files::chart(arguments, || chart_of(&list, &file));
+    let chart = report_files::chart(arguments, || chart_of(&updated.faulty, &file));
     let page = Page {
         about: report_files::about(arguments, &file.name()),
         chart: ("Wrong fields", chart),
@@ -73,7 +62,7 @@ pub fn run(arguments: &Arguments, progress: &Progress) -> Result<Status, Failure
         full: arguments.flag("--full"),
     };
     let mut staged = report_files::stage(&outputs, arguments, progress, &summary, &page)?;
-    staged.push(outputs.stage_state(progress, records)?);
+    staged.push(outputs.stage_state(progress, updated.records())?);
     let summary = summary.placed(outputs.put_in_place(staged)?);
     print(
         arguments,
@@ -84,17 +73,52 @@ pub fn run(arguments: &Arguments, progress: &Progress) -> Result<Status, Failure
     )
 }
 
-fn summary_of(counts: &ContactCounts, sent: u64, before: u64) -> Summary {
-    Summary::new("contacts", Status::of_rejects(counts.faulty > 0))
-        .verdict(match counts.faulty {
-            0 => "carried out, no record faulty".to_string(),
-            faulty => format!("carried out, {} faulty", counted(faulty, "record")),
+/// A table with the records of a file read into it.
+struct Updated {
+    table: Input,
+    before: usize,
+    counts: ContactCounts,
+    /// The numbers of the faulty records, the first being 1.
+    faulty: Vec<u32>,
+}
+
+impl Updated {
+    fn of(arguments: &Arguments, file: &Input, progress: &Progress) -> Result<Updated, Failure> {
+        let sent = file.records();
+        let mut table = read_table(arguments, sent, progress)?;
+        let before = table.records();
+        let mut faulty = zeros(sent)?;
+        let records = counted(sent as u64, "contact record");
+        progress.now(format!("reading {records}"));
+        let bytes = &mut table.bytes;
+        let counts = fantanolive::contacts_update(bytes, before, &file.bytes, &mut faulty)
+            .map_err(|refusal| notes::refused(refusal, notes_of(refusal, &table, file)))?;
+        faulty.truncate(counts.faulty as usize);
+        Ok(Updated {
+            table,
+            before,
+            counts,
+            faulty,
         })
-        .number("records read", sent)
-        .of_which("good", sent - counts.faulty)
-        .of_which("faulty", counts.faulty)
-        .number("table before", before)
-        .number("table", counts.contacts)
+    }
+
+    fn records(&self) -> &[u8] {
+        &self.table.bytes[..self.counts.contacts as usize * CONTACT]
+    }
+
+    fn summary(&self, sent: u64) -> Summary {
+        let faulty = self.counts.faulty;
+        Summary::new("contacts", Status::of_rejects(faulty > 0))
+            .verdict(match faulty {
+                0 => "carried out, no record faulty".to_string(),
+                faulty => format!("carried out, {} faulty", counted(faulty, "record")),
+            })
+            .number("records read", sent)
+            .of_which("good", sent - faulty)
+            .of_which("faulty", faulty)
+            .number("table before", self.before as u64)
+            .number("table", self.counts.contacts)
+    }
 }
 
 /// Reads the table with room for so many new records; with --new there is none to read.

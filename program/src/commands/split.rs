@@ -12,6 +12,7 @@ use crate::commands::output::{form_of, print};
 use crate::failure::{counted, headed, Failure, Status, STANDARD};
 use crate::files::outputs::Outputs;
 use crate::files::read::{read, Input};
+use crate::files::replace::Staged;
 use crate::progress::Progress;
 use crate::records::columns::control;
 use crate::records::control_record::control_record;
@@ -43,25 +44,12 @@ pub fn run(arguments: &Arguments, progress: &Progress) -> Result<Status, Failure
     let ends = ends_of(arguments, &batch, &way)?;
     let files = files_of(arguments, ends.len())?;
     let outputs = Outputs::open_files(arguments, &files, &[arguments.path(0)])?;
-    let (mut parts, mut staged) = (Vec::new(), Vec::new());
-    let mut first = 0;
-    for (number, &end) in ends.iter().enumerate() {
-        let (part, mut record) = part_of(&batch, first, end)?;
-        let details = &mut batch.bytes[first * RECORD..end * RECORD];
-        if charset.is_ascii() {
-            // the batch came from ASCII
-            let _ = convert(details, charset);
-            let _ = convert(&mut record, charset);
-        }
-        staged.push(outputs.stage_file(number, progress, details, &record)?);
-        parts.push(part);
-        first = end;
-    }
+    let (parts, staged) = stage_parts(&outputs, charset, progress, &mut batch, &ends)?;
     let form = form_of(arguments, Charset::Ebcdic);
     let last = batch.last().unwrap_or_default();
     let summary = Summary::new("split", Status::Done)
         .text("state", form.field(&control::STATE, last))
-        .number("details", first as u64)
+        .number("details", batch.records().saturating_sub(1) as u64)
         .placed(outputs.put_in_place(staged)?);
     let names = files.iter().map(|file| file.display().to_string());
     let made = Made {
@@ -214,6 +202,31 @@ fn files_of(arguments: &Arguments, parts: usize) -> Result<Vec<PathBuf>, Failure
         PathBuf::from(name)
     };
     Ok((1..=parts).map(name).collect())
+}
+
+/// Writes each part with its control record.
+fn stage_parts(
+    outputs: &Outputs,
+    charset: Charset,
+    progress: &Progress,
+    batch: &mut Input,
+    ends: &[usize],
+) -> Result<(Vec<Part>, Vec<Staged<'static>>), Failure> {
+    let (mut parts, mut staged) = (Vec::new(), Vec::new());
+    let mut first = 0;
+    for (number, &end) in ends.iter().enumerate() {
+        let (part, mut record) = part_of(batch, first, end)?;
+        let details = &mut batch.bytes[first * RECORD..end * RECORD];
+        if charset.is_ascii() {
+            // the batch came from ASCII
+            let _ = convert(details, charset);
+            let _ = convert(&mut record, charset);
+        }
+        staged.push(outputs.stage_file(number, progress, details, &record)?);
+        parts.push(part);
+        first = end;
+    }
+    Ok((parts, staged))
 }
 
 /// A part and its control record. The record behind its details, whatever it is, stands in that one's place for the totals.

@@ -148,15 +148,9 @@ pub fn read_with_room(
     let has_length = about.is_file() && path != Path::new(STANDARD);
     let (bytes, read) = if has_length {
         let length = usize::try_from(about.len()).unwrap_or(usize::MAX);
-        let read = length.min(most);
-        let mut bytes = zeros(room(read).max(read))?;
-        // of a longer file its length is enough, and its front for what can be said of it
-        let wanted = match length < most {
-            true => length,
-            false => read.min(FRONT),
-        };
-        read_regular(&mut file, length, &mut bytes[..wanted], progress).map_err(failed)?;
-        (bytes, read)
+        let mut bytes = zeros(room(length.min(most)).max(length.min(most)))?;
+        read_regular(&mut file, length, most, &mut bytes, progress).map_err(failed)?;
+        (bytes, length.min(most))
     } else {
         read_stream(&mut file, most, room).map_err(failed)?
     };
@@ -186,17 +180,22 @@ pub fn open(path: &Path) -> io::Result<File> {
     File::open(path)
 }
 
-/// Reads a regular file of a length, or the front of a longer one, which fills the buffer.
+/// Reads a regular file of a length. Where that isn't less than the most that is taken, the length is enough, and the front for what
+/// can be said of it.
 fn read_regular(
     file: &mut File,
     length: usize,
+    most: usize,
     bytes: &mut [u8],
     progress: &Progress,
 ) -> io::Result<()> {
     let changed = || io::Error::other("it changed while it was read");
-    let whole = bytes.len();
+    let whole = match length < most {
+        true => length,
+        false => most.min(FRONT),
+    };
     let mut done = 0;
-    for part in bytes.chunks_mut(PART) {
+    for part in bytes[..whole].chunks_mut(PART) {
         match file.read_exact(part) {
             Err(error) if error.kind() == io::ErrorKind::UnexpectedEof => return Err(changed()),
             other => other?,

@@ -321,37 +321,39 @@ mod tests {
         }
     }
 
+    /// A balance, whether the case is live, the line that closed it, and whether one collected more than it owed; by key.
+    type Cases = HashMap<Vec<u8>, (u64, bool, Option<u32>, bool)>;
+
+    fn cases_of(rows: &[u8]) -> Cases {
+        let case = |bytes: &[u8]| {
+            let case = Case::of(bytes);
+            let key = bytes[..KEY].to_vec();
+            (key, (case.balance, case.is_live, None, false))
+        };
+        rows.chunks_exact(ROW).map(case).collect()
+    }
+
     /// The paper's rules, line by line: the reasons and the money.
     fn by_the_paper(before: &[u8], lines: &[u8]) -> (Vec<(u32, Reason)>, Money, u64) {
-        let mut cases: HashMap<Vec<u8>, (u64, bool, Option<u32>, bool)> = HashMap::new();
-        for bytes in before.chunks_exact(ROW) {
-            let case = Case::of(bytes);
-            cases.insert(
-                bytes[..KEY].to_vec(),
-                (case.balance, case.is_live, None, false),
-            );
-        }
+        let mut cases = cases_of(before);
         let mut money = Money::default();
         money.before = cases.values().map(|case| case.0).sum();
         let (mut listed, mut excess) = (Vec::new(), 0);
         for (number, record) in (1..).zip(lines.chunks_exact(LINE)) {
-            let amounts = (
-                cents(line::COLLECTION.of(record)),
-                cents(line::ADJUSTMENT.of(record)),
-            );
+            let amounts = [line::COLLECTION, line::ADJUSTMENT].map(|field| cents(field.of(record)));
             let case = cases.get_mut(&key_of(record)[..]);
             let reason = match (amounts, case) {
-                ((None, _) | (_, None), _) => Reason::NoAmount,
-                ((Some(1..), Some(1..)), _) => Reason::TwoAmounts,
+                ([None, _] | [_, None], _) => Reason::NoAmount,
+                ([Some(1..), Some(1..)], _) => Reason::TwoAmounts,
                 (_, None) => Reason::NoCase,
                 (_, Some((_, false, None, _))) => Reason::ClosedBefore,
                 (_, Some((_, false, Some(line), _))) => Reason::ClosedByLine(*line),
-                ((_, Some(adjustment)), Some((balance, ..)))
+                ([_, Some(adjustment)], Some((balance, ..)))
                     if *balance + adjustment > 9_999_999_999 =>
                 {
                     Reason::TooLarge(*balance)
                 }
-                ((Some(collection), Some(adjustment)), Some(case)) => {
+                ([Some(collection), Some(adjustment)], Some(case)) => {
                     money.collected += collection;
                     money.adjusted += adjustment;
                     excess += collection.saturating_sub(case.0);
