@@ -1,7 +1,7 @@
 #!/usr/bin/env bash
-# Builds everything but the proved archive from a copy of the source in another folder, in another time zone and with another mask, and compares the packages (bin/package)
-# with those of this folder: the same bytes in every file, and no path of either folder in the program. Skipped where the program isn't built. Prints what
-# differs, and then status 1.
+# Builds everything from a copy of the source in another folder, in another time zone and with another mask, and compares the packages (bin/package) with those of this folder:
+# the same bytes in every file, and no path of either folder in the program or the libraries. The archive is built there over the proved crates of this folder; it is copied, with a
+# line, where the Rattle kit is missing or a crate has changed since it was built. Skipped where the program isn't built. Prints what differs, and then status 1.
 set -u
 export LC_ALL=C PYTHONDONTWRITEBYTECODE=1
 root=$(dirname -- "$(dirname -- "$(readlink -f -- "$0")")")
@@ -14,27 +14,40 @@ fi
 work=$(mktemp -d) || exit 2
 trap 'rm -rf -- "$work"' EXIT
 other=$work/another/folder
-mkdir -p "$other/program" "$other/target/staticlib" || exit 2
+mkdir -p "$other/program" "$other/target" || exit 2
 cp -r agreement bin bindings docs examples include package CHANGELOG.md README.md "$other"
 cp -r program/src "$other/program"
-cp target/staticlib/libfantanolive.a "$other/target/staticlib"
 failed=
 
-# built COMMAND: runs a command of bin/ in the other folder
+# built FOLDER COMMAND..: runs a command there
 built() {
-    if ! (cd / && umask 027 && TZ=Pacific/Auckland "$other/bin/$1") >"$work/out" 2>&1; then
+    if ! (cd -- "$1" && shift && umask 027 && TZ=Pacific/Auckland "$@") >"$work/out" 2>&1; then
         cat "$work/out"
         exit 1
     fi
 }
-built build-shared
-built build-program
-built build-docs
-[ ! -f "target/java/fantanolive-$(bin/version).jar" ] || built build-jar
-built package
+archive=target/staticlib/libfantanolive.a
+if command -v rt >/dev/null && [ -d target/stamp ] && [ -z "$(find crates crates.txt -newer "$archive" -print -quit)" ]; then
+    cp -a crates crates.txt "$other"
+    cp -a target/stamp target/rlib target/log "$other/target"
+    built "$other" rt staticlib fantanolive
+else
+    echo 'skipped: without the Rattle kit and the proved crates the archive is not built again'
+    mkdir "$other/target/staticlib"
+    cp "$archive" "$other/target/staticlib"
+fi
+built / "$other/bin/build-shared"
+built / "$other/bin/build-program"
+built / "$other/bin/build-docs"
+[ ! -f "target/java/fantanolive-$(bin/version).jar" ] || built / "$other/bin/build-jar"
+built / "$other/bin/package"
 # shellcheck source=tests/fresh-packages.sh
 . tests/fresh-packages.sh
 fresh_packages >"$work/out" 2>&1 || { cat "$work/out"; exit 1; }
+if ! cmp "$archive" "$other/$archive"; then
+    echo 'same-bytes: another folder gives another archive'
+    failed=yes
+fi
 if ! cmp target/program/fantanolive "$other/target/program/fantanolive"; then
     echo 'same-bytes: another folder gives another program (was bin/build-program run on this source?)'
     failed=yes
@@ -44,8 +57,8 @@ if ! diff target/packages/SHA256SUMS "$other/target/packages/SHA256SUMS"; then
     failed=yes
 fi
 for path in "$root" "$work" "${HOME:-/root}/"; do
-    if grep -aqF -- "$path" target/program/fantanolive "$other/target/program/fantanolive" target/sharedlib/libfantanolive.so; then
-        echo "same-bytes: the program or the library has the path $path in it"
+    if grep -aqF -- "$path" {,"$other/"}{target/program/fantanolive,target/sharedlib/libfantanolive.so,"$archive"}; then
+        echo "same-bytes: the program or a library has the path $path in it"
         failed=yes
     fi
 done
