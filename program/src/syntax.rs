@@ -96,7 +96,7 @@ const WAIT: Opt = optional(
     "SECONDS",
     "wait so long while another run is at work",
 );
-const DRY_RUN: Opt = flag("--dry-run", "say what would be done, and write nothing");
+const DRY_RUN: Opt = flag("--dry-run", "say what would be done, and change nothing");
 const LIMIT: Opt = optional("--limit", "N", "list at most N records in place of ten");
 const ALL: Opt = flag("--all", "list all records");
 const BY_OFFICE: Opt = flag("--by-office", "count and list records by their local codes");

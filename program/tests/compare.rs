@@ -62,6 +62,18 @@ fn cases_here_and_there() {
     assert!(json.contains(cases), "{json}");
 }
 
+/// A case that differs goes by the name that the master has.
+#[test]
+fn names_are_the_masters() {
+    let folder = folder("compare-names");
+    let received = [rec("123456789", "N", ["SMYTH", "JOHN"], "00000025"), rct(1)];
+    folder.write("received.bin", &received.concat());
+    let ran = folder.run(&COMPARE);
+    let shown =
+        "OH*****6789N  SMITH, JOHN  differs\n    Obligor Last Name: 'SMITH' here, 'SMYTH' there\n";
+    assert!(ran.out.contains(shown), "{}", ran.out);
+}
+
 #[test]
 fn what_a_master_gives_is_the_same() {
     let folder = folder("compare-same");

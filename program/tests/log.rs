@@ -163,6 +163,10 @@ fn dry_runs_write_nothing() {
         .starts_with("post: would be carried out, 1 line not posted; nothing is written\n"));
     assert_eq!(folder.read("two.bin"), two_rows("00"));
     assert_eq!(folder.names(), names);
+    let reported = folder.run(&with(&POST, &["--dry-run", "--csv", "list.csv"]));
+    assert!(reported.out.starts_with(
+        "post: would be carried out, 1 line not posted; only the report is written\n"
+    ));
     let wet = folder.run(&POST);
     let behind = |text: &str| text.split("\n\n").nth(1).expect("a list").to_string();
     assert_eq!(behind(&dry.out), behind(&wet.out));

@@ -64,6 +64,23 @@ fn a_checked_batch() {
     assert_eq!(folder.run(&with(&CHECK, &over)).status, 3);
 }
 
+/// The lines of a record, one for each of its codes, are not parted where the page is printed.
+#[test]
+fn lines_of_a_record_stay_together() {
+    let folder = Folder::with_example("reports-together");
+    let blank = record(&[(1, "OH")]);
+    folder.write(
+        "batch.bin",
+        &[blank.clone(), blank, control(0, 0, 0, 0)].concat(),
+    );
+    let ran = folder.run(&with(&CHECK, &["--new", "--html", "page.html"]));
+    assert_eq!(ran.status, 1, "{ran:?}");
+    let page = body(&folder, "page.html");
+    assert_eq!(page.matches("<tbody>").count(), 2);
+    assert!(page.matches("<td data-name=\"Record\">1</td>").count() > 1);
+    assert!(page.contains("</tr>\n</tbody>\n<tbody>\n<tr><td data-name=\"Record\">2</td>"));
+}
+
 #[test]
 fn reports_on_standard_output() {
     let folder = Folder::with_example("reports-standard");

@@ -75,7 +75,7 @@ pub fn run(arguments: &Arguments, progress: &Progress) -> Result<Status, Failure
     let record = Record::begin("post", outputs.master(), &master, &[&file])?;
     record.see_not_taken(arguments, &file)?;
     let posted = Posted::of(master, file, arguments, progress)?;
-    let summary = posted.summary(false);
+    let summary = posted.summary(None);
     let log = record.finish(&summary, &posted.master.bytes);
     let mut staged = posted.stage_reports(&outputs, arguments, progress, &summary)?;
     staged.push(outputs.stage_log(progress, &log)?);
@@ -97,7 +97,11 @@ fn dry_run(arguments: &Arguments, progress: &Progress) -> Result<Status, Failure
     let (master, file) = read_files(arguments, progress)?;
     let before = previous_run("post", &target, &master, &file)?;
     let posted = Posted::of(master, file, arguments, progress)?;
-    let mut summary = posted.summary(true).would_be();
+    let written = match with_reports(arguments, &[]).is_empty() {
+        true => "nothing is written",
+        false => "only the report is written",
+    };
+    let mut summary = posted.summary(Some(written)).would_be();
     if let Some(time) = before {
         summary = summary.text("posted before", time);
     }
@@ -172,13 +176,13 @@ impl Posted {
         }
     }
 
-    /// What was done, or would be: nothing is written then.
-    fn summary(&self, is_dry: bool) -> Summary {
+    /// What was done, or would be; a dry run says what is written.
+    fn summary(&self, written: Option<&str>) -> Summary {
         let lines = self.file.records().saturating_sub(1) as u64;
         let listed = self.listed.len() as u64;
         let money = &self.money;
         Summary::new("post", Status::of_rejects(listed > 0))
-            .verdict(verdict_of(listed, is_dry))
+            .verdict(verdict_of(listed, written))
             .number("rows", self.master.records() as u64)
             .number("lines", lines)
             .of_which("posted", lines - listed)
@@ -263,14 +267,14 @@ impl Posted {
 }
 
 /// What a person wants to know first of a posting.
-fn verdict_of(listed: u64, is_dry: bool) -> String {
+fn verdict_of(listed: u64, written: Option<&str>) -> String {
     let lines = match listed {
         0 => "every line posted".to_string(),
         listed => format!("{} not posted", counted(listed, "line")),
     };
-    match is_dry {
-        false => format!("carried out, {lines}"),
-        true => format!("would be carried out, {lines}; nothing is written"),
+    match written {
+        None => format!("carried out, {lines}"),
+        Some(written) => format!("would be carried out, {lines}; {written}"),
     }
 }
 

@@ -31,10 +31,8 @@ impl Comparison<'_> {
     /// The record by which a case is shown.
     fn record(&self, found: &Found) -> &[u8] {
         match *found {
-            Found::OnlyHere(here) => self.compared.here(here),
-            Found::OnlyThere(there) | Found::Differs(_, there) | Found::Again(there) => {
-                self.compared.there(there)
-            }
+            Found::OnlyHere(here) | Found::Differs(here, _) => self.compared.here(here),
+            Found::OnlyThere(there) | Found::Again(there) => self.compared.there(there),
         }
     }
 

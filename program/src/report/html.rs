@@ -123,19 +123,28 @@ impl Page<'_> {
             write!(out, "<th>{}</th>", escaped(head))?;
         }
         writeln!(out, "</tr></thead>\n<tbody>")?;
+        let mut record: Option<String> = None;
         self.list.put_lines(&mut |cells| {
-            write!(out, "<tr>")?;
-            for (head, cell) in heads.iter().zip(cells) {
-                write!(
-                    out,
-                    "<td data-name=\"{}\">{}</td>",
-                    escaped(head),
-                    self.text(cell)
-                )?;
+            // the lines of a record, which begin alike, stay on one printed page
+            let is_same = record.as_deref() == cells.first().copied();
+            if record.is_some() && !is_same {
+                writeln!(out, "</tbody>\n<tbody>")?;
             }
-            writeln!(out, "</tr>")
+            if !is_same {
+                record = cells.first().map(|first| first.to_string());
+            }
+            self.put_line(heads, cells, out)
         })?;
         writeln!(out, "</tbody>\n</table>")
+    }
+
+    fn put_line(&self, heads: &[&str], cells: &[&str], out: &mut dyn Write) -> io::Result<()> {
+        write!(out, "<tr>")?;
+        for (head, cell) in heads.iter().zip(cells) {
+            let (head, cell) = (escaped(head), self.text(cell));
+            write!(out, "<td data-name=\"{head}\">{cell}</td>")?;
+        }
+        writeln!(out, "</tr>")
     }
 }
 
