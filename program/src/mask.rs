@@ -49,7 +49,8 @@ fn is_ssn(digits: &[u8], longer: bool) -> bool {
 }
 
 fn masked_with(text: &str, longer: bool) -> Cow<'_, str> {
-    if run_of_digits(text) < SHOWN {
+    let longest = run_of_digits(text);
+    if longest < SHOWN || longest < DIGITS && !text.contains('-') {
         return Cow::Borrowed(text);
     }
     let mut bytes = text.as_bytes().to_vec();

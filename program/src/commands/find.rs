@@ -14,7 +14,7 @@ use crate::files::read::Input;
 use crate::progress::Progress;
 use crate::records::columns::row;
 use crate::records::field::Form;
-use crate::report::fields::{put_json_fields, put_list};
+use crate::report::fields::{put_list, Members};
 use crate::report::json::Json;
 use crate::report::notes;
 use crate::report::screen::{Screen, Style};
@@ -167,7 +167,7 @@ impl Found<'_> {
             },
             |json| {
                 json.name("fields")?;
-                put_json_fields(json, row::FIELDS, row, &self.form)
+                Members::of(row::FIELDS).put(json, row, &self.form)
             },
         )
     }
@@ -241,6 +241,7 @@ impl Found<'_> {
     }
 
     fn put_json<W: Write>(&self, json: &mut Json<W>, counted: &str) -> io::Result<()> {
+        let members = Members::of(row::FIELDS);
         json.name("answers")?;
         json.begin_array()?;
         for answer in self.answers {
@@ -254,7 +255,7 @@ impl Found<'_> {
             if let Ok(place) = answer.place {
                 json.number_of("row", place + 1)?;
                 json.name("fields")?;
-                put_json_fields(json, row::FIELDS, self.row(place), &self.form)?;
+                members.put(json, self.row(place), &self.form)?;
             }
             json.end_object()?;
         }

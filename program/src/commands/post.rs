@@ -59,6 +59,8 @@ struct Posted {
     listed: Vec<u32>,
     reasons: Vec<Reason>,
     money: Money,
+    /// What is noted of the last record.
+    notes: Vec<String>,
 }
 
 pub fn run(arguments: &Arguments, progress: &Progress) -> Result<Status, Failure> {
@@ -138,20 +140,15 @@ impl Posted {
             read: &|row, bytes| master.read_again(row * ROW, bytes),
         };
         let (reasons, money) = (posted.reasons()?, Money::of(&posted)?);
+        let notes = total_notes(posted.lines, file.last().unwrap_or_default());
         Ok(Posted {
             listed: list,
             reasons,
             money,
+            notes,
             master,
             file,
         })
-    }
-
-    /// What is noted of the last record.
-    fn notes(&self) -> Vec<String> {
-        let lines = self.file.records().saturating_sub(1);
-        let last = self.file.last().unwrap_or_default();
-        total_notes(&self.file.bytes[..lines * LINE], last)
     }
 
     /// How many lines have each reason, for a chart.
@@ -218,7 +215,7 @@ impl Posted {
             heads: &HEADS,
             most_in_files: listing.most_in_files,
             reason,
-            notes: self.notes(),
+            notes: self.notes.clone(),
         }
     }
 

@@ -15,7 +15,7 @@ use crate::records::columns::{Field, Layout};
 use crate::records::field::{Form, Placeholder};
 use crate::records::kinds::{FileKind, KINDS, MASTER};
 use crate::records::selection::{field_of, Selection};
-use crate::report::fields::{in_order, put_json_fields, put_list, Table};
+use crate::report::fields::{in_order, put_list, Members, Table};
 use crate::report::json::Json;
 use crate::report::screen::{Screen, Style};
 use crate::report::summary::Summary;
@@ -318,22 +318,22 @@ impl Shown<'_> {
     }
 
     fn put_json<W: Write>(&self, json: &mut Json<W>) -> io::Result<()> {
-        let last = self.last_fields();
+        let last = self.last_fields().map(Members::of);
         let end = self.range.end - usize::from(self.hides_last());
-        let all: Vec<Field> = match &self.fields {
+        let all = match &self.fields {
             Some(fields) => fields.iter().map(|field| **field).collect(),
             None => self.input.kind.fields.to_vec(),
         };
+        let all = Members::of(&all);
         json.name("shown")?;
         json.begin_array()?;
         for number in self.numbers(self.range.start..end) {
             let is_last = number + 1 == self.input.records();
-            let fields = last.filter(|_| is_last);
+            let members = last.as_ref().filter(|_| is_last).unwrap_or(&all);
             json.begin_object()?;
             json.number_of("record", number as u64 + 1)?;
             json.name("fields")?;
-            let fields = fields.unwrap_or(&all);
-            put_json_fields(json, fields, self.input.record(number), &self.form)?;
+            members.put(json, self.input.record(number), &self.form)?;
             json.end_object()?;
         }
         json.end_array()

@@ -3,27 +3,27 @@
 use super::columns::row;
 use crate::failure::grouped;
 
-/// The digit of a byte in EBCDIC.
-fn digit(byte: u8) -> Option<u64> {
-    matches!(byte, 0xF0..=0xF9).then(|| u64::from(byte & 0x0F))
+fn is_digit(byte: &u8) -> bool {
+    matches!(byte, 0xF0..=0xF9)
+}
+
+/// The number of digits in EBCDIC, whatever their signs.
+fn number(digits: &[u8]) -> u64 {
+    let add = |sum: u64, byte: &u8| sum * 10 + u64::from(byte & 0x0F);
+    digits.iter().fold(0, add)
 }
 
 /// The cents of an amount of a collection file: digits, the last of which may carry a positive sign. None where it is no such
 /// amount.
 pub fn cents_of(bytes: &[u8]) -> Option<u64> {
     let (last, front) = bytes.split_last()?;
-    let last = match last {
-        0xC0..=0xC9 => u64::from(last & 0x0F),
-        other => digit(*other)?,
-    };
-    let add = |sum: u64, byte: &u8| Some(sum * 10 + digit(*byte)?);
-    Some(front.iter().try_fold(0, add)? * 10 + last)
+    let is_last = is_digit(last) || matches!(last, 0xC0..=0xC9);
+    (is_last && front.iter().all(is_digit)).then(|| number(bytes))
 }
 
 /// The balance of a sound row in cents.
 pub fn balance_of(bytes: &[u8]) -> u64 {
-    let digits = row::ARREARAGE.of(bytes).iter().chain(row::CENTS.of(bytes));
-    digits.fold(0, |sum, byte| sum * 10 + u64::from(byte & 0x0F))
+    number(row::ARREARAGE.of(bytes)) * 100 + number(row::CENTS.of(bytes))
 }
 
 /// `1,234.56`.

@@ -1,10 +1,14 @@
 //! The fields of a detail that a code is about. Which parts of an address are wrong is asked of the library, part by part.
 
+use std::borrow::Cow;
+
 use fantanolive::has_code;
 
 use super::columns::{detail, Field};
 use super::made_up_case::{judged, record_of};
-use crate::code_page::argument;
+
+/// A space in EBCDIC.
+const SPACE: u8 = 0x40;
 
 /// The code of a wrong address.
 const ADDRESS: u32 = 14;
@@ -56,17 +60,16 @@ fn wrong_parts(record: &[u8]) -> Vec<Field> {
 }
 
 /// A field's own name, and with its columns for a filler.
-pub fn name_of(field: &Field) -> String {
+pub fn name_of(field: &Field) -> Cow<'static, str> {
     match field.first == detail::FILLER.first {
-        true => format!("{} {}", field.name, field.columns()),
-        false => field.name.to_string(),
+        true => Cow::Owned(format!("{} {}", field.name, field.columns())),
+        false => Cow::Borrowed(field.name),
     }
 }
 
 /// Whether a field is blank in a record.
 pub fn is_blank(field: &Field, record: &[u8]) -> bool {
-    let space = argument(b" ")[0];
-    field.of(record).iter().all(|&byte| byte == space)
+    field.of(record).iter().all(|&byte| byte == SPACE)
 }
 
 #[cfg(test)]

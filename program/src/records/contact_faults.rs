@@ -1,5 +1,7 @@
 //! What of a faulty contact record is wrong: the library is asked about each part with the others right.
 
+use std::sync::LazyLock;
+
 use fantanolive::{contacts_codes, Refusal, CONTACT};
 
 use super::columns::{contact, Field};
@@ -26,6 +28,12 @@ const PARTS: [(&[Field], &str); 10] = [
     (&[contact::FILLER], ""),
 ];
 
+/// The record of these parts.
+static RIGHT: LazyLock<Vec<u8>> = LazyLock::new(|| {
+    let parts = PARTS.map(|(fields, text)| (fields[0], text));
+    text_in(CONTACT, &parts)
+});
+
 /// Whether the library takes a record: as a table of one, which has no faulty one.
 fn is_good(record: &[u8]) -> bool {
     contacts_codes(record, 1, &[], &mut []) != Err(Refusal::WrongContacts)
@@ -33,14 +41,20 @@ fn is_good(record: &[u8]) -> bool {
 
 /// The fields of a record that are wrong with the others right.
 pub fn wrong_fields(record: &[u8]) -> Vec<Field> {
-    let right = PARTS.map(|(fields, text)| (fields[0], text));
-    let right = text_in(CONTACT, &right);
+    let mut probe = RIGHT.clone();
     let is_wrong = |part: &&(&[Field], &str)| {
-        let mut probe = right.clone();
+        let is_right = |field: &Field| field.of(record) == field.of(&RIGHT);
+        if part.0.iter().all(is_right) {
+            return false;
+        }
         for field in part.0 {
             field.set(&mut probe, field.of(record));
         }
-        !is_good(&probe)
+        let is_wrong = !is_good(&probe);
+        for field in part.0 {
+            field.set(&mut probe, field.of(&RIGHT));
+        }
+        is_wrong
     };
     let wrong = PARTS.iter().filter(is_wrong);
     wrong.flat_map(|(fields, _)| *fields).copied().collect()
@@ -51,8 +65,7 @@ mod tests {
     use super::*;
 
     fn with(fields: &[(Field, &str)]) -> Vec<u8> {
-        let right = PARTS.map(|(fields, text)| (fields[0], text));
-        let mut record = text_in(CONTACT, &right);
+        let mut record = RIGHT.clone();
         for (field, text) in fields {
             let width = field.last + 1 - field.first;
             let part = text_in(CONTACT, &[(*field, &format!("{text:<width$}"))]);

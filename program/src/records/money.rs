@@ -31,7 +31,7 @@ struct Closed {
 }
 
 /// Rows that are read at a time.
-const PART: usize = 1 << 13;
+const PART: usize = 1 << 11;
 
 impl Money {
     /// That of a posting.
@@ -122,6 +122,11 @@ const TOTALS: [(Field, Field); 3] = [
 /// Notes on the amount totals of the last record, which no rule reads: those that are not what the lines add up to. One that is
 /// blank says nothing.
 pub fn total_notes(lines: &[u8], last: &[u8]) -> Vec<String> {
+    let space = argument(b" ")[0];
+    let is_blank = |field: &Field| field.of(last).iter().all(|&byte| byte == space);
+    if is_blank(&total::NET) && TOTALS.iter().all(|(field, _)| is_blank(field)) {
+        return Vec::new();
+    }
     let mut sums = [0; TOTALS.len()];
     for record in lines.chunks_exact(LINE) {
         for (sum, (_, field)) in sums.iter_mut().zip(TOTALS) {
@@ -131,11 +136,9 @@ pub fn total_notes(lines: &[u8], last: &[u8]) -> Vec<String> {
     let stated = TOTALS.map(|(field, _)| field).into_iter().zip(sums);
     let net = sums[1].checked_sub(sums[2]).map(|net| (total::NET, net));
     let notes = stated.chain(net).filter_map(|(field, sum)| {
-        let bytes = field.of(last);
-        let is_blank = bytes.iter().all(|&byte| byte == argument(b" ")[0]);
         let start = format!("the last record's {} ({})", field.name, field.columns());
-        match cents_of(bytes) {
-            _ if is_blank => None,
+        match cents_of(field.of(last)) {
+            _ if is_blank(&field) => None,
             Some(stated) if stated == sum => None,
             Some(stated) => Some(format!(
                 "{start} is {}, and the lines add up to {}: a difference of {}",

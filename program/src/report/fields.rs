@@ -38,30 +38,38 @@ pub fn put_list<W: Write>(
     Ok(())
 }
 
-/// An object with a member per field, named as a column of CSV is. A set is an array, counts and amounts are numbers where they
-/// are right.
-pub fn put_json_fields<W: Write>(
-    json: &mut Json<W>,
-    fields: &[Field],
-    record: &[u8],
-    form: &Form,
-) -> io::Result<()> {
-    json.begin_object()?;
-    let mut value = String::new();
-    for field in fields {
-        value.clear();
-        form.put(field, record, &mut value);
-        if is_left_out(field, &value) {
-            continue;
-        }
-        json.name(&name_of(field))?;
-        match field.kind {
-            Kind::Set => put_set(json, field.of(record)[0])?,
-            Kind::Number | Kind::Amount => json.number_or_text(&value)?,
-            _ => json.text(&value)?,
-        }
+/// The members of a record in JSON: one per field, named as a column of CSV is.
+pub struct Members(Vec<(Field, String)>);
+
+impl Members {
+    pub fn of(fields: &[Field]) -> Members {
+        Members(
+            fields
+                .iter()
+                .map(|field| (*field, name_of(field)))
+                .collect(),
+        )
     }
-    json.end_object()
+
+    /// An object. A set is an array, counts and amounts are numbers where they are right.
+    pub fn put<W: Write>(&self, json: &mut Json<W>, record: &[u8], form: &Form) -> io::Result<()> {
+        json.begin_object()?;
+        let mut value = String::new();
+        for (field, name) in &self.0 {
+            value.clear();
+            form.put(field, record, &mut value);
+            if is_left_out(field, &value) {
+                continue;
+            }
+            json.name(name)?;
+            match field.kind {
+                Kind::Set => put_set(json, field.of(record)[0])?,
+                Kind::Number | Kind::Amount => json.number_or_text(&value)?,
+                _ => json.text(&value)?,
+            }
+        }
+        json.end_object()
+    }
 }
 
 fn put_set<W: Write>(json: &mut Json<W>, set: u8) -> io::Result<()> {

@@ -129,7 +129,8 @@ impl<W: Write> Screen<W> {
 
 /// A text in one line, without control characters, which the name of a file may have: full stops stand in their places.
 pub fn printable(text: &str) -> Cow<'_, str> {
-    if text.contains(char::is_control) {
+    let is_plain = text.bytes().all(|byte| matches!(byte, b' '..=b'~'));
+    if !is_plain && text.contains(char::is_control) {
         Cow::Owned(text.replace(char::is_control, "."))
     } else {
         Cow::Borrowed(text)

@@ -1,5 +1,7 @@
 //! What was found in a batch: how often each code, and each record with an error or a warning.
 
+use std::borrow::Cow;
+
 use fantanolive::{code_text, codes, has_code, ERRORS, RECORD, WARNINGS};
 
 use crate::records::code_fields::{fields_of, is_blank, name_of};
@@ -32,7 +34,7 @@ pub struct Coded<'a> {
 
 /// A field that a code is about, with its value.
 pub struct Sent {
-    pub name: String,
+    pub name: Cow<'static, str>,
     pub columns: String,
     /// Empty where the field is blank.
     pub value: String,
@@ -128,15 +130,26 @@ impl Verdicts<'_> {
         }
     }
 
-    /// `Obligor Last Name 'SMYTH', stored 'SMIT'`.
-    pub fn sent_words(&self, code: u32, coded: &Coded) -> String {
-        let shown = |sent: Sent| match sent.value.is_empty() {
-            true => format!("{} blank", sent.name),
-            false => format!("{} '{}'", sent.name, sent.value),
-        };
-        let fields = self.sent(code, coded).into_iter().map(shown);
-        let all: Vec<String> = fields.chain(self.beside(code, coded)).collect();
-        all.join(", ")
+    /// Writes `Obligor Last Name 'SMYTH', stored 'SMIT'`.
+    pub fn put_sent_words(&self, code: u32, coded: &Coded, out: &mut String) {
+        let start = out.len();
+        for field in fields_of(code, coded.detail) {
+            if out.len() > start {
+                out.push_str(", ");
+            }
+            out.push_str(&name_of(&field));
+            if is_blank(&field, coded.detail) {
+                out.push_str(" blank");
+                continue;
+            }
+            out.push_str(" '");
+            self.of_details.put(&field, coded.detail, out);
+            out.push('\'');
+        }
+        if let Some(beside) = self.beside(code, coded) {
+            out.push_str(if out.len() > start { ", " } else { "" });
+            out.push_str(&beside);
+        }
     }
 
     /// The key of a detail.

@@ -42,12 +42,15 @@ impl VerdictsSheet<'_> {
             detail::LOCAL_CODE,
         ];
         let fields = fields.map(|field| form.field(&field, coded.detail));
+        let mut sent = String::new();
         for code in codes(coded.verdict) {
             let severity = match codes(WARNINGS).any(|warning| warning == code) {
                 true => "warning",
                 false => "error",
             };
-            let (shown, sent) = (format!("{code:02}"), self.verdicts.sent_words(code, coded));
+            let shown = format!("{code:02}");
+            sent.clear();
+            self.verdicts.put_sent_words(code, coded, &mut sent);
             let [kind, last, first, case, office] = fields.each_ref().map(String::as_str);
             let wrong = wrong_of(code);
             put(&[

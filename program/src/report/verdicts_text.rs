@@ -123,8 +123,11 @@ fn put_record<W: Write>(
     }
     screen.line(style, &text)?;
     for code in codes(coded.verdict) {
-        let words = format!("{}: {}", wrong_of(code), verdicts.sent_words(code, coded));
-        screen.wrapped(Style::Plain, &format!("    {code:02} "), &words, 7)?;
+        text.clear();
+        text.push_str(wrong_of(code));
+        text.push_str(": ");
+        verdicts.put_sent_words(code, coded, &mut text);
+        screen.wrapped(Style::Plain, &format!("    {code:02} "), &text, 7)?;
     }
     Ok(())
 }

@@ -3,9 +3,12 @@
 /// The lines of a text behind a start, each of at most `width` characters but where a word is longer. Lines behind the first
 /// begin with `indent` spaces.
 pub fn wrapped(start: &str, text: &str, width: usize, indent: usize) -> Vec<String> {
+    let mut length = start.chars().count();
+    if length + text.chars().count() <= width {
+        return vec![format!("{start}{text}")];
+    }
     let mut lines = Vec::new();
     let mut line = start.to_string();
-    let mut length = start.chars().count();
     let mut is_empty = true;
     for word in text.split(' ') {
         let size = word.chars().count();
