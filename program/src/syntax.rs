@@ -528,7 +528,8 @@ two fields that the federal side alone fills (80 and 81) are not compared.
 With --records it writes a batch of C, L, R and M records, with its control
 record, that leads the other side's copies to MASTER: amounts in whole dollars,
 and an M of zero for a case that MASTER has as deleted. Names, notice dates,
-cases that are only here and those that MASTER never had are left to you.",
+cases that are only here and those that MASTER never had are left to you.
+Status 1 means that a case is not the same.",
         statuses: WRITES_WITH_REJECTS,
         run: commands::compare::run,
     },

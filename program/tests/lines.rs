@@ -144,7 +144,7 @@ fn what_is_told_of_other_characters() {
         (paper_batch(), "--ascii", "no ASCII byte: is the file in EBCDIC already?"),
         (lines(&paper_batch(), 245, "\n", false), "--ascii", "byte 245 is hexadecimal 0A, a line feed: --lines takes files of lines"),
         ([b"\xEF\xBB\xBF", &lines(&paper_batch(), 245, "\n", true)[..]].concat(), "--lines", "begins with a byte order mark (UTF-8)"),
-        (changed(245, b"X"), "--lines", "line 1 has 735 characters, and a record 245"),
+        (changed(245, b"X"), "--lines", "line 1 has 735 characters, and a record 245; a file without line ends takes --ascii"),
         (lines(&paper_batch(), 245, "\n", false).to_ascii_lowercase(), "--lines", "byte 0 (record 1, column 1) is hexadecimal 6F, a lower case letter"),
     ] {
         let err = told(&bytes, option);

@@ -21,11 +21,16 @@ pub fn records_of(mut input: Input) -> Result<Input, Failure> {
     if lines.last().is_some_and(|last| last.is_empty()) {
         lines.pop();
     }
+    let has_no_ends = lines.len() == 1;
     for (number, line) in (1u64..).zip(lines) {
         let line = line.strip_suffix(b"\r").unwrap_or(line);
         if line.len() > width {
             let (number, length) = (grouped(number), line.len());
-            let what = format!("line {number} has {length} characters, and a record {width}");
+            let hint = match has_no_ends && length % width == 0 {
+                true => "; a file without line ends takes --ascii",
+                false => "",
+            };
+            let what = format!("line {number} has {length} characters, and a record {width}{hint}");
             return Err(Failure::file(&input.path, what));
         }
         records.extend_from_slice(line);

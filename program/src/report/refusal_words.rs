@@ -23,7 +23,7 @@ pub fn words_of(refusal: Refusal) -> Option<Words> {
         Refusal::NoRoom => ("the details with A in column 73 whose key has no row", "send fewer new cases: a master can't have more rows"),
         Refusal::WrongState => ("--state", "give the two letters of a state or territory"),
         Refusal::WrongDate => ("--date", "give a day that exists as eight digits: year, month, day"),
-        Refusal::UnsoundKey => ("KEY: state, SSN and case type", "write it like OH123456789N, with a state of the table, an SSN that is right and A or N"),
+        Refusal::UnsoundKey => ("KEY: state, SSN and case type", "write the two letters of a state of the table, the nine digits of an SSN that is right, and A or N, nothing between them"),
         Refusal::NoSuchRow => ("MASTER and KEY", "check state, SSN and case type (A and N are two cases); `fantanolive show master MASTER --search NAME` looks for a name"),
         Refusal::NoCounterpart => ("the byte that is told below", "leave only upper case letters, digits, space and - , . ( ) / & ' # in the file; never convert a master"),
         Refusal::WrongContacts => ("the contact file, or TABLE", "contact records have 220 bytes; for TABLE take only what `fantanolive contacts` has written, or start with --new"),
@@ -42,6 +42,7 @@ pub fn words_of(refusal: Refusal) -> Option<Words> {
 #[cfg(test)]
 mod tests {
     use super::*;
+    use crate::mask::masked;
 
     #[test]
     fn no_word_of_calls_and_buffers() {
@@ -51,6 +52,8 @@ mod tests {
                 for none in [" lend", "buffer", "_", "byte by byte", "mend", "apply:"] {
                     assert!(!text.contains(none), "{text}");
                 }
+                // an example that is an SSN would be shown with stars
+                assert_eq!(masked(text), text);
             }
         }
     }
