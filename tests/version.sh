@@ -1,6 +1,6 @@
 #!/usr/bin/env bash
 # Holds every copy of the version against include/fantanolive.h: the numbers there, the newest entry of CHANGELOG.md, the Python module, the Cargo files
-# of the Rust crate and of the program, the soname and the names of packages in README.md and the manual. Prints each that differs, and then status 1.
+# of the Rust crate, of the program and of the Rust tests, the soname and the names of packages in README.md and the manual. Prints each that differs, and then status 1.
 set -u
 cd -- "$(dirname -- "$(readlink -f -- "$0")")/.." || exit 2
 version=$(bin/version)
@@ -23,7 +23,7 @@ holds CHANGELOG.md "$(sed -n 's/^## \[\([0-9.]*\)\] - [0-9-]*$/\1/p' CHANGELOG.m
 for file in bindings/rust/Cargo.toml program/Cargo.toml; do
     holds "$file" "$(sed -n 's/^version = "\(.*\)"$/\1/p' "$file" | head -n 1)"
 done
-for file in bindings/rust/Cargo.lock program/Cargo.lock; do
+for file in bindings/rust/Cargo.lock program/Cargo.lock tests/rust/Cargo.lock; do
     holds "$file" "$(awk -F '"' '$1 == "name = " { own = $2 ~ /^fantanolive/ } own && $1 == "version = " { print $2 }' "$file" | sort -u)"
 done
 if [ "$(grep -o 'libfantanolive\.so\.[0-9]*' docs/MANUAL.md | sort -u)" != "libfantanolive.so.$(part MAJOR)" ]; then

@@ -2,35 +2,10 @@
 in words, Refusal.java and Code.java."""
 import re
 
-from . import table
+from . import header, table
 from .java import FOLDER, WRITTEN
 
 KINDS = {"uint8_t": ("b", "jbyteArray", "byte[]"), "uint32_t": ("i", "jintArray", "int[]"), "uint64_t": ("l", "jlongArray", "long[]")}
-
-
-def header(name):
-    return (table.ROOT / "include" / name).read_text("ascii")
-
-
-def arguments(text):
-    """The arguments of a prototype: (name, type, whether it is written, whether a length stands behind it)."""
-    found = []
-    for part in re.sub(r"\s+", " ", text).split(", "):
-        part = part.strip()
-        array = re.fullmatch(r"(const )?(uint\d+_t) (?:\*(\w+)|(\w+)\[\w+\])", part)
-        if array:
-            found.append([array[3] or array[4], array[2], not array[1], False])
-        elif part.endswith("_length"):
-            found[-1][3] = True
-        else:
-            kind, name = part.split(" ")
-            found.append([name, kind + " value", False, False])
-    return found
-
-
-def calls():
-    """The calls: their names, and their arguments."""
-    return [(name, arguments(text)) for name, text in re.findall(r"^uint64_t fantanolive_(\w+)\(([^)]*)\);", header("fantanolive.h"), re.M)]
 
 
 def c_function(name, given):
@@ -54,7 +29,7 @@ def c_function(name, given):
 
 def c_file():
     text = f"/* The native methods of fantanolive.Native, one call each. {WRITTEN.replace('package/layouts.json', 'fantanolive.h')} */\n"
-    text += '#include "lending.h"\n\n' + "\n".join(c_function(*call) for call in calls())
+    text += '#include "lending.h"\n\n' + "\n".join(c_function(*call) for call in header.calls())
     return text + """
 JNIEXPORT jstring JNICALL Java_fantanolive_Native_version(JNIEnv *env, jclass type)
 {
@@ -70,7 +45,7 @@ def java_parameters(given):
 
 
 def native():
-    methods = "\n".join(f"    static native long {table.camel(name)}({java_parameters(given)});\n" for name, given in calls())
+    methods = "\n".join(f"    static native long {table.camel(name)}({java_parameters(given)});\n" for name, given in header.calls())
     return f"""package fantanolive;
 
 /** The native methods, one call of the library each. {WRITTEN.replace('package/layouts.json', 'fantanolive.h')} */
@@ -90,12 +65,10 @@ final class Native {{
 def call_method(name, given):
     names = [table.camel(argument) for argument, _, _, _ in given]
     arrays = [table.camel(argument) for argument, kind, _, _ in given if not kind.endswith("value")]
-    # arrays without a length have as many numbers as the header says
-    sizes = {"result": {"apply": 5, "apply_journaled": 6, "contacts_update": 2}.get(name, 1), "totals": 4}
     checks = "".join(f"        Objects.requireNonNull({array}, \"{array}\");\n" for array in arrays)
     for argument, kind, _, has_length in given:
         if kind == "uint64_t" and not has_length:
-            checks += f'        Checks.atLeast("{table.camel(argument)}", {table.camel(argument)}.length, {sizes.get(argument, 1)});\n'
+            checks += f'        Checks.atLeast("{table.camel(argument)}", {table.camel(argument)}.length, {header.result_sizes()[name]});\n'
         elif kind.endswith("value"):
             checks += f'        Checks.notNegative("{table.camel(argument)}", {table.camel(argument)});\n'
     place = "place[0]" if "place" in names and name.startswith("to_") else "-1"
@@ -108,7 +81,7 @@ def call_method(name, given):
 
 
 def calls_class():
-    methods = "".join(call_method(*call) for call in calls())
+    methods = "".join(call_method(*call) for call in header.calls())
     return f"""package fantanolive;
 
 import java.util.Objects;
@@ -126,13 +99,12 @@ public final class Calls {{
 
 def entries(name):
     """The entries of a table of fantanolive_text.h."""
-    body = header("fantanolive_text.h").split(name + "[] = {\n", 1)[1].split("\n};", 1)[0]
+    body = header.text("fantanolive_text.h").split(name + "[] = {\n", 1)[1].split("\n};", 1)[0]
     return re.findall(r'\{(\d+),\n     "([^"]*)",\n     "([^"]*)",\n     "([^"]*)"\}', body)
 
 
 def refusals():
-    found = re.findall(r"^#define FANTANOLIVE_(\w+) (\d+) ", header("fantanolive.h").split("/* The answers:", 1)[1].split("\n\n", 1)[0], re.M)
-    names = {number: name for name, number in found}
+    names = {str(number): name for name, number, _ in header.answers()}
     return [(names[number], number, wrong, where, mend) for number, wrong, where, mend in entries("fantanolive_refusal_texts")]
 
 

@@ -1,9 +1,8 @@
-//! The calls over slices.
-//!
-//! Every `unsafe` block here is sound for the same reason, given at `apply`.
+//! The calls over slices, with a `Result`.
 
-use crate::c;
-use crate::refusal::{done, NotConverted, Refusal};
+use crate::header::Refusal;
+use crate::raw;
+use crate::refusal::{done, NotConverted};
 
 /// The five numbers of a batch that was applied.
 #[derive(Clone, Copy, Debug, PartialEq, Eq)]
@@ -63,26 +62,16 @@ pub fn apply(
     rejects: &mut [u8],
 ) -> Result<Counts, Refusal> {
     let mut result = [0; 5];
-    // SAFETY: every pointer comes from a slice with its length, so it is not null, is aligned and is valid for that length;
-    // those that are written come from exclusive borrows, so they overlap nothing. The library keeps no pointer.
-    let answer = unsafe {
-        c::fantanolive_apply(
-            master.as_mut_ptr(),
-            master.len(),
-            rows,
-            batch.as_ptr(),
-            batch.len(),
-            locals.as_ptr(),
-            locals.len(),
-            year,
-            verdicts.as_mut_ptr(),
-            verdicts.len(),
-            rejects.as_mut_ptr(),
-            rejects.len(),
-            result.as_mut_ptr(),
-        )
-    };
-    done(answer)?;
+    done(raw::apply(
+        master,
+        rows,
+        batch,
+        locals,
+        year,
+        verdicts,
+        rejects,
+        &mut result,
+    ))?;
     let [accepted, rejected, warned, neither, rows] = result;
     Ok(Counts {
         accepted,
@@ -113,27 +102,17 @@ pub fn apply_journaled(
     journal: &mut [u8],
 ) -> Result<(Counts, u64), Refusal> {
     let mut result = [0; 6];
-    // SAFETY: as in `apply`.
-    let answer = unsafe {
-        c::fantanolive_apply_journaled(
-            master.as_mut_ptr(),
-            master.len(),
-            rows,
-            batch.as_ptr(),
-            batch.len(),
-            locals.as_ptr(),
-            locals.len(),
-            year,
-            verdicts.as_mut_ptr(),
-            verdicts.len(),
-            rejects.as_mut_ptr(),
-            rejects.len(),
-            journal.as_mut_ptr(),
-            journal.len(),
-            result.as_mut_ptr(),
-        )
-    };
-    done(answer)?;
+    done(raw::apply_journaled(
+        master,
+        rows,
+        batch,
+        locals,
+        year,
+        verdicts,
+        rejects,
+        journal,
+        &mut result,
+    ))?;
     let [accepted, rejected, warned, neither, rows, journal] = result;
     let counts = Counts {
         accepted,
@@ -155,18 +134,7 @@ pub fn apply_journaled(
 /// Refusals 3, 4 and 26, the first that holds; `master` is then as before.
 pub fn take_back(master: &mut [u8], rows: usize, journal: &[u8]) -> Result<u64, Refusal> {
     let mut rows_after = 0;
-    // SAFETY: as in `apply`; only `master` and `rows_after` are written.
-    let answer = unsafe {
-        c::fantanolive_take_back(
-            master.as_mut_ptr(),
-            master.len(),
-            rows,
-            journal.as_ptr(),
-            journal.len(),
-            &mut rows_after,
-        )
-    };
-    done(answer)?;
+    done(raw::take_back(master, rows, journal, &mut rows_after))?;
     Ok(rows_after)
 }
 
@@ -178,9 +146,7 @@ pub fn take_back(master: &mut [u8], rows: usize, journal: &[u8]) -> Result<u64, 
 /// Refusal 5.
 pub fn totals(batch: &[u8]) -> Result<Totals, Refusal> {
     let mut totals = [0; 4];
-    // SAFETY: as in `apply`; only `totals` is written.
-    let answer = unsafe { c::fantanolive_totals(batch.as_ptr(), batch.len(), totals.as_mut_ptr()) };
-    done(answer)?;
+    done(raw::totals(batch, &mut totals))?;
     let [tanf_count, non_tanf_count, tanf_amount, non_tanf_amount] = totals;
     Ok(Totals {
         tanf_count,
@@ -201,19 +167,7 @@ pub fn totals(batch: &[u8]) -> Result<Totals, Refusal> {
 /// order; `out` is then as before.
 pub fn merge(first: &[u8], second: &[u8], out: &mut [u8]) -> Result<u64, Refusal> {
     let mut records = 0;
-    // SAFETY: as in `apply`; only `out` and `records` are written.
-    let answer = unsafe {
-        c::fantanolive_merge(
-            first.as_ptr(),
-            first.len(),
-            second.as_ptr(),
-            second.len(),
-            out.as_mut_ptr(),
-            out.len(),
-            &mut records,
-        )
-    };
-    done(answer)?;
+    done(raw::merge(first, second, out, &mut records))?;
     Ok(records)
 }
 
@@ -226,18 +180,7 @@ pub fn merge(first: &[u8], second: &[u8], out: &mut [u8]) -> Result<u64, Refusal
 /// Refusals 3, 4, 14 and 15, the first that holds.
 pub fn find(master: &[u8], rows: usize, key: &[u8]) -> Result<u64, Refusal> {
     let mut place = 0;
-    // SAFETY: as in `apply`; only `place` is written.
-    let answer = unsafe {
-        c::fantanolive_find(
-            master.as_ptr(),
-            master.len(),
-            rows,
-            key.as_ptr(),
-            key.len(),
-            &mut place,
-        )
-    };
-    done(answer)?;
+    done(raw::find(master, rows, key, &mut place))?;
     Ok(place)
 }
 
@@ -257,20 +200,7 @@ pub fn find_many(
     places: &mut [u32],
 ) -> Result<u64, Refusal> {
     let mut comparisons = 0;
-    // SAFETY: as in `apply`; only `places` and `comparisons` are written.
-    let answer = unsafe {
-        c::fantanolive_find_many(
-            master.as_ptr(),
-            master.len(),
-            rows,
-            keys.as_ptr(),
-            keys.len(),
-            places.as_mut_ptr(),
-            places.len(),
-            &mut comparisons,
-        )
-    };
-    done(answer)?;
+    done(raw::find_many(master, rows, keys, places, &mut comparisons))?;
     Ok(comparisons)
 }
 
@@ -291,22 +221,7 @@ pub fn reconcile(
     out: &mut [u8],
 ) -> Result<u64, Refusal> {
     let mut records = 0;
-    // SAFETY: as in `apply`; only `out` and `records` are written.
-    let answer = unsafe {
-        c::fantanolive_reconcile(
-            master.as_ptr(),
-            master.len(),
-            rows,
-            state.as_ptr(),
-            state.len(),
-            date.as_ptr(),
-            date.len(),
-            out.as_mut_ptr(),
-            out.len(),
-            &mut records,
-        )
-    };
-    done(answer)?;
+    done(raw::reconcile(master, rows, state, date, out, &mut records))?;
     Ok(records)
 }
 
@@ -321,18 +236,7 @@ pub fn reconcile(
 /// Refusals 3, 4 and 31, the first that holds; `out` is then as before.
 pub fn pages(master: &[u8], rows: usize, out: &mut [u8]) -> Result<u64, Refusal> {
     let mut pages = 0;
-    // SAFETY: as in `apply`; only `out` and `pages` are written.
-    let answer = unsafe {
-        c::fantanolive_pages(
-            master.as_ptr(),
-            master.len(),
-            rows,
-            out.as_mut_ptr(),
-            out.len(),
-            &mut pages,
-        )
-    };
-    done(answer)?;
+    done(raw::pages(master, rows, out, &mut pages))?;
     Ok(pages)
 }
 
@@ -343,8 +247,7 @@ pub fn pages(master: &[u8], rows: usize, out: &mut [u8]) -> Result<u64, Refusal>
 ///
 /// Refusals 3 and 4 over rows without cents, the first that holds; `master` is then as before.
 pub fn add_cents(master: &mut [u8], rows: usize) -> Result<(), Refusal> {
-    // SAFETY: as in `apply`; only `master` is written.
-    done(unsafe { c::fantanolive_add_cents(master.as_mut_ptr(), master.len(), rows) })
+    done(raw::add_cents(master, rows))
 }
 
 /// Posts a weekly collection file to a master, line by line in file order, and answers how many lines were not posted: their
@@ -362,20 +265,7 @@ pub fn post(
     lines: &mut [u32],
 ) -> Result<u64, Refusal> {
     let mut listed = 0;
-    // SAFETY: as in `apply`.
-    let answer = unsafe {
-        c::fantanolive_post(
-            master.as_mut_ptr(),
-            master.len(),
-            rows,
-            file.as_ptr(),
-            file.len(),
-            lines.as_mut_ptr(),
-            lines.len(),
-            &mut listed,
-        )
-    };
-    done(answer)?;
+    done(raw::post(master, rows, file, lines, &mut listed))?;
     Ok(listed)
 }
 
@@ -394,16 +284,7 @@ fn converted(answer: u64, place: u64) -> Result<(), NotConverted> {
 /// Refusals 16, with its place, and 17, the first that holds; `out` is then as before.
 pub fn to_ebcdic(input: &[u8], out: &mut [u8]) -> Result<(), NotConverted> {
     let mut place = 0;
-    // SAFETY: as in `apply`; only `out` and `place` are written.
-    let answer = unsafe {
-        c::fantanolive_to_ebcdic(
-            input.as_ptr(),
-            input.len(),
-            out.as_mut_ptr(),
-            out.len(),
-            &mut place,
-        )
-    };
+    let answer = raw::to_ebcdic(input, out, &mut place);
     converted(answer, place)
 }
 
@@ -414,16 +295,7 @@ pub fn to_ebcdic(input: &[u8], out: &mut [u8]) -> Result<(), NotConverted> {
 /// Refusals 16, with its place, and 17, the first that holds; `out` is then as before.
 pub fn to_ascii(input: &[u8], out: &mut [u8]) -> Result<(), NotConverted> {
     let mut place = 0;
-    // SAFETY: as in `apply`; only `out` and `place` are written.
-    let answer = unsafe {
-        c::fantanolive_to_ascii(
-            input.as_ptr(),
-            input.len(),
-            out.as_mut_ptr(),
-            out.len(),
-            &mut place,
-        )
-    };
+    let answer = raw::to_ascii(input, out, &mut place);
     converted(answer, place)
 }
 
@@ -443,20 +315,13 @@ pub fn contacts_update(
     faulty: &mut [u32],
 ) -> Result<ContactCounts, Refusal> {
     let mut result = [0; 2];
-    // SAFETY: as in `apply`.
-    let answer = unsafe {
-        c::fantanolive_contacts_update(
-            table.as_mut_ptr(),
-            table.len(),
-            count,
-            file.as_ptr(),
-            file.len(),
-            faulty.as_mut_ptr(),
-            faulty.len(),
-            result.as_mut_ptr(),
-        )
-    };
-    done(answer)?;
+    done(raw::contacts_update(
+        table,
+        count,
+        file,
+        faulty,
+        &mut result,
+    ))?;
     let [contacts, faulty] = result;
     Ok(ContactCounts { contacts, faulty })
 }
@@ -474,20 +339,7 @@ pub fn contacts_codes(
     out: &mut [u8],
 ) -> Result<u64, Refusal> {
     let mut codes = 0;
-    // SAFETY: as in `apply`; only `out` and `codes` are written.
-    let answer = unsafe {
-        c::fantanolive_contacts_codes(
-            table.as_ptr(),
-            table.len(),
-            count,
-            state.as_ptr(),
-            state.len(),
-            out.as_mut_ptr(),
-            out.len(),
-            &mut codes,
-        )
-    };
-    done(answer)?;
+    done(raw::contacts_codes(table, count, state, out, &mut codes))?;
     Ok(codes)
 }
 
@@ -508,20 +360,6 @@ pub fn records_to(
     out: &mut [u8],
 ) -> Result<u64, Refusal> {
     let mut records = 0;
-    // SAFETY: as in `apply`; only `out` and `records` are written.
-    let answer = unsafe {
-        c::fantanolive_records_to(
-            row.as_ptr(),
-            row.len(),
-            wanted.as_ptr(),
-            wanted.len(),
-            locals.as_ptr(),
-            locals.len(),
-            out.as_mut_ptr(),
-            out.len(),
-            &mut records,
-        )
-    };
-    done(answer)?;
+    done(raw::records_to(row, wanted, locals, out, &mut records))?;
     Ok(records)
 }

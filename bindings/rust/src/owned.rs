@@ -29,11 +29,11 @@
 
 use crate::calls::{self, ContactCounts, Counts, Totals};
 use crate::fields::{Record, Unfit};
-use crate::layouts::{Control, Detail};
-use crate::refusal::{NotConverted, Refusal};
-use crate::sizes::{
-    journal_size, pages_size, CONTACT, KEY, LINE, LOCAL_CODE, RECORD, RECORDS, ROW,
+use crate::header::{
+    journal_size, pages_size, Refusal, CONTACT, KEY, LINE, LOCAL_CODE, RECORD, RECORDS, ROW,
 };
+use crate::layouts::{Control, Detail};
+use crate::refusal::NotConverted;
 
 /// The place of a detail's type in its record, and an A in EBCDIC.
 const TYPE: usize = 72;

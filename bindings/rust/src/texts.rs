@@ -1,9 +1,7 @@
 //! The refusals and codes in words. They stand in `include/fantanolive_text.h`; the build script reads them from there, and the
 //! version from `include/fantanolive.h`.
 
-use std::ffi::CStr;
-
-use crate::c;
+use crate::raw;
 
 /// A refusal or a code in words for people.
 #[derive(Clone, Copy, Debug, PartialEq, Eq)]
@@ -25,9 +23,7 @@ pub const VERSION: &str = VERSION_TEXT;
 
 /// The version of the library that is there at run time.
 pub fn library_version() -> &'static str {
-    // SAFETY: the library answers a constant text that a NUL ends.
-    let text = unsafe { CStr::from_ptr(c::fantanolive_version()) };
-    text.to_str().unwrap_or_default()
+    raw::version().to_str().unwrap_or_default()
 }
 
 fn text_in(texts: &'static [Text], number: u64) -> Option<&'static Text> {

@@ -1,10 +1,5 @@
 //! A verdict: a set of codes as a number of 64 bits.
 
-/// The errors, codes 1 to 18. A detail whose verdict has one is rejected.
-pub const ERRORS: u64 = 0x7FFFE;
-/// The warnings, codes 51 and 52. A detail whose verdict has one is accepted.
-pub const WARNINGS: u64 = 3 << 51;
-
 /// Whether the code is in a verdict of [`crate::apply`]: bit `code` of the number. Errors are 1 to 18, warnings 51 and 52.
 pub fn has_code(verdict: u64, code: u32) -> bool {
     code < 64 && verdict >> code & 1 == 1

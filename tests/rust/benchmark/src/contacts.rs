@@ -3,6 +3,7 @@
 
 use std::hint::black_box;
 
+use fantanolive::raw;
 use generator::contacts::{numbered, Contact, CONTACT};
 use generator::rng::Rng;
 
@@ -67,7 +68,7 @@ fn line(name: String, records: &[Contact], repetitions: usize) -> Line {
         three.fill(1);
         let (mut answer, mut result, mut done) = (1, [0; 2], Err(0));
         times[0].push(seconds(|| {
-            answer = library::contacts_update(
+            answer = raw::contacts_update(
                 black_box(&mut one),
                 0,
                 black_box(&file),

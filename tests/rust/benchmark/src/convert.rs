@@ -2,6 +2,7 @@
 
 use std::hint::black_box;
 
+use fantanolive::raw;
 use generator::files::{accepted, Direction};
 use generator::rng::Rng;
 
@@ -29,10 +30,10 @@ pub fn converting(repetitions: usize) -> Conversions {
             black_box(&mut copy[..]).copy_from_slice(black_box(&file));
         }));
         times[0][0].push(seconds(|| {
-            answers[0] = library::to_ebcdic(black_box(&file), black_box(&mut ebcdic), &mut place);
+            answers[0] = raw::to_ebcdic(black_box(&file), black_box(&mut ebcdic), &mut place);
         }));
         times[1][0].push(seconds(|| {
-            answers[1] = library::to_ascii(black_box(&ebcdic), black_box(&mut ascii), &mut place);
+            answers[1] = raw::to_ascii(black_box(&ebcdic), black_box(&mut ascii), &mut place);
         }));
         assert_eq!(answers, [0; 2], "converting was refused");
         assert!(ascii == file, "there and back differs");

@@ -3,6 +3,7 @@
 
 use std::hint::black_box;
 
+use fantanolive::raw;
 use generator::journal::enough;
 
 use crate::clock::seconds;
@@ -27,7 +28,7 @@ impl Journaled {
     }
 
     fn apply(&mut self, input: &Input) {
-        let answer = library::apply_journaled(
+        let answer = raw::apply_journaled(
             &mut self.buffers.master,
             input.rows,
             &input.batch,
@@ -44,7 +45,7 @@ impl Journaled {
     fn take_back(&mut self) -> u64 {
         let (rows, length) = (self.result[4] as usize, self.result[5] as usize);
         let (journal, mut before) = (&self.journal[..length], 0);
-        let answer = library::take_back(&mut self.buffers.master, rows, journal, &mut before);
+        let answer = raw::take_back(&mut self.buffers.master, rows, journal, &mut before);
         assert_eq!(answer, 0, "taking back was refused");
         before
     }

@@ -23,6 +23,8 @@ mod totals;
 use std::hint::black_box;
 use std::time::{Duration, Instant, SystemTime, UNIX_EPOCH};
 
+use fantanolive::raw;
+
 use clock::seconds;
 use contacts::{updating, Updates};
 use convert::{converting, Conversions};
@@ -181,7 +183,7 @@ fn run(engine: usize, input: &Input, buffers: &mut Buffers) {
     } = buffers;
     let (rows, batch, list) = (input.rows, &input.batch, &input.list);
     let answer = match engine {
-        0 => library::apply(master, rows, batch, list, 2007, verdicts, rejects, result),
+        0 => raw::apply(master, rows, batch, list, 2007, verdicts, rejects, result),
         1 => match reference::apply(master, rows, batch, list, 2007, verdicts, rejects) {
             Ok(counts) => {
                 *result = [
@@ -280,7 +282,7 @@ impl Bench {
         for (at, key) in keys.iter().enumerate() {
             let (mut place, mut answer) = (0, 0);
             times[0].push(seconds(|| {
-                answer = library::find(black_box(&master), MANY, key, &mut place);
+                answer = raw::find(black_box(&master), MANY, key, &mut place);
             }));
             assert_eq!(answer, 0, "find was refused");
             let mut found = Err(0);
@@ -316,7 +318,7 @@ impl Bench {
             three.fill(1);
             let mut records = 0;
             times[0].push(seconds(|| {
-                library::reconcile(
+                raw::reconcile(
                     black_box(&master),
                     MANY,
                     &state,

@@ -2,6 +2,7 @@
 
 use std::cell::RefCell;
 
+use fantanolive::raw;
 use generator::bulk;
 
 use crate::beside::{head, line, times};
@@ -18,7 +19,7 @@ fn keys(count: usize) -> Vec<u8> {
 
 fn library(master: &[u8], keys: &[u8], places: &mut [u32]) -> u64 {
     let mut comparisons = 0;
-    let answer = library::find_many(master, MANY, keys, places, &mut comparisons);
+    let answer = raw::find_many(master, MANY, keys, places, &mut comparisons);
     assert_eq!(answer, 0, "find_many was refused");
     comparisons
 }

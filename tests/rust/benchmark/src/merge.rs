@@ -2,6 +2,7 @@
 
 use std::cell::RefCell;
 
+use fantanolive::raw;
 use generator::bulk;
 use generator::records::{batch, Record, RECORD};
 use generator::rng::Rng;
@@ -22,7 +23,7 @@ fn two(details: usize) -> [Vec<u8>; 2] {
 
 fn library([first, second]: &[Vec<u8>; 2], out: &mut [u8]) {
     let mut records = 0;
-    let answer = library::merge(first, second, out, &mut records);
+    let answer = raw::merge(first, second, out, &mut records);
     assert_eq!(answer, 0, "merge was refused");
 }
 

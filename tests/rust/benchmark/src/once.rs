@@ -1,6 +1,7 @@
 //! One call of one engine, for counting its instructions: `benchmark --once CASE ENGINE` under
 //! callgrind with `--toggle-collect=measured_call`; `tests/instructions.sh` does that for every case.
 
+use fantanolive::raw;
 use generator::bulk;
 use generator::contacts::{numbered as contact, Contact};
 use generator::files::{accepted, Direction};
@@ -88,7 +89,7 @@ fn find(share: usize, speed: bool) {
         if speed {
             place = speed::find(&master, MANY, &keys[0]).expect("there is such a row");
         } else {
-            assert_eq!(library::find(&master, MANY, &keys[0], &mut place), 0);
+            assert_eq!(raw::find(&master, MANY, &keys[0], &mut place), 0);
         }
     });
 }
@@ -103,7 +104,7 @@ fn reconcile(speed: bool) {
             let done = speed::reconcile(&master, MANY, &state, &date, &mut out);
             records = done.expect("there is room");
         } else {
-            let answer = library::reconcile(&master, MANY, &state, &date, &mut out, &mut records);
+            let answer = raw::reconcile(&master, MANY, &state, &date, &mut out, &mut records);
             assert_eq!(answer, 0);
         }
     });
@@ -125,7 +126,7 @@ fn post(places: Vec<usize>, speed: bool) {
             let done = speed::post(&mut master, MANY, &file, &mut list);
             listed = done.expect("the file is right");
         } else {
-            let answer = library::post(&mut master, MANY, &file, &mut list, &mut listed);
+            let answer = raw::post(&mut master, MANY, &file, &mut list, &mut listed);
             assert_eq!(answer, 0);
         }
     });
@@ -142,7 +143,7 @@ fn contacts(speed: bool) {
             let done = speed::update(&mut table, 0, &file, &mut faulty);
             result = done.expect("there is room");
         } else {
-            let answer = library::contacts_update(&mut table, 0, &file, &mut faulty, &mut result);
+            let answer = raw::contacts_update(&mut table, 0, &file, &mut faulty, &mut result);
             assert_eq!(answer, 0);
         }
     });
@@ -161,8 +162,8 @@ fn convert(direction: Direction, speed: bool) {
             assert!(done.is_ok());
         } else {
             let answer = match direction {
-                Direction::ToEbcdic => library::to_ebcdic(&file, &mut out, &mut place),
-                Direction::ToAscii => library::to_ascii(&file, &mut out, &mut place),
+                Direction::ToEbcdic => raw::to_ebcdic(&file, &mut out, &mut place),
+                Direction::ToAscii => raw::to_ascii(&file, &mut out, &mut place),
             };
             assert_eq!(answer, 0);
         }

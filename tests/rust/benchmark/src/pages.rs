@@ -2,6 +2,7 @@
 
 use std::cell::RefCell;
 
+use fantanolive::raw;
 use generator::bulk;
 use generator::pages::enough;
 
@@ -11,7 +12,7 @@ use crate::once::measured_call;
 
 fn library(master: &[u8], out: &mut [u8]) {
     let mut pages = 0;
-    let answer = library::pages(master, master.len() / 200, out, &mut pages);
+    let answer = raw::pages(master, master.len() / 200, out, &mut pages);
     assert_eq!(answer, 0, "pages was refused");
 }
 

@@ -2,6 +2,7 @@
 
 use std::hint::black_box;
 
+use fantanolive::raw;
 use generator::bulk;
 use generator::posting::{numbered, total, Line as Collection};
 use generator::rng::Rng;
@@ -83,7 +84,7 @@ fn line(
         three.copy_from_slice(&master);
         let (mut answer, mut listed, mut done) = (1, 0, Err(0));
         times[0].push(seconds(|| {
-            answer = library::post(
+            answer = raw::post(
                 black_box(&mut one),
                 rows,
                 black_box(&file),

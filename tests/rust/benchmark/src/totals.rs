@@ -2,6 +2,7 @@
 
 use std::cell::Cell;
 
+use fantanolive::raw;
 use generator::bulk;
 use generator::records::{batch, Record};
 use generator::rng::Rng;
@@ -20,7 +21,7 @@ fn input(details: usize) -> Vec<u8> {
 
 fn library(batch: &[u8]) -> [u64; 4] {
     let mut totals = [0; 4];
-    let answer = library::totals(batch, &mut totals);
+    let answer = raw::totals(batch, &mut totals);
     assert_eq!(answer, 0, "totals was refused");
     totals
 }

@@ -10,6 +10,7 @@ mod posting;
 pub mod records_to;
 pub mod several;
 
+use fantanolive::raw;
 use generator::text::shown;
 use generator::{ApplyCase, Case, ConvertCase, Direction, FindCase, ReconcileCase};
 use reference::code_page::Refusal;
@@ -142,7 +143,7 @@ fn run_apply(before: ApplyCase) -> Outcome {
     let mut verdicts = Lent::new(&case.verdicts, guard_number);
     let mut rejects = Lent::new(&case.rejects, guard);
     let mut result = case.result;
-    let answer = library::apply(
+    let answer = raw::apply(
         master.slice(),
         case.rows,
         batch.slice(),
@@ -202,7 +203,7 @@ fn run_find(before: FindCase) -> Outcome {
     let mut master = Lent::new(&case.master, guard);
     let mut key = Lent::new(&case.key, guard);
     let mut place = case.place;
-    let answer = library::find(master.slice(), case.rows, key.slice(), &mut place);
+    let answer = raw::find(master.slice(), case.rows, key.slice(), &mut place);
     let number = match reference::find(&case.master, case.rows, &case.key) {
         Ok(found) => {
             case.place = found;
@@ -233,7 +234,7 @@ fn run_reconcile(before: ReconcileCase) -> Outcome {
     let mut date = Lent::new(&case.date, guard);
     let mut out = Lent::new(&case.out, guard);
     let mut records = case.records;
-    let answer = library::reconcile(
+    let answer = raw::reconcile(
         master.slice(),
         case.rows,
         state.slice(),
@@ -280,12 +281,12 @@ fn run_convert(before: ConvertCase) -> Outcome {
     let (call, answer, converted) = match case.direction {
         Direction::ToEbcdic => (
             3,
-            library::to_ebcdic(input.slice(), out.slice(), &mut place),
+            raw::to_ebcdic(input.slice(), out.slice(), &mut place),
             reference::to_ebcdic(&case.input, &mut case.out),
         ),
         Direction::ToAscii => (
             4,
-            library::to_ascii(input.slice(), out.slice(), &mut place),
+            raw::to_ascii(input.slice(), out.slice(), &mut place),
             reference::to_ascii(&case.input, &mut case.out),
         ),
     };

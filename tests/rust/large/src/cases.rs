@@ -5,6 +5,7 @@ use std::io::Write;
 use std::path::Path;
 use std::time::Instant;
 
+use fantanolive::raw;
 use generator::contacts::CONTACT;
 use generator::posting::LINE;
 use generator::records::{Record, RECORD};
@@ -97,7 +98,7 @@ fn apply(master: &[u8], batch: &[u8], locals: &[u8]) -> Applied {
     let (mut verdicts, mut result) = (vec![0; details], [0; 5]);
     let mut rejects = vec![0; RECORD * (details + 1)];
     let (seconds, answer) = timed(|| {
-        library::apply(
+        raw::apply(
             &mut master,
             rows,
             batch,
@@ -122,7 +123,7 @@ fn apply(master: &[u8], batch: &[u8], locals: &[u8]) -> Applied {
 
 fn ascii(bytes: &[u8]) -> (f64, Vec<u8>) {
     let mut out = vec![0; bytes.len()];
-    let (seconds, answer) = timed(|| library::to_ascii(bytes, &mut out, &mut 0));
+    let (seconds, answer) = timed(|| raw::to_ascii(bytes, &mut out, &mut 0));
     assert_eq!(answer, 0, "the file is refused");
     (seconds, out)
 }
@@ -303,7 +304,7 @@ fn over_the_master(files: &Files, folder: &Path) -> Vec<Case> {
     let restored = || vec![("master.bin", Some(files.master.clone()))];
     let mut find = Case::new("find", "find master.bin OH100010001A", 0);
     let key = files.master[..12].to_vec();
-    find.call = timed(|| library::find(&files.master, MOST, &key, &mut 0)).0;
+    find.call = timed(|| raw::find(&files.master, MOST, &key, &mut 0)).0;
     find.changed = restored();
     find.listed = ("  row ", 1);
 
@@ -312,14 +313,14 @@ fn over_the_master(files: &Files, folder: &Path) -> Vec<Case> {
     let (mut out, mut records) = (vec![0; RECORD * (MOST + 1)], 0);
     let date = text("20071231");
     let (seconds, answer) =
-        timed(|| library::reconcile(&files.master, MOST, &STATE, &date, &mut out, &mut records));
+        timed(|| raw::reconcile(&files.master, MOST, &STATE, &date, &mut out, &mut records));
     assert_eq!((answer, records), (0, MOST as u64));
     reconcile.call = seconds;
     reconcile.written = vec![("rec.bin", out)];
 
     let mut cents = Case::new("add-cents", "add-cents old.bin", 0);
     let mut master = files.old_master.clone();
-    let (seconds, answer) = timed(|| library::add_cents(&mut master, MOST));
+    let (seconds, answer) = timed(|| raw::add_cents(&mut master, MOST));
     assert_eq!(answer, 0, "the old master is refused");
     cents.call = seconds;
     cents.changed = vec![("old.bin", Some(files.old_master.clone()))];
@@ -363,7 +364,7 @@ fn edits(files: &Files, folder: &Path) -> Vec<Case> {
 
     let words = "edit master.bin OH100010001A --amount 7 --out change.bin";
     let mut edit = Case::new("edit", words, 0);
-    edit.call = timed(|| library::find(&files.master, MOST, &row[..12], &mut 0)).0;
+    edit.call = timed(|| raw::find(&files.master, MOST, &row[..12], &mut 0)).0;
     edit.changed = vec![("master.bin", Some(files.master.clone()))];
     edit.written = vec![("change.bin", batch(&[sent]))];
     edit.listed = ("record ", 1);
@@ -393,9 +394,13 @@ fn post(files: &Files, folder: &Path) -> Case {
     let lines = files.weekly.len() / LINE - 1;
     let (mut list, mut listed) = (vec![0; lines], 0);
     let (seconds, answer) =
-        timed(|| library::post(&mut master, MOST, &files.weekly, &mut list, &mut listed));
+        timed(|| raw::post(&mut master, MOST, &files.weekly, &mut list, &mut listed));
     assert_eq!(answer, 0, "the collection file is refused");
-    let mut case = Case::new("post", "post master.bin weekly.bin --all", i32::from(listed > 0));
+    let mut case = Case::new(
+        "post",
+        "post master.bin weekly.bin --all",
+        i32::from(listed > 0),
+    );
     case.call = seconds;
     case.changed = vec![("master.bin", Some(files.master.clone()))];
     case.written = vec![("master.bin", master)];
@@ -406,9 +411,8 @@ fn post(files: &Files, folder: &Path) -> Case {
 fn over_contacts(files: &Files, folder: &Path) -> Vec<Case> {
     let mut table = vec![0; MOST * CONTACT];
     let (mut faulty, mut result) = (vec![0; MOST], [0; 2]);
-    let (seconds, answer) = timed(|| {
-        library::contacts_update(&mut table, 0, &files.contacts, &mut faulty, &mut result)
-    });
+    let (seconds, answer) =
+        timed(|| raw::contacts_update(&mut table, 0, &files.contacts, &mut faulty, &mut result));
     assert_eq!(answer, 0, "the contact file is refused");
     let [count, bad] = result.map(|number| number as usize);
     table.truncate(count * CONTACT);
@@ -422,7 +426,7 @@ fn over_contacts(files: &Files, folder: &Path) -> Vec<Case> {
     let words = "codes table.bin --state OH --out codes.bin";
     let mut codes = Case::new("codes", words, 0);
     let (seconds, answer) =
-        timed(|| library::contacts_codes(&table, count, &STATE, &mut out, &mut number));
+        timed(|| raw::contacts_codes(&table, count, &STATE, &mut out, &mut number));
     assert_eq!(answer, 0, "the table is refused");
     out.truncate(3 * number as usize);
     codes.call = seconds;

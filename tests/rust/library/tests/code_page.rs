@@ -1,6 +1,8 @@
 //! Converting through the library: every byte value against the published code page 037 and
 //! against the reference, and the edges of refusals 16 and 17 by hand.
 
+use fantanolive::raw;
+
 /// Code page 037 as published: the ISO 8859-1 code of each EBCDIC byte.
 #[rustfmt::skip]
 const PUBLISHED: [u8; 256] = [
@@ -49,11 +51,11 @@ fn every_byte_by_the_published_page() {
     for byte in 0..=0xFF {
         let character = PUBLISHED[usize::from(byte)];
         let ascii = CHARACTERS.contains(&character).then_some(character);
-        assert_eq!(called(library::to_ascii, &[byte], 1), alone(ascii));
+        assert_eq!(called(raw::to_ascii, &[byte], 1), alone(ascii));
         let ebcdic = (0..=0xFF)
             .find(|&other| PUBLISHED[usize::from(other)] == byte)
             .filter(|_| CHARACTERS.contains(&byte));
-        assert_eq!(called(library::to_ebcdic, &[byte], 1), alone(ebcdic));
+        assert_eq!(called(raw::to_ebcdic, &[byte], 1), alone(ebcdic));
         accepted += usize::from(ascii.is_some()) + usize::from(ebcdic.is_some());
     }
     assert_eq!(accepted, 2 * 46);
@@ -63,15 +65,15 @@ fn every_byte_by_the_published_page() {
 fn every_byte_by_the_reference() {
     for byte in 0..=0xFF {
         let ebcdic = reference::code_page::ebcdic(byte);
-        assert_eq!(called(library::to_ebcdic, &[byte], 1), alone(ebcdic));
+        assert_eq!(called(raw::to_ebcdic, &[byte], 1), alone(ebcdic));
         let ascii = reference::code_page::ascii(byte);
-        assert_eq!(called(library::to_ascii, &[byte], 1), alone(ascii));
+        assert_eq!(called(raw::to_ascii, &[byte], 1), alone(ascii));
     }
 }
 
 #[test]
 fn an_empty_file() {
-    for call in [library::to_ebcdic, library::to_ascii] {
+    for call in [raw::to_ebcdic, raw::to_ascii] {
         assert_eq!(called(call, b"", 0), (0, KEPT, vec![]));
         assert_eq!(called(call, b"", 3), (0, KEPT, vec![0xEE; 3]));
     }
@@ -82,8 +84,8 @@ fn the_output_s_length() {
     let ebcdic = [0xE2, 0xD4, 0xC9, 0xE3, 0xC8];
     let kept = |bytes: &[u8], behind: usize| [bytes, &vec![0xEE; behind]].concat();
     for (call, input, out) in [
-        (library::to_ebcdic as Call, b"SMITH", &ebcdic),
-        (library::to_ascii, &ebcdic, b"SMITH"),
+        (raw::to_ebcdic as Call, b"SMITH", &ebcdic),
+        (raw::to_ascii, &ebcdic, b"SMITH"),
     ] {
         assert_eq!(called(call, input, 0), (17, KEPT, vec![]));
         assert_eq!(called(call, input, 4), (17, KEPT, vec![0xEE; 4]));
@@ -96,8 +98,8 @@ fn the_output_s_length() {
 #[test]
 fn a_bad_byte_first_last_and_twice() {
     for (call, good, bad) in [
-        (library::to_ebcdic as Call, b'A', b'a'),
-        (library::to_ascii, 0xC1, 0x81),
+        (raw::to_ebcdic as Call, b'A', b'a'),
+        (raw::to_ascii, 0xC1, 0x81),
     ] {
         for length in [1, 2, 7, 8, 9, 63, 64, 65, 127, 128, 129, 245, 1000] {
             let spoilt = |places: &[usize]| {
@@ -120,8 +122,8 @@ fn a_bad_byte_first_last_and_twice() {
 #[test]
 fn refusal_16_before_17() {
     for (call, input) in [
-        (library::to_ebcdic as Call, b"SMITH\n"),
-        (library::to_ascii, b"\xE2\xD4\xC9\xE3\xC8\x15"),
+        (raw::to_ebcdic as Call, b"SMITH\n"),
+        (raw::to_ascii, b"\xE2\xD4\xC9\xE3\xC8\x15"),
     ] {
         for room in 0..6 {
             assert_eq!(called(call, input, room), (16, 5, vec![0xEE; room]));
@@ -132,10 +134,10 @@ fn refusal_16_before_17() {
 #[test]
 fn there_and_back() {
     let file: Vec<u8> = CHARACTERS.iter().copied().cycle().take(5000).collect();
-    let (answer, _, ebcdic) = called(library::to_ebcdic, &file, file.len());
+    let (answer, _, ebcdic) = called(raw::to_ebcdic, &file, file.len());
     assert_eq!(answer, 0);
-    let (answer, _, ascii) = called(library::to_ascii, &ebcdic, file.len());
+    let (answer, _, ascii) = called(raw::to_ascii, &ebcdic, file.len());
     assert_eq!((answer, &ascii), (0, &file));
-    let (answer, _, again) = called(library::to_ebcdic, &ascii, file.len());
+    let (answer, _, again) = called(raw::to_ebcdic, &ascii, file.len());
     assert_eq!((answer, again), (0, ebcdic));
 }

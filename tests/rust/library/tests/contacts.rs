@@ -1,5 +1,6 @@
 //! Contact files of many records through the library, which random cases seldom reach.
 
+use fantanolive::raw;
 use generator::contacts::{numbered, CONTACT};
 
 /// More than sixteen bits count.
@@ -9,7 +10,7 @@ const MANY: usize = 65_537;
 fn updated(file: &[u8], space: usize, list: usize) -> (u64, [u64; 2], Vec<u8>, Vec<u32>) {
     let (mut table, mut faulty) = (vec![0xEE; space * CONTACT], vec![0xEEEE_EEEE; list]);
     let mut result = [77; 2];
-    let answer = library::contacts_update(&mut table, 0, file, &mut faulty, &mut result);
+    let answer = raw::contacts_update(&mut table, 0, file, &mut faulty, &mut result);
     (answer, result, table, faulty)
 }
 
@@ -46,9 +47,9 @@ fn every_key_that_there_is() {
     let (mut out, mut codes) = (vec![0xEE; 3 * 999 + 1], 77);
     let state = [0xD6, 0xC8];
     let short = &mut out[..3 * 999 - 1];
-    let answer = library::contacts_codes(&table, 54_000, &state, short, &mut codes);
+    let answer = raw::contacts_codes(&table, 54_000, &state, short, &mut codes);
     assert_eq!((answer, codes), (19, 77));
-    let answer = library::contacts_codes(&table, 54_000, &state, &mut out, &mut codes);
+    let answer = raw::contacts_codes(&table, 54_000, &state, &mut out, &mut codes);
     assert_eq!((answer, codes), (0, 999));
     assert_eq!(out[..3], [0xF0, 0xF0, 0xF1]);
     assert_eq!(out[3 * 998..], [0xF9, 0xF9, 0xF9, 0xEE]);

@@ -1,6 +1,7 @@
 //! Journals through the library: every cut and every bit of a real one, and the calls with many rows
 //! and details, which random cases seldom reach.
 
+use fantanolive::raw;
 use generator::bulk;
 use generator::journal::enough;
 use generator::records::{control, totals, Record, RECORD};
@@ -42,7 +43,7 @@ fn batch(details: &[Record]) -> Vec<u8> {
 /// By the library.
 fn applied(master: &[u8], rows: usize, details: &[Record], journal: usize) -> Applied {
     let mut out = fresh(master, details.len(), journal);
-    out.answer = library::apply_journaled(
+    out.answer = raw::apply_journaled(
         &mut out.master,
         rows,
         &batch(details),
@@ -88,7 +89,7 @@ fn expected(master: &[u8], rows: usize, details: &[Record], journal: usize) -> A
 /// Answer, result and master of taking back, by the library; the reference gives the same.
 fn taken_back(master: &[u8], rows: usize, journal: &[u8]) -> (u64, u64, Vec<u8>) {
     let (mut one, mut two, mut rows_after) = (master.to_vec(), master.to_vec(), 77);
-    let answer = library::take_back(&mut one, rows, journal, &mut rows_after);
+    let answer = raw::take_back(&mut one, rows, journal, &mut rows_after);
     let expected = match reference::take_back(&mut two, rows, journal) {
         Ok(rows) => (0, rows),
         Err(number) => (number, 77),
@@ -200,7 +201,7 @@ fn refused_before_25() {
     assert_eq!(short(6, &details), 4);
     let wrong = control(STATE, [9, 9, 9, 9]);
     let mut out = fresh(&master, 0, 0);
-    let answer = library::apply_journaled(
+    let answer = raw::apply_journaled(
         &mut out.master,
         5,
         &wrong,
@@ -218,7 +219,7 @@ fn refused_before_25() {
         let mut out = fresh(&master, 6, 0);
         out.verdicts.truncate(verdicts);
         out.rejects.truncate(rejects);
-        let given = library::apply_journaled(
+        let given = raw::apply_journaled(
             &mut out.master,
             5,
             &batch(&details),

@@ -1,5 +1,6 @@
 //! Many keys through the library, which random cases seldom reach.
 
+use fantanolive::raw;
 use generator::bulk;
 use reference::many::NONE;
 
@@ -9,7 +10,7 @@ const MANY: usize = 65_537;
 /// Answer, comparisons and places by the library; the reference gives the same.
 fn found(master: &[u8], rows: usize, keys: &[u8], list: usize) -> (u64, u64, Vec<u32>) {
     let (mut one, mut two, mut comparisons) = (vec![9; list], vec![9; list], 77);
-    let answer = library::find_many(master, rows, keys, &mut one, &mut comparisons);
+    let answer = raw::find_many(master, rows, keys, &mut one, &mut comparisons);
     let expected = match reference::find_many(master, rows, keys, &mut two) {
         Ok(count) => (0, count),
         Err(number) => (number, 77),
@@ -107,7 +108,7 @@ fn a_key_of_any_bytes() {
             let mut key = right;
             key[place] = byte;
             let mut single = 0;
-            let alone = library::find(&master, 3, &key, &mut single);
+            let alone = raw::find(&master, 3, &key, &mut single);
             let (answer, _, places) = found(&master, 3, &key, 1);
             match alone {
                 0 => assert_eq!((answer, u64::from(places[0])), (0, single)),

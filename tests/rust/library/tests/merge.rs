@@ -1,5 +1,6 @@
 //! Merging many details and large amounts through the library, which random cases seldom reach.
 
+use fantanolive::raw;
 use generator::bulk;
 use generator::records::{batch, Record, RECORD};
 use generator::text::{digits, put, put_text};
@@ -10,7 +11,7 @@ const MANY: usize = 65_537;
 /// Answer, result and output by the library; the reference gives the same.
 fn merged(first: &[u8], second: &[u8], length: usize) -> (u64, u64, Vec<u8>) {
     let (mut one, mut two, mut records) = (vec![0xEE; length], vec![0xEE; length], 77);
-    let answer = library::merge(first, second, &mut one, &mut records);
+    let answer = raw::merge(first, second, &mut one, &mut records);
     let expected = match reference::merge(first, second, &mut two) {
         Ok(count) => (0, count),
         Err(number) => (number, 77),
@@ -131,7 +132,7 @@ fn applied_like_any_batch() {
     assert_eq!(records, 4);
     let (mut master, mut result) = (vec![0; 600], [0; 5]);
     let (mut verdicts, mut rejects) = ([0; 3], vec![0; 4 * RECORD]);
-    let answer = library::apply(
+    let answer = raw::apply(
         &mut master,
         0,
         &out,

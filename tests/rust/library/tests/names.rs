@@ -2,6 +2,8 @@
 //! them, worked by hand. Each case is a master of one row or none, details with the names they
 //! carry, and the codes that each gets; with 17 the four characters stored.
 
+use fantanolive::raw;
+
 const ROW: usize = 200;
 const RECORD: usize = 245;
 const SPACE: u8 = 0x40;
@@ -83,7 +85,7 @@ fn judged(rows: &[[u8; ROW]], details: &[[u8; RECORD]]) -> Vec<String> {
     let mut verdicts = vec![0; details.len()];
     let mut rejects = vec![0; RECORD * (details.len() + 1)];
     let mut result = [0; 5];
-    let answer = library::apply(
+    let answer = raw::apply(
         &mut master,
         rows.len(),
         &batch,

@@ -1,5 +1,6 @@
 //! Case pages of many rows through the library, which random cases seldom reach.
 
+use fantanolive::raw;
 use generator::bulk;
 use generator::pages::enough;
 use generator::text::{put_text, text};
@@ -11,7 +12,7 @@ const MANY: usize = 65_537;
 /// Answer, result and output by the library; the reference gives the same.
 fn printed(master: &[u8], rows: usize, length: usize) -> (u64, u64, Vec<u8>) {
     let (mut one, mut two, mut pages) = (vec![0xEE; length], vec![0xEE; length], 77);
-    let answer = library::pages(master, rows, &mut one, &mut pages);
+    let answer = raw::pages(master, rows, &mut one, &mut pages);
     let expected = match reference::pages(master, rows, &mut two) {
         Ok(count) => (0, count),
         Err(number) => (number, 77),

@@ -1,5 +1,6 @@
 //! Posting many lines and converting many rows through the library, which random cases seldom reach.
 
+use fantanolive::raw;
 use generator::bulk;
 use generator::posting::{numbered, total, Line};
 use generator::rng::Rng;
@@ -12,7 +13,7 @@ const MANY: usize = 65_537;
 fn posted(master: &[u8], file: &[u8], list: usize) -> (u64, u64, Vec<u8>, Vec<u32>) {
     let (mut master, mut lines, mut listed) = (master.to_vec(), vec![0xEEEE_EEEE; list], 77);
     let rows = master.len() / 200;
-    let answer = library::post(&mut master, rows, file, &mut lines, &mut listed);
+    let answer = raw::post(&mut master, rows, file, &mut lines, &mut listed);
     (answer, listed, master, lines)
 }
 
@@ -62,9 +63,9 @@ fn cents_for_many_rows() {
         row[196..].fill(0x40);
     }
     let before = master.clone();
-    assert_eq!(library::add_cents(&mut master, MANY + 2), 3);
+    assert_eq!(raw::add_cents(&mut master, MANY + 2), 3);
     assert!(master == before);
-    assert_eq!(library::add_cents(&mut master, MANY), 0);
+    assert_eq!(raw::add_cents(&mut master, MANY), 0);
     let mut rows = master.chunks_exact(200).zip(right.chunks_exact(200));
     assert!(rows
         .clone()
@@ -74,5 +75,5 @@ fn cents_for_many_rows() {
         rows.next_back().map(|(one, _)| one),
         before.chunks_exact(200).last()
     );
-    assert_eq!(library::add_cents(&mut master, MANY), 4);
+    assert_eq!(raw::add_cents(&mut master, MANY), 4);
 }

@@ -1,6 +1,7 @@
 //! The records that lead to a wanted case through the library: every set, every column, and
 //! the limits of the buffers.
 
+use fantanolive::raw;
 use generator::bulk;
 use generator::text::{put_text, text, EDGES};
 
@@ -9,7 +10,7 @@ const STATE: [u8; 2] = [0xD6, 0xC8];
 /// Answer, result and output by the library; the reference gives the same.
 fn asked(row: &[u8], wanted: &[u8], list: &[u8], length: usize) -> (u64, u64, Vec<u8>) {
     let (mut one, mut two, mut records) = (vec![0xEE; length], vec![0xEE; length], 77);
-    let answer = library::records_to(row, wanted, list, &mut one, &mut records);
+    let answer = raw::records_to(row, wanted, list, &mut one, &mut records);
     let expected = match reference::records_to(row, wanted, list, &mut two) {
         Ok(count) => (0, count),
         Err(number) => (number, 77),

@@ -5,6 +5,7 @@ use std::ffi::c_void;
 use std::os::raw::c_int;
 use std::ptr;
 
+use fantanolive::raw;
 use generator::bulk;
 use generator::contacts::{numbered as contact, CONTACT};
 use generator::journal::enough;
@@ -115,12 +116,12 @@ fn batches() {
         let list = text("001002");
         taken(&format!("apply, {name}"), LITTLE, &mut || {
             let out = (&mut verdicts[..], &mut rejects[..], &mut [0; 5]);
-            library::apply(&mut master, MANY, &batch, &list, 2007, out.0, out.1, out.2)
+            raw::apply(&mut master, MANY, &batch, &list, 2007, out.0, out.1, out.2)
         });
         let (mut journal, mut result) = (vec![0; enough(MANY)], [0; 6]);
         master.copy_from_slice(&before);
         taken(&format!("apply_journaled, {name}"), LITTLE, &mut || {
-            library::apply_journaled(
+            raw::apply_journaled(
                 &mut master,
                 MANY,
                 &batch,
@@ -134,16 +135,16 @@ fn batches() {
         });
         let (rows, journal) = (result[4] as usize, &journal[..result[5] as usize]);
         taken(&format!("take_back, {name}"), LITTLE, &mut || {
-            library::take_back(&mut master, rows, journal, &mut 0)
+            raw::take_back(&mut master, rows, journal, &mut 0)
         });
         taken(&format!("totals, {name}"), LITTLE, &mut || {
-            library::totals(&batch, &mut [0; 4])
+            raw::totals(&batch, &mut [0; 4])
         });
     }
     let half = batch(STATE, &changes()[..MANY / 2]);
     let mut out = vec![0; 2 * half.len()];
     taken("merge", LITTLE, &mut || {
-        library::merge(&half, &half, &mut out, &mut 0)
+        raw::merge(&half, &half, &mut out, &mut 0)
     });
 }
 
@@ -152,20 +153,20 @@ fn masters() {
     let mut master = bulk::rows(STATE, MANY, 2);
     let key = bulk::key(STATE, 2 * (MANY / 3));
     taken("find", LITTLE, &mut || {
-        library::find(&master, MANY, &key, &mut 0)
+        raw::find(&master, MANY, &key, &mut 0)
     });
     let keys: Vec<u8> = (0..MANY).flat_map(|at| bulk::key(STATE, 2 * at)).collect();
     let mut places = vec![0; MANY];
     taken("find_many", LITTLE, &mut || {
-        library::find_many(&master, MANY, &keys, &mut places, &mut 0)
+        raw::find_many(&master, MANY, &keys, &mut places, &mut 0)
     });
     let (mut out, date) = (vec![0; RECORD * (MANY + 1)], text("20261117"));
     taken("reconcile", LITTLE, &mut || {
-        library::reconcile(&master, MANY, &STATE, &date, &mut out, &mut 0)
+        raw::reconcile(&master, MANY, &STATE, &date, &mut out, &mut 0)
     });
     let mut out = vec![0; pages_length(MANY)];
     taken("pages", LITTLE, &mut || {
-        library::pages(&master, MANY, &mut out, &mut 0)
+        raw::pages(&master, MANY, &mut out, &mut 0)
     });
     let mut rng = Rng::new(19);
     let mut lines: Vec<Line> = (0..MANY).map(|at| line(&mut rng, STATE, 2 * at)).collect();
@@ -173,19 +174,19 @@ fn masters() {
     let file = [lines.concat(), total(&lines).to_vec()].concat();
     let mut list = vec![0; MANY];
     taken("post", LITTLE, &mut || {
-        library::post(&mut master, MANY, &file, &mut list, &mut 0)
+        raw::post(&mut master, MANY, &file, &mut list, &mut 0)
     });
     for row in master.chunks_exact_mut(200) {
         row[65..73].fill(0xF1);
         row[195..].fill(0x40);
     }
     taken("add_cents", LITTLE, &mut || {
-        library::add_cents(&mut master, MANY)
+        raw::add_cents(&mut master, MANY)
     });
     let (row, mut wanted, mut out) = (&bulk::rows(STATE, 1, 2), bulk::rows(STATE, 1, 2), [0; 980]);
     wanted[15] = 0xC1;
     taken("records_to", LITTLE, &mut || {
-        library::records_to(row, &wanted, &[], &mut out, &mut 0)
+        raw::records_to(row, &wanted, &[], &mut out, &mut 0)
     });
 }
 
@@ -197,19 +198,19 @@ fn files() {
         .collect();
     let (mut table, mut faulty) = (vec![0; MANY * CONTACT], vec![0; MANY]);
     let used = taken("contacts_update", CONTACTS, &mut || {
-        library::contacts_update(&mut table, 0, &file, &mut faulty, &mut [0; 2])
+        raw::contacts_update(&mut table, 0, &file, &mut faulty, &mut [0; 2])
     });
     assert!(used > LITTLE);
     let mut out = vec![0; 3 * 999];
     taken("contacts_codes", LITTLE, &mut || {
-        library::contacts_codes(&table, 54_000, &STATE, &mut out, &mut 0)
+        raw::contacts_codes(&table, 54_000, &STATE, &mut out, &mut 0)
     });
     let (ascii, mut out) = (vec![b'A'; 100_000], vec![0; 100_000]);
     taken("to_ebcdic", LITTLE, &mut || {
-        library::to_ebcdic(&ascii, &mut out, &mut 0)
+        raw::to_ebcdic(&ascii, &mut out, &mut 0)
     });
     let (ebcdic, mut out) = (out, vec![0; 100_000]);
     taken("to_ascii", LITTLE, &mut || {
-        library::to_ascii(&ebcdic, &mut out, &mut 0)
+        raw::to_ascii(&ebcdic, &mut out, &mut 0)
     });
 }

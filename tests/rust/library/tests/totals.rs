@@ -1,5 +1,6 @@
 //! The totals of many details through the library, which random cases seldom reach.
 
+use fantanolive::raw;
 use generator::bulk;
 use generator::records::{batch, Record, RECORD};
 use generator::rng::Rng;
@@ -11,7 +12,7 @@ const MANY: usize = 65_537;
 /// Answer and totals by the library; the reference gives the same.
 fn summed(batch: &[u8]) -> (u64, [u64; 4]) {
     let mut totals = [77; 4];
-    let answer = library::totals(batch, &mut totals);
+    let answer = raw::totals(batch, &mut totals);
     let expected = match reference::totals(batch) {
         Ok(totals) => (0, totals),
         Err(number) => (number, [77; 4]),

@@ -1,5 +1,6 @@
 //! Refusals of a batch that has as many records as there can be.
 
+use fantanolive::raw;
 use generator::bulk;
 use generator::journal::enough;
 use generator::records::{control, RECORD};
@@ -25,7 +26,7 @@ fn applied(
 ) -> u64 {
     let expected = reference::apply(master, rows, batch, &[], 2007, verdicts, rejects);
     let mut result = [77; 5];
-    let given = library::apply(
+    let given = raw::apply(
         master,
         rows,
         batch,
@@ -45,14 +46,14 @@ pub fn records() {
     for (records, expected) in [(MOST + 2, 5), (MOST + 1, 6), (MOST, 6)] {
         let batch = &batch[..records * RECORD];
         assert_eq!(applied(&mut [], 0, batch, &mut [], &mut []), expected);
-        assert_eq!(library::merge(batch, &[], &mut [], &mut 0), expected);
+        assert_eq!(raw::merge(batch, &[], &mut [], &mut 0), expected);
         assert_eq!(answer(reference::merge(batch, &[], &mut [])), expected);
         // As the second of two, the first being right.
-        assert_eq!(library::merge(&adds(0), batch, &mut [], &mut 0), expected);
+        assert_eq!(raw::merge(&adds(0), batch, &mut [], &mut 0), expected);
         assert_eq!(answer(reference::merge(&adds(0), batch, &mut [])), expected);
     }
     let mut totals = [77; 4];
-    assert_eq!((library::totals(&batch, &mut totals), totals), (5, [77; 4]));
+    assert_eq!((raw::totals(&batch, &mut totals), totals), (5, [77; 4]));
     assert_eq!(answer(reference::totals(&batch)), 5);
 }
 
@@ -107,7 +108,7 @@ pub fn buffers() {
         &mut journal,
     );
     let mut result = [77; 6];
-    let given = library::apply_journaled(
+    let given = raw::apply_journaled(
         &mut master,
         0,
         &batch,

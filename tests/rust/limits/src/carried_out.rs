@@ -1,5 +1,6 @@
 //! Calls carried out with as many records as there can be.
 
+use fantanolive::raw;
 use generator::bulk;
 use generator::contacts::{numbered, CONTACT};
 use generator::journal::enough;
@@ -20,7 +21,7 @@ pub fn totals() {
     let batch = Mapping::closed(&record, MOST, &[0; RECORD]);
     let expected = [MOST as u64, 0, 99_999_999 * MOST as u64, 0];
     let mut given = [0; 4];
-    assert_eq!((library::totals(&batch, &mut given), given), (0, expected));
+    assert_eq!((raw::totals(&batch, &mut given), given), (0, expected));
     assert_eq!(reference::totals(&batch), Ok(expected));
 }
 
@@ -67,7 +68,7 @@ pub fn details() {
     assert_eq!(batch.len(), (MOST + 1) * RECORD);
     let list = [0xF0, 0xF0, 0xF2];
     let (mut one, mut result) = (Lent::new(fifth), [77; 6]);
-    let given = library::apply_journaled(
+    let given = raw::apply_journaled(
         &mut one.master,
         0,
         &batch,
@@ -123,7 +124,7 @@ pub fn contacts() {
     );
     let (mut given, mut expected, mut result) = (vec![0; MOST], vec![0; MOST], [0; 2]);
     assert_eq!(
-        library::contacts_update(&mut one, 0, &file, &mut given, &mut result),
+        raw::contacts_update(&mut one, 0, &file, &mut given, &mut result),
         0
     );
     assert_eq!(result, [4, MOST as u64 - 5]);
@@ -148,10 +149,7 @@ pub fn lines() {
     let file = Mapping::closed(&line, MOST, &total(0, MOST));
     let (mut one, mut two) = (master.clone(), master);
     let (mut given, mut expected, mut listed) = (vec![0; MOST], vec![0; MOST], 0);
-    assert_eq!(
-        library::post(&mut one, 1, &file, &mut given, &mut listed),
-        0
-    );
+    assert_eq!(raw::post(&mut one, 1, &file, &mut given, &mut listed), 0);
     assert_eq!(
         reference::post(&mut two, 1, &file, &mut expected),
         Ok(listed)

@@ -1,5 +1,6 @@
 //! Refusals of contact and collection files that have as many records as there can be.
 
+use fantanolive::raw;
 use generator::contacts::CONTACT;
 use generator::posting::LINE;
 use generator::text::{digits, put, put_text, SPACE};
@@ -21,7 +22,7 @@ pub fn contact_refusals() {
     ] {
         let (file, table) = (&file[..records * CONTACT], &mut table[..space * CONTACT]);
         let mut result = [77; 2];
-        let given = library::contacts_update(table, 0, file, &mut list[..numbers], &mut result);
+        let given = raw::contacts_update(table, 0, file, &mut list[..numbers], &mut result);
         assert_eq!((given, result), (expected, [77; 2]), "{records} records");
         let done = reference::contacts::update(table, 0, file, &mut list[..numbers]);
         assert_eq!(answer(done), expected);
@@ -46,7 +47,7 @@ pub fn posting_refusals() {
     for (from, numbers, expected) in [(0, MOST, 22), (1, MOST - 1, 24), (2, MOST - 2, 24)] {
         let file = &file[from * LINE..];
         let mut listed = 77;
-        let given = library::post(&mut [], 0, file, &mut list[..numbers], &mut listed);
+        let given = raw::post(&mut [], 0, file, &mut list[..numbers], &mut listed);
         assert_eq!((given, listed), (expected, 77), "without the first {from}");
         assert_eq!(
             answer(reference::post(&mut [], 0, file, &mut list[..numbers])),
@@ -56,7 +57,7 @@ pub fn posting_refusals() {
     // Without the last record: 23 where there aren't too many.
     for (records, expected) in [(MOST + 2, 22), (MOST + 1, 23)] {
         let file = &Mapping::zeros(records * LINE);
-        assert_eq!(library::post(&mut [], 0, file, &mut list, &mut 0), expected);
+        assert_eq!(raw::post(&mut [], 0, file, &mut list, &mut 0), expected);
         assert_eq!(
             answer(reference::post(&mut [], 0, file, &mut list)),
             expected

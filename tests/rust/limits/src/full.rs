@@ -1,5 +1,6 @@
 //! A master of as many sound rows as there can be, and one with a row more.
 
+use fantanolive::raw;
 use generator::bulk;
 use generator::pages::enough;
 use generator::records::{batch, RECORD};
@@ -29,13 +30,13 @@ pub fn read() {
 fn find(master: &[u8]) {
     let last = bulk::key(STATE, 2 * (MOST - 1));
     let mut place = 0;
-    assert_eq!(library::find(master, MOST, &last, &mut place), 0);
+    assert_eq!(raw::find(master, MOST, &last, &mut place), 0);
     assert_eq!(place, MOST as u64 - 1);
     let numbers = [0, 1, MOST, 2 * MOST - 2, 2 * MOST];
     let keys = numbers.map(|number| bulk::key(STATE, number)).concat();
     let (mut places, mut comparisons) = ([0; 5], 0);
     assert_eq!(
-        library::find_many(master, MOST, &keys, &mut places, &mut comparisons),
+        raw::find_many(master, MOST, &keys, &mut places, &mut comparisons),
         0
     );
     assert_eq!(places, [0, NONE, NONE, MOST as u32 - 1, NONE]);
@@ -46,7 +47,7 @@ fn find(master: &[u8]) {
 fn pages(master: &[u8]) {
     let mut out = Mapping::repeated(&[0xEE; WIDTH], enough(MOST) / WIDTH, 0);
     let mut pages = 0;
-    assert_eq!(library::pages(master, MOST, &mut out, &mut pages), 0);
+    assert_eq!(raw::pages(master, MOST, &mut out, &mut pages), 0);
     assert_eq!(pages, MOST.div_ceil(LINES) as u64);
     let last = (pages as usize - 1) * (LINES + 2) * WIDTH;
     assert!(out[last..].starts_with(&text("CASES 289263 ")));
@@ -60,7 +61,7 @@ fn reconcile(master: &[u8]) {
     let mut out = Mapping::repeated(&[0xEE; RECORD], MOST, RECORD);
     let (date, mut records) = (text("20261117"), 0);
     assert_eq!(
-        library::reconcile(master, MOST, &STATE, &date, &mut out, &mut records),
+        raw::reconcile(master, MOST, &STATE, &date, &mut out, &mut records),
         0
     );
     assert_eq!(records, MOST as u64);
@@ -77,7 +78,7 @@ pub fn refused() {
         let batch = batch(STATE, &[bulk::add(STATE, number)]);
         let mut result = [77; 5];
         let lent = master.lent();
-        let answer = library::apply(lent, rows, &batch, &[], 2007, &mut [], &mut [], &mut result);
+        let answer = raw::apply(lent, rows, &batch, &[], 2007, &mut [], &mut [], &mut result);
         assert_eq!(result, [77; 5]);
         answer
     };
@@ -93,7 +94,7 @@ pub fn refused() {
     let mut place = 77;
     let key = bulk::key(STATE, 0);
     assert_eq!(
-        (library::find(&master, MOST + 1, &key, &mut place), place),
+        (raw::find(&master, MOST + 1, &key, &mut place), place),
         (3, 77)
     );
 }

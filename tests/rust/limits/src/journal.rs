@@ -2,6 +2,7 @@
 
 use std::hash::{DefaultHasher, Hasher};
 
+use fantanolive::raw;
 use generator::bulk;
 use generator::journal::enough;
 use generator::records::{batch, Record, RECORD};
@@ -59,7 +60,7 @@ pub fn four_groups() {
     let (batch, list) = (batch(STATE, &details), text("001002"));
     let (mut verdicts, mut rejects) = ([0; 6], [0; 7 * RECORD]);
     let (mut journal, mut result) = (vec![0; enough(6)], [0; 6]);
-    let given = library::apply_journaled(
+    let given = raw::apply_journaled(
         &mut master,
         ROWS,
         &batch,
@@ -75,7 +76,7 @@ pub fn four_groups() {
     assert_eq!(journal[..expected.len()], expected);
     let (left, mut rows) = (hash(&master), 0);
     assert_eq!(
-        library::take_back(
+        raw::take_back(
             &mut master,
             ROWS + 2,
             &expected[..expected.len() - 1],
@@ -84,7 +85,7 @@ pub fn four_groups() {
         26
     );
     assert_eq!(
-        library::take_back(&mut master, ROWS + 2, &expected, &mut rows),
+        raw::take_back(&mut master, ROWS + 2, &expected, &mut rows),
         0
     );
     assert_eq!((rows, hash(&master[..ROWS * ROW])), (ROWS as u64, at_entry));

@@ -1,5 +1,6 @@
 //! Lengths above 32 bits: files converted, which have no limit.
 
+use fantanolive::raw;
 use reference::code_page::Refusal;
 use sparse::{all, Mapping};
 
@@ -17,7 +18,7 @@ pub fn refused() {
     let place = FAR - 3;
     file[place] = b'a';
     let (mut given, mut out) = (0, Mapping::zeros(FAR));
-    assert_eq!(library::to_ebcdic(&file, &mut out, &mut given), 16);
+    assert_eq!(raw::to_ebcdic(&file, &mut out, &mut given), 16);
     assert_eq!(given, place as u64);
     assert_eq!(
         reference::to_ebcdic(&file, &mut out),
@@ -30,9 +31,9 @@ pub fn refused() {
 pub fn converted() {
     let (file, mut place) = (filled(b'A', 0), 77);
     let mut out = filled(0xEE, 1);
-    assert_eq!(library::to_ebcdic(&file, &mut out, &mut place), 0);
+    assert_eq!(raw::to_ebcdic(&file, &mut out, &mut place), 0);
     assert!(all(&out[..FAR], 0xC1));
     let mut back = filled(0xEE, 1);
-    assert_eq!(library::to_ascii(&out[..FAR], &mut back, &mut place), 0);
+    assert_eq!(raw::to_ascii(&out[..FAR], &mut back, &mut place), 0);
     assert!(back[..FAR] == file[..] && back[FAR] == 0 && place == 77);
 }

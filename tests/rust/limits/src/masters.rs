@@ -1,5 +1,6 @@
 //! Refusal 3 of every call that takes a master.
 
+use fantanolive::raw;
 use generator::journal::enough;
 use reference::row::ROW;
 use sparse::{all, Mapping};
@@ -12,7 +13,7 @@ type Call = fn(&mut [u8], usize) -> u64;
 const CALLS: [(&str, Call, Call); 9] = [
     (
         "apply",
-        |master, rows| library::apply(master, rows, &[], &[], 2007, &mut [], &mut [], &mut [0; 5]),
+        |master, rows| raw::apply(master, rows, &[], &[], 2007, &mut [], &mut [], &mut [0; 5]),
         |master, rows| {
             answer(reference::apply(
                 master,
@@ -30,7 +31,7 @@ const CALLS: [(&str, Call, Call); 9] = [
         |master, rows| {
             let mut journal = [0; enough(0)];
             let out = (&mut [], &mut [], &mut journal, &mut [0; 6]);
-            library::apply_journaled(master, rows, &[], &[], 2007, out.0, out.1, out.2, out.3)
+            raw::apply_journaled(master, rows, &[], &[], 2007, out.0, out.1, out.2, out.3)
         },
         |master, rows| {
             let done = reference::apply_journaled(
@@ -48,35 +49,35 @@ const CALLS: [(&str, Call, Call); 9] = [
     ),
     (
         "find",
-        |master, rows| library::find(master, rows, &[], &mut 0),
+        |master, rows| raw::find(master, rows, &[], &mut 0),
         |master, rows| answer(reference::find(master, rows, &[])),
     ),
     (
         "find_many",
-        |master, rows| library::find_many(master, rows, &[], &mut [], &mut 0),
+        |master, rows| raw::find_many(master, rows, &[], &mut [], &mut 0),
         |master, rows| answer(reference::find_many(master, rows, &[], &mut [])),
     ),
     (
         "reconcile",
-        |master, rows| library::reconcile(master, rows, &[], &[], &mut [], &mut 0),
+        |master, rows| raw::reconcile(master, rows, &[], &[], &mut [], &mut 0),
         |master, rows| answer(reference::reconcile(master, rows, &[], &[], &mut [])),
     ),
-    ("add_cents", library::add_cents, |master, rows| {
+    ("add_cents", raw::add_cents, |master, rows| {
         answer(reference::add_cents(master, rows))
     }),
     (
         "post",
-        |master, rows| library::post(master, rows, &[], &mut [], &mut 0),
+        |master, rows| raw::post(master, rows, &[], &mut [], &mut 0),
         |master, rows| answer(reference::post(master, rows, &[], &mut [])),
     ),
     (
         "take_back",
-        |master, rows| library::take_back(master, rows, &[], &mut 0),
+        |master, rows| raw::take_back(master, rows, &[], &mut 0),
         |master, rows| answer(reference::take_back(master, rows, &[])),
     ),
     (
         "pages",
-        |master, rows| library::pages(master, rows, &mut [], &mut 0),
+        |master, rows| raw::pages(master, rows, &mut [], &mut 0),
         |master, rows| answer(reference::pages(master, rows, &mut [])),
     ),
 ];

@@ -1,5 +1,6 @@
 //! Two batches into one at the limit.
 
+use fantanolive::raw;
 use generator::bulk;
 use generator::records::{control, RECORD};
 use sparse::Mapping;
@@ -21,7 +22,7 @@ pub fn refusals() {
     ] {
         let lengths = (first.len(), second.len());
         assert_eq!(
-            library::merge(first, second, &mut [], &mut 0),
+            raw::merge(first, second, &mut [], &mut 0),
             expected,
             "{lengths:?}"
         );
@@ -37,7 +38,7 @@ fn output() -> Mapping {
 pub fn carried_out() {
     let (one, two, mut records) = (adds(HALF), adds(HALF + 1), 0);
     let (mut given, mut expected) = (output(), output());
-    assert_eq!(library::merge(&one, &two, &mut given, &mut records), 0);
+    assert_eq!(raw::merge(&one, &two, &mut given, &mut records), 0);
     assert_eq!(reference::merge(&one, &two, &mut expected), Ok(records));
     assert_eq!(records, MOST as u64 + 1);
     assert!(given[..] == expected[..]);

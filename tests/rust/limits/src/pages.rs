@@ -1,5 +1,6 @@
 //! Pages whose number takes six digits, and look-ups in the same master.
 
+use fantanolive::raw;
 use generator::bulk;
 use generator::pages::enough;
 use generator::text::text;
@@ -22,7 +23,7 @@ fn output() -> Mapping {
 pub fn six_digits() {
     let master = bulk::rows(STATE, ROWS, 2);
     let (mut one, mut two, mut pages) = (output(), output(), 0);
-    assert_eq!(library::pages(&master, ROWS, &mut one, &mut pages), 0);
+    assert_eq!(raw::pages(&master, ROWS, &mut one, &mut pages), 0);
     assert_eq!(reference::pages(&master, ROWS, &mut two), Ok(pages));
     assert_eq!(pages, PAGES as u64);
     // The last block and what is behind it: some thousand pages before the last.
@@ -34,10 +35,7 @@ pub fn six_digits() {
     }
     assert_eq!(one[one.len() - 1], 0);
     let short = one.len() - 2;
-    assert_eq!(
-        library::pages(&master, ROWS, &mut one[..short], &mut pages),
-        31
-    );
+    assert_eq!(raw::pages(&master, ROWS, &mut one[..short], &mut pages), 31);
     assert_eq!(reference::pages(&master, ROWS, &mut two[..short]), Err(31));
     look_ups(&master);
 }
@@ -46,7 +44,7 @@ pub fn six_digits() {
 fn look_ups(master: &[u8]) {
     let last = &master[(ROWS - 1) * ROW..][..12];
     let mut place = 0;
-    assert_eq!(library::find(master, ROWS, last, &mut place), 0);
+    assert_eq!(raw::find(master, ROWS, last, &mut place), 0);
     assert_eq!(
         (place, reference::find(master, ROWS, last)),
         (ROWS as u64 - 1, Ok(place))
@@ -57,7 +55,7 @@ fn look_ups(master: &[u8]) {
         .collect();
     let (mut one, mut two, mut comparisons) = ([0; 5], [0; 5], 0);
     assert_eq!(
-        library::find_many(master, ROWS, &keys, &mut one, &mut comparisons),
+        raw::find_many(master, ROWS, &keys, &mut one, &mut comparisons),
         0
     );
     assert_eq!(

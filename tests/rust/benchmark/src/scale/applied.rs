@@ -2,6 +2,7 @@
 
 use std::cell::Cell;
 
+use fantanolive::raw;
 use generator::bulk;
 use generator::journal::enough;
 use generator::records::RECORD;
@@ -42,7 +43,7 @@ impl Lent {
 
     fn library(&mut self) {
         let mut result = [0; 5];
-        let answer = library::apply(
+        let answer = raw::apply(
             &mut self.master,
             self.rows,
             &self.batch,
@@ -69,7 +70,7 @@ impl Lent {
     }
 
     fn journaled(&mut self) {
-        let answer = library::apply_journaled(
+        let answer = raw::apply_journaled(
             &mut self.master,
             self.rows,
             &self.batch,
@@ -87,7 +88,7 @@ impl Lent {
         let (mut before, length) = (0, self.result[5] as usize);
         let journal = &self.journal[..length];
         let rows = self.result[4] as usize;
-        let answer = library::take_back(&mut self.master, rows, journal, &mut before);
+        let answer = raw::take_back(&mut self.master, rows, journal, &mut before);
         assert_eq!((answer, before), (0, self.rows as u64));
     }
 

@@ -2,6 +2,7 @@
 
 use std::cell::Cell;
 
+use fantanolive::raw;
 use generator::bulk;
 use generator::posting::{numbered, total, LINE};
 use generator::records::RECORD;
@@ -61,7 +62,7 @@ fn posting(setting: &Setting, places: Vec<usize>) -> Cost {
         } = lent;
         let mut listed = 0;
         assert_eq!(
-            library::post(master, *rows, file, list.short_numbers(), &mut listed),
+            raw::post(master, *rows, file, list.short_numbers(), &mut listed),
             0
         );
         tell(listed);
@@ -91,7 +92,7 @@ pub fn merge(setting: &Setting) -> Cost {
     let mut out = setting.filled((setting.size + 1) * RECORD);
     let library = |out: &mut Mapping| {
         let mut records = 0;
-        assert_eq!(library::merge(&first, &second, out, &mut records), 0);
+        assert_eq!(raw::merge(&first, &second, out, &mut records), 0);
     };
     setting.cost(
         &mut out,
@@ -109,7 +110,7 @@ pub fn totals(setting: &Setting) -> Cost {
     let mut batch = setting.batch((0..setting.size).map(|number| 2 * number));
     let library = |batch: &mut Mapping| {
         let mut totals = [0; 4];
-        assert_eq!(library::totals(batch, &mut totals), 0);
+        assert_eq!(raw::totals(batch, &mut totals), 0);
         assert_eq!(totals[0], setting.size as u64);
     };
     setting.cost(&mut batch, |_| {}, library, None, |batch| vec![batch])

@@ -1,5 +1,6 @@
 //! Calls that read a master alone.
 
+use fantanolive::raw;
 use generator::bulk;
 use generator::pages::enough;
 use generator::records::RECORD;
@@ -48,7 +49,7 @@ pub fn find(setting: &Setting) -> Cost {
     let key = lent.master[third..third + 12].to_vec();
     let library = |lent: &mut Lent| {
         let mut place = 0;
-        assert_eq!(library::find(&lent.master, lent.rows, &key, &mut place), 0);
+        assert_eq!(raw::find(&lent.master, lent.rows, &key, &mut place), 0);
         lent.tell(place);
     };
     let speed = |lent: &mut Lent| {
@@ -67,7 +68,7 @@ pub fn reconcile(setting: &Setting) -> Cost {
         } = lent;
         let mut records = 0;
         assert_eq!(
-            library::reconcile(master, *rows, &STATE, &date, out, &mut records),
+            raw::reconcile(master, *rows, &STATE, &date, out, &mut records),
             0
         );
         lent.tell(records);
@@ -87,7 +88,7 @@ pub fn pages(setting: &Setting) -> Cost {
     let library = |lent: &mut Lent| {
         let mut pages = 0;
         assert_eq!(
-            library::pages(&lent.master, lent.rows, &mut lent.out, &mut pages),
+            raw::pages(&lent.master, lent.rows, &mut lent.out, &mut pages),
             0
         );
         lent.tell(pages);
@@ -111,7 +112,7 @@ pub fn find_many(setting: &Setting) -> Cost {
             ..
         } = lent;
         let (places, mut comparisons) = (out.short_numbers(), 0);
-        let answer = library::find_many(master, *rows, keys, places, &mut comparisons);
+        let answer = raw::find_many(master, *rows, keys, places, &mut comparisons);
         assert_eq!(answer, 0);
         lent.tell(comparisons);
     };

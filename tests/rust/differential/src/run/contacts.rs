@@ -1,5 +1,6 @@
 //! The contact file on both sides.
 
+use fantanolive::raw;
 use generator::text::shown;
 use generator::{Case, CodesCase, UpdateCase};
 use reference::contacts::CONTACT;
@@ -15,7 +16,7 @@ pub fn run_update(before: UpdateCase) -> Outcome {
     let mut file = Lent::new(&case.file, GUARD);
     let mut faulty = Lent::new(&case.faulty, GUARD_NUMBER);
     let mut result = case.result;
-    let answer = library::contacts_update(
+    let answer = raw::contacts_update(
         table.slice(),
         case.count,
         file.slice(),
@@ -55,7 +56,7 @@ pub fn run_codes(before: CodesCase) -> Outcome {
     let mut state = Lent::new(&case.state, GUARD);
     let mut out = Lent::new(&case.out, GUARD);
     let mut codes = case.codes;
-    let answer = library::contacts_codes(
+    let answer = raw::contacts_codes(
         table.slice(),
         case.count,
         state.slice(),

@@ -1,5 +1,6 @@
 //! Applying with a journal and taking back, on both sides, and the two one behind the other.
 
+use fantanolive::raw;
 use generator::journal::{
     journaled_case, take_back_case, wild_take_back, JournaledCase, TakeBackCase,
 };
@@ -71,7 +72,7 @@ fn journaled(before: &JournaledCase) -> (JournaledCase, u64, Vec<String>) {
     let mut journal = Lent::new(&case.journal, GUARD);
     let [accepted, rejected, warned, neither, rows] = apply.result;
     let mut result = [accepted, rejected, warned, neither, rows, case.length];
-    let answer = library::apply_journaled(
+    let answer = raw::apply_journaled(
         master.slice(),
         apply.rows,
         batch.slice(),
@@ -132,7 +133,7 @@ fn taken_back(before: &TakeBackCase) -> (TakeBackCase, u64, Vec<String>) {
     let mut master = Lent::new(&case.master, GUARD);
     let mut journal = Lent::new(&case.journal, GUARD);
     let mut rows_after = case.rows_after;
-    let answer = library::take_back(master.slice(), case.rows, journal.slice(), &mut rows_after);
+    let answer = raw::take_back(master.slice(), case.rows, journal.slice(), &mut rows_after);
     let number = match reference::take_back(&mut case.master, case.rows, &case.journal) {
         Ok(rows) => {
             case.rows_after = rows;

@@ -1,5 +1,6 @@
 //! Many keys looked up together, on both sides, and beside single look-ups.
 
+use fantanolive::raw;
 use generator::many::{many_case, ManyCase};
 use generator::rng::Rng;
 use generator::text::shown;
@@ -40,7 +41,7 @@ fn looked_up(before: &ManyCase) -> (ManyCase, u64, Vec<String>) {
     let mut keys = Lent::new(&case.keys, GUARD);
     let mut places = Lent::new(&case.places, GUARD_NUMBER);
     let mut comparisons = case.comparisons;
-    let answer = library::find_many(
+    let answer = raw::find_many(
         master.slice(),
         case.rows,
         keys.slice(),
@@ -90,7 +91,7 @@ fn meet_answers(report: &mut Report, case: &ManyCase) {
     report.meet("no keys", keys.is_empty());
     for (&key, &place) in keys.iter().zip(&case.places) {
         let mut single = 0;
-        let answer = library::find(&case.master, case.rows, key, &mut single);
+        let answer = raw::find(&case.master, case.rows, key, &mut single);
         let same = match place {
             NONE => answer == 15,
             place => answer == 0 && single == u64::from(place),

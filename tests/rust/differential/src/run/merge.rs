@@ -1,5 +1,6 @@
 //! Merging two batches on both sides.
 
+use fantanolive::raw;
 use generator::bulk::SIXTEEN_BITS;
 use generator::merge::{merge_case, MergeCase};
 use generator::rng::Rng;
@@ -37,7 +38,7 @@ pub fn merged(before: &MergeCase) -> (MergeCase, u64, Vec<String>) {
     let mut second = Lent::new(&case.second, GUARD);
     let mut out = Lent::new(&case.out, GUARD);
     let mut records = case.records;
-    let answer = library::merge(first.slice(), second.slice(), out.slice(), &mut records);
+    let answer = raw::merge(first.slice(), second.slice(), out.slice(), &mut records);
     let number = match reference::merge(&case.first, &case.second, &mut case.out) {
         Ok(count) => {
             case.records = count;

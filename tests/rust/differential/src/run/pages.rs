@@ -2,6 +2,7 @@
 
 use std::collections::BTreeSet;
 
+use fantanolive::raw;
 use generator::pages::{enough, pages_case, PagesCase};
 use generator::rng::Rng;
 use reference::pages::{line_of, LINES, WIDTH};
@@ -41,7 +42,7 @@ fn printed(before: &PagesCase) -> (PagesCase, u64, Vec<String>) {
     let mut master = Lent::new(&case.master, GUARD);
     let mut out = Lent::new(&case.out, GUARD);
     let mut pages = case.pages;
-    let answer = library::pages(master.slice(), case.rows, out.slice(), &mut pages);
+    let answer = raw::pages(master.slice(), case.rows, out.slice(), &mut pages);
     let number = match reference::pages(&case.master, case.rows, &mut case.out) {
         Ok(count) => {
             case.pages = count;

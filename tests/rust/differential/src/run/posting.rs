@@ -1,5 +1,6 @@
 //! The conversion and posting on both sides.
 
+use fantanolive::raw;
 use generator::text::shown;
 use generator::{Case, CentsCase, PostCase};
 use reference::posting::LINE;
@@ -14,7 +15,7 @@ const GUARD_NUMBER: u32 = 0xB711_22C5;
 pub fn run_cents(before: CentsCase) -> Outcome {
     let mut case = before.clone();
     let mut master = Lent::new(&case.master, GUARD);
-    let answer = library::add_cents(master.slice(), case.rows);
+    let answer = raw::add_cents(master.slice(), case.rows);
     let number = reference::add_cents(&mut case.master, case.rows).map_or_else(|n| n, |()| 0);
     let mut differences = Vec::new();
     let found = &mut differences;
@@ -35,7 +36,7 @@ pub fn run_post(before: PostCase) -> Outcome {
     let mut file = Lent::new(&case.file, GUARD);
     let mut list = Lent::new(&case.list, GUARD_NUMBER);
     let mut listed = case.listed;
-    let answer = library::post(
+    let answer = raw::post(
         master.slice(),
         case.rows,
         file.slice(),

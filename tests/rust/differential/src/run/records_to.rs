@@ -1,5 +1,6 @@
 //! The records that lead to a wanted case, on both sides; and a batch of them, which must lead there.
 
+use fantanolive::raw;
 use generator::records::{control, totals, Record};
 use generator::records_to::{records_to_case, RecordsToCase};
 use generator::rng::Rng;
@@ -49,7 +50,7 @@ fn asked(before: &RecordsToCase) -> (RecordsToCase, u64, Vec<String>) {
     let mut list = Lent::new(&case.list, GUARD);
     let mut out = Lent::new(&case.out, GUARD);
     let mut records = case.records;
-    let answer = library::records_to(
+    let answer = raw::records_to(
         row.slice(),
         wanted.slice(),
         list.slice(),
@@ -140,7 +141,7 @@ fn leads(case: &RecordsToCase) -> bool {
     let mut master = case.row.clone();
     let (mut verdicts, mut result) = (vec![9; details.len()], [9; 5]);
     let mut rejects = vec![9; RECORD * (details.len() + 1)];
-    let answer = library::apply(
+    let answer = raw::apply(
         &mut master,
         1,
         &batch,

@@ -1,6 +1,7 @@
 //! A file sent as several: the parts one behind the other beside the whole file, and the totals of a
 //! batch.
 
+use fantanolive::raw;
 use generator::bulk::SIXTEEN_BITS;
 use generator::records::{batch, Record, RECORD};
 use generator::rng::Rng;
@@ -180,7 +181,7 @@ fn run_totals(rng: &mut Rng) -> Report {
     let mut lent = Lent::new(&case, GUARD);
     let before: [u64; 4] = std::array::from_fn(|_| rng.number());
     let mut given = before;
-    let answer = library::totals(lent.slice(), &mut given);
+    let answer = raw::totals(lent.slice(), &mut given);
     let (number, expected) = match reference::totals(&case) {
         Ok(totals) => (0, totals),
         Err(number) => (number, before),
