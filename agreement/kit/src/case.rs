@@ -60,6 +60,15 @@ impl Case {
         self.values[place] = Value::Count(count);
     }
 
+    /// The numbers of a result or a list.
+    pub fn numbers(&self, name: &str) -> Vec<u64> {
+        let place = self.place(name);
+        match &self.values[place] {
+            Value::Result(numbers) => numbers.clone(),
+            value => numbers_of(&bytes_of(value), self.call().arguments[place].width()),
+        }
+    }
+
     /// How many bytes the case lends.
     pub fn size(&self) -> usize {
         let sizes = self.values.iter().map(|value| match value {
@@ -100,6 +109,20 @@ impl Outcome {
             &self.after(case, argument),
             case.call().arguments[argument].width(),
         )
+    }
+
+    /// The case with what was left in its buffers and results.
+    pub fn left_in(self, case: &Case) -> Case {
+        let lent = case.values.iter().zip(self.left);
+        let values = lent.map(|(value, left)| match (value, left) {
+            (Value::Bytes(_), Some(bytes)) => Value::Bytes(bytes),
+            (Value::Result(_), Some(bytes)) => Value::Result(numbers_of(&bytes, 8)),
+            (value, _) => value.clone(),
+        });
+        Case {
+            call: case.call,
+            values: values.collect(),
+        }
     }
 }
 

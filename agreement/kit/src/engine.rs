@@ -8,7 +8,7 @@ use std::path::{Path, PathBuf};
 use std::process::{Child, Command, Stdio};
 use std::time::{Duration, Instant};
 
-use crate::calls::OWN;
+use crate::calls::{CALLS, OWN};
 use crate::case::{Answered, Case};
 use crate::frame;
 use crate::lent::{Memory, Side};
@@ -41,12 +41,15 @@ pub struct Linked {
 }
 
 impl Linked {
+    /// The calls by their names, in the order of `CALLS`.
+    ///
     /// # Safety
-    /// Each must be the call of its place in `CALLS`, with the interface of `fantanolive.h`.
-    pub unsafe fn new(functions: Vec<*const ()>) -> Linked {
-        assert_eq!(functions.len(), OWN);
+    /// Each must be the call of its name, with the interface of `fantanolive.h`.
+    pub unsafe fn new(calls: &[(&str, *const ())]) -> Linked {
+        let names = calls.iter().map(|(name, _)| *name);
+        assert!(names.eq(CALLS[..OWN].iter().map(|call| call.name)));
         Linked {
-            functions,
+            functions: calls.iter().map(|(_, function)| *function).collect(),
             memory: Memory::default(),
             turn: 0,
         }

@@ -27,14 +27,3 @@ pub mod serve;
 pub mod shrink;
 mod system;
 pub mod text;
-
-/// The calls of this process by their names, in the order of `calls::CALLS`, as pointers for `engine::Linked`.
-#[macro_export]
-macro_rules! linked {
-    ($($call:ident)*) => {{
-        extern "C" {
-            $(fn $call();)*
-        }
-        vec![$($call as *const ()),*]
-    }};
-}

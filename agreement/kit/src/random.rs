@@ -1,13 +1,16 @@
 //! The generator's random cases of every call, as cases of the kit.
 
-use generator::journal::{journaled_case, wild_take_back};
-use generator::many::many_case;
-use generator::merge::merge_case;
-use generator::pages::pages_case;
-use generator::records_to::records_to_case;
+use generator::journal::{journaled_case, wild_take_back, JournaledCase, TakeBackCase};
+use generator::many::{many_case, ManyCase};
+use generator::merge::{merge_case, MergeCase};
+use generator::pages::{pages_case, PagesCase};
+use generator::records_to::{records_to_case, RecordsToCase};
 use generator::rng::Rng;
 use generator::several::totals_case;
-use generator::{ApplyCase, Direction};
+use generator::{
+    ApplyCase, CentsCase, CodesCase, ConvertCase, Direction, FindCase, PostCase, ReconcileCase,
+    UpdateCase,
+};
 
 use crate::case::{case, number_bytes, Case, Value};
 use crate::scene::bytes;
@@ -25,181 +28,100 @@ fn count(number: usize) -> Value {
     Value::Count(number as u64)
 }
 
-fn apply_values(case: ApplyCase) -> Vec<Value> {
-    vec![
-        bytes(case.master),
-        count(case.rows),
-        bytes(case.batch),
-        bytes(case.list),
-        Value::Count(case.year),
-        list64(&case.verdicts),
-        bytes(case.rejects),
-    ]
+fn number(number: u64) -> Value {
+    Value::Result(vec![number])
 }
 
-fn applied(typed: ApplyCase) -> Case {
-    let result = Value::Result(typed.result.to_vec());
-    let mut values = apply_values(typed);
-    values.push(result);
-    case("apply", values)
+/// Each typed case of the generator as a case of the kit: its fields in the order of the call's arguments.
+macro_rules! cases {
+    ($($type:ident $call:literal |$one:ident| [$($value:expr),* $(,)?];)*) => {
+        $(impl From<$type> for Case {
+            fn from($one: $type) -> Case {
+                case($call, vec![$($value),*])
+            }
+        })*
+    };
 }
 
-/// A random case of one of the first calls.
-fn first(typed: generator::Case) -> Case {
-    match typed {
-        generator::Case::Apply(typed) => applied(typed),
-        generator::Case::Find(typed) => case(
-            "find",
-            vec![
-                bytes(typed.master),
-                count(typed.rows),
-                bytes(typed.key),
-                Value::Result(vec![typed.place]),
-            ],
-        ),
-        generator::Case::Reconcile(typed) => case(
-            "reconcile",
-            vec![
-                bytes(typed.master),
-                count(typed.rows),
-                bytes(typed.state),
-                bytes(typed.date),
-                bytes(typed.out),
-                Value::Result(vec![typed.records]),
-            ],
-        ),
-        generator::Case::Convert(typed) => {
-            let call = match typed.direction {
-                Direction::ToEbcdic => "to_ebcdic",
-                Direction::ToAscii => "to_ascii",
-            };
-            let place = Value::Result(vec![typed.place]);
-            case(call, vec![bytes(typed.input), bytes(typed.out), place])
-        }
-        other => second(other),
+cases! {
+    ApplyCase "apply" |one| [
+        bytes(one.master), count(one.rows), bytes(one.batch), bytes(one.list), Value::Count(one.year), list64(&one.verdicts),
+        bytes(one.rejects), Value::Result(one.result.to_vec()),
+    ];
+    JournaledCase "apply_journaled" |one| [
+        bytes(one.apply.master), count(one.apply.rows), bytes(one.apply.batch), bytes(one.apply.list),
+        Value::Count(one.apply.year), list64(&one.apply.verdicts), bytes(one.apply.rejects), bytes(one.journal),
+        Value::Result([&one.apply.result[..], &[one.length]].concat()),
+    ];
+    TakeBackCase "take_back" |one| [bytes(one.master), count(one.rows), bytes(one.journal), number(one.rows_after)];
+    MergeCase "merge" |one| [bytes(one.first), bytes(one.second), bytes(one.out), number(one.records)];
+    FindCase "find" |one| [bytes(one.master), count(one.rows), bytes(one.key), number(one.place)];
+    ManyCase "find_many" |one| [
+        bytes(one.master), count(one.rows), bytes(one.keys), list32(&one.places), number(one.comparisons),
+    ];
+    ReconcileCase "reconcile" |one| [
+        bytes(one.master), count(one.rows), bytes(one.state), bytes(one.date), bytes(one.out), number(one.records),
+    ];
+    PagesCase "pages" |one| [bytes(one.master), count(one.rows), bytes(one.out), number(one.pages)];
+    CentsCase "add_cents" |one| [bytes(one.master), count(one.rows)];
+    PostCase "post" |one| [
+        bytes(one.master), count(one.rows), bytes(one.file), list32(&one.list), number(one.listed),
+    ];
+    UpdateCase "contacts_update" |one| [
+        bytes(one.table), count(one.count), bytes(one.file), list32(&one.faulty), Value::Result(one.result.to_vec()),
+    ];
+    CodesCase "contacts_codes" |one| [
+        bytes(one.table), count(one.count), bytes(one.state), bytes(one.out), number(one.codes),
+    ];
+    RecordsToCase "records_to" |one| [
+        bytes(one.row), bytes(one.wanted), bytes(one.list), bytes(one.out), number(one.records),
+    ];
+}
+
+impl From<ConvertCase> for Case {
+    fn from(one: ConvertCase) -> Case {
+        let call = match one.direction {
+            Direction::ToEbcdic => "to_ebcdic",
+            Direction::ToAscii => "to_ascii",
+        };
+        case(
+            call,
+            vec![bytes(one.input), bytes(one.out), number(one.place)],
+        )
     }
 }
 
-fn second(typed: generator::Case) -> Case {
-    match typed {
-        generator::Case::Update(typed) => case(
-            "contacts_update",
-            vec![
-                bytes(typed.table),
-                count(typed.count),
-                bytes(typed.file),
-                list32(&typed.faulty),
-                Value::Result(typed.result.to_vec()),
-            ],
-        ),
-        generator::Case::Codes(typed) => case(
-            "contacts_codes",
-            vec![
-                bytes(typed.table),
-                count(typed.count),
-                bytes(typed.state),
-                bytes(typed.out),
-                Value::Result(vec![typed.codes]),
-            ],
-        ),
-        generator::Case::Cents(typed) => {
-            case("add_cents", vec![bytes(typed.master), count(typed.rows)])
+impl From<generator::Case> for Case {
+    fn from(one: generator::Case) -> Case {
+        match one {
+            generator::Case::Apply(one) => one.into(),
+            generator::Case::Find(one) => one.into(),
+            generator::Case::Reconcile(one) => one.into(),
+            generator::Case::Convert(one) => one.into(),
+            generator::Case::Update(one) => one.into(),
+            generator::Case::Codes(one) => one.into(),
+            generator::Case::Cents(one) => one.into(),
+            generator::Case::Post(one) => one.into(),
         }
-        generator::Case::Post(typed) => case(
-            "post",
-            vec![
-                bytes(typed.master),
-                count(typed.rows),
-                bytes(typed.file),
-                list32(&typed.list),
-                Value::Result(vec![typed.listed]),
-            ],
-        ),
-        other => first(other),
     }
 }
 
-fn journaled(rng: &mut Rng) -> Case {
-    let typed = journaled_case(rng);
-    let mut numbers = typed.apply.result.to_vec();
-    numbers.push(typed.length);
-    let mut values = apply_values(typed.apply);
-    values.extend([bytes(typed.journal), Value::Result(numbers)]);
-    case("apply_journaled", values)
-}
-
-fn taken_back(rng: &mut Rng) -> Case {
-    let typed = wild_take_back(rng);
-    let values = vec![
-        bytes(typed.master),
-        count(typed.rows),
-        bytes(typed.journal),
-        Value::Result(vec![typed.rows_after]),
-    ];
-    case("take_back", values)
-}
-
-fn many(rng: &mut Rng) -> Case {
-    let typed = many_case(rng);
-    let values = vec![
-        bytes(typed.master),
-        count(typed.rows),
-        bytes(typed.keys),
-        list32(&typed.places),
-        Value::Result(vec![typed.comparisons]),
-    ];
-    case("find_many", values)
-}
-
-fn merged(rng: &mut Rng) -> Case {
-    let typed = merge_case(rng);
-    let values = vec![
-        bytes(typed.first),
-        bytes(typed.second),
-        bytes(typed.out),
-        Value::Result(vec![typed.records]),
-    ];
-    case("merge", values)
-}
-
-fn printed(rng: &mut Rng) -> Case {
-    let typed = pages_case(rng);
-    let values = vec![
-        bytes(typed.master),
-        count(typed.rows),
-        bytes(typed.out),
-        Value::Result(vec![typed.pages]),
-    ];
-    case("pages", values)
-}
-
-fn led(rng: &mut Rng) -> Case {
-    let typed = records_to_case(rng);
-    let values = vec![
-        bytes(typed.row),
-        bytes(typed.wanted),
-        bytes(typed.list),
-        bytes(typed.out),
-        Value::Result(vec![typed.records]),
-    ];
-    case("records_to", values)
-}
-
-fn totalled(rng: &mut Rng) -> Case {
+/// A random case of totals: any batch, right or not.
+pub fn totalled(rng: &mut Rng) -> Case {
     let batch = totals_case(rng);
-    let totals = Value::Result(vec![rng.number(); 4]);
+    let totals = Value::Result((0..4).map(|_| rng.number()).collect());
     case("totals", vec![bytes(batch), totals])
 }
 
 /// A random case of one of the later calls.
 fn later(rng: &mut Rng) -> Case {
     let make = rng.pick(&[
-        journaled as fn(&mut Rng) -> Case,
-        taken_back,
-        many,
-        merged,
-        printed,
-        led,
+        (|rng| journaled_case(rng).into()) as fn(&mut Rng) -> Case,
+        |rng| wild_take_back(rng).into(),
+        |rng| many_case(rng).into(),
+        |rng| merge_case(rng).into(),
+        |rng| pages_case(rng).into(),
+        |rng| records_to_case(rng).into(),
         totalled,
     ]);
     make(rng)
@@ -208,7 +130,7 @@ fn later(rng: &mut Rng) -> Case {
 /// A random case of any call: mostly carried out, else damaged, now and then wild or large.
 pub fn any(rng: &mut Rng) -> Case {
     match rng.percent(60) {
-        true => first(generator::case(rng.number())),
+        true => generator::case(rng.number()).into(),
         false => later(rng),
     }
 }

@@ -14,7 +14,7 @@ use agreement::run::{run as run_cases, Found, Options, Pair, Report};
 use agreement::seen::{Line, Section};
 use agreement::text::{written, Fixed};
 use agreement::{replay, report, serve};
-use fantanolive::VERSION;
+use fantanolive::{raw, VERSION};
 
 use crate::arguments::Arguments;
 use crate::failure::{counted, grouped, words, Failure, Status};
@@ -31,14 +31,8 @@ const LAST_REQUEST: u64 = 14;
 
 /// The library's calls.
 fn library() -> Linked {
-    let functions = agreement::linked!(
-        fantanolive_apply fantanolive_apply_journaled fantanolive_take_back fantanolive_totals fantanolive_merge
-        fantanolive_find fantanolive_find_many fantanolive_reconcile fantanolive_pages fantanolive_add_cents
-        fantanolive_post fantanolive_to_ebcdic fantanolive_to_ascii fantanolive_contacts_update
-        fantanolive_contacts_codes fantanolive_records_to
-    );
-    // SAFETY: the calls of the library in the order of CALLS.
-    unsafe { Linked::new(functions) }
+    // SAFETY: the calls of the library by their names.
+    unsafe { Linked::new(&raw::addresses()) }
 }
 
 /// What is asked of a run besides the engine.
