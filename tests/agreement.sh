@@ -2,8 +2,8 @@
 # Agreement with another engine, with the program target/program/fantanolive and the reference behind the C interface as the other engine:
 # `agree` finds no difference and sees everything; every fixed case holds over the library, the reference and the example in Python; faults
 # planted in copies of the reference are found by `agree` and by the fixed cases; crashes, hangs and writing outside are told; what is
-# saved is replayed. With --long all faults are planted and a million cases are run. It prints a line for each case that fails, and at
-# the end `agreement: N cases passed`. Skipped is, with a line, what wants Python.
+# saved is replayed; the run in the manual is as it is shown there. With --long all faults are planted, a million cases are run and
+# the limits tried in full. It prints a line for each case that fails, and at the end `agreement: N cases passed`. Skipped is, with a line, what wants Python.
 set -u
 export LC_ALL=C PYTHONDONTWRITEBYTECODE=1
 root=$(dirname -- "$(dirname -- "$(readlink -f -- "$0")")")
@@ -44,6 +44,11 @@ want 'what was never seen' "$(grep 'not seen' "$work/out")" ''
 want 'the library itself' "$? $(grep -c '"outcome":"no difference' "$work/out")" '0 1'
 "$program" agree "$reference" --calls find,merge --cases 2000 --seed 3 >"$work/out"
 want 'some calls' "$? $(grep -c '^apply' "$work/out") $(grep -c '^merge' "$work/out")" '0 0 1'
+
+if [ "${1-}" = --long ]; then
+    "$program" agree "$reference" --cases 1 --limits --json >"$work/out"
+    want 'the limits in full' "$? $(grep -o '"limits":[0-9]*' "$work/out") $(grep -c '"beyond":\[\]' "$work/out")" '0 "limits":32 1'
+fi
 
 # --- The fixed cases.
 
@@ -100,7 +105,7 @@ told 'writes-a-key' 'they part in key'
 engine hangs 'for (;;) pause();'
 told hangs 'it gave no answer in the time limit' 1
 
-# --- What is saved is replayed, and what can't be run is said.
+# --- What is saved is replayed.
 
 "$CARGO_TARGET_DIR/release/faults" --build error_08_of_25 "$work/faulty.so" || exit 1
 "$program" agree "$work/faulty.so" --cases 2000 --seed 1 --save "$work/saved" >"$work/out"
@@ -109,6 +114,20 @@ want 'a fault' "$? $(grep -c '08 (A): digits, below 25' "$work/out" | sed 's/^[1
 want 'what was saved, over the same engine' "$? $(grep -c '^difference' "$work/out")" "1 $(find "$work/saved" -name '*.txt' | wc -l)"
 "$program" agree "$reference" --replay "$work/saved" >"$work/out"
 want 'what was saved, over a right one' "$?" 0
+
+# --- The run that the manual shows, up to the table and but for its time.
+
+timeless() {
+    sed 's/, [0-9.]* seconds$/, N seconds/'
+}
+sed -n '/^\$ fantanolive agree libother.so /,/^```$/p' docs/MANUAL.md | sed '$d' >"$work/manual"
+read -ra command < <(sed -n '1s/^\$ //p' "$work/manual")
+cp -- "$work/faulty.so" "$work/libother.so"
+(cd -- "$work" && "$root/$program" "${command[@]:1}") >"$work/out" 2>&1
+want 'the run in the manual' "$(diff <(sed 1d "$work/manual" | timeless) <(sed '/^seen$/,$d' "$work/out" | sed '$d' | timeless))" ''
+
+# --- What can't be run is said.
+
 for arguments in "$work/none.so" "$work/saved" "$reference --calls nothing" "$reference --up-to 15" "$reference --replay $work/none"; do
     # shellcheck disable=SC2086
     "$program" agree $arguments >/dev/null 2>"$work/err"
