@@ -1,5 +1,5 @@
 //! A case made smaller as long as the two engines part in the same way: details, rows, codes, lines and keys left out, buffers
-//! emptied, then fields made blank or as simple as they can be.
+//! emptied, then fields made blank or as simple as they can be. Names are made the same first, where that keeps the difference.
 
 use std::ops::Range;
 use std::time::{Duration, Instant};
@@ -18,6 +18,8 @@ const ZERO: u8 = 0xF0;
 /// How long a case is made smaller, and of how many records any two are tried.
 const MOST_TIME: Duration = Duration::from_secs(6);
 const FEW: usize = 8;
+/// Columns 30 to 49 of a detail.
+const LAST_NAME: Range<usize> = 29..49;
 /// A fresh row is sound, and nothing in it can be left out.
 const ROW: usize = 200;
 
@@ -84,6 +86,7 @@ pub fn shrink(case: &Case, keeps: &mut dyn FnMut(&Case) -> bool) -> Case {
     };
     for _ in 0..6 {
         let before = shrinker.case.clone();
+        shrinker.share_names();
         shrinker.leave_out();
         shrinker.empty();
         shrinker.simplify();
@@ -178,6 +181,30 @@ impl Shrinker<'_> {
                 _ => None,
             })
             .collect()
+    }
+
+    /// One last name for all details of a batch, so that those which only changed it can be left out.
+    fn share_names(&mut self) {
+        for (at, name, content, _) in self.buffers() {
+            let details = self.records(at, name, content);
+            if content == Content::Batch && details <= FEW {
+                let mut from = 0..details;
+                from.any(|from| self.take(self.named_as(at, from)));
+            }
+        }
+    }
+
+    /// The case with the last name of one detail in all of them.
+    fn named_as(&self, at: usize, from: usize) -> Case {
+        let mut candidate = self.case.clone();
+        if let Value::Bytes(bytes) = &mut candidate.values[at] {
+            let details = bytes.len() / RECORD - 1;
+            let last_name = bytes[from * RECORD..][LAST_NAME].to_vec();
+            for detail in bytes.chunks_exact_mut(RECORD).take(details) {
+                detail[LAST_NAME].copy_from_slice(&last_name);
+            }
+        }
+        candidate
     }
 
     fn leave_out(&mut self) {
