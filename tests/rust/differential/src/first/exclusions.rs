@@ -1,6 +1,7 @@
 //! Exclusion fields that name ADM, and rows that have ADM by itself.
 
 use agreement::case::Case;
+use fantanolive::ERRORS;
 use reference::row::{is_live, ROW};
 use reference::text::EXCLUSIONS;
 
@@ -26,6 +27,16 @@ pub const EXCLUSION_SETS: Group = (
     ],
 );
 
+/// The labels of an A and of an R that names ADM, without all three and with them.
+const A_NAMES: [&str; 2] = [
+    "A naming ADM without all three",
+    "A naming ADM and all three",
+];
+const R_NAMES: [&str; 2] = [
+    "R naming ADM without all three",
+    "R naming ADM and all three",
+];
+
 /// The words of columns 188–227.
 fn words(record: &[u8]) -> impl Iterator<Item = &[u8]> {
     let words = record[187..227].split(|&byte| byte == 0x40 || byte == 0x6B);
@@ -44,30 +55,22 @@ fn by_itself(set: u8) -> bool {
     set & ADM != 0 && set & THREE != THREE
 }
 
-/// Counts the accepted A and R records of a batch, and its rows.
+/// Counts the accepted A and R records of a batch.
 pub fn note_batch(trial: &mut Trial, case: &Case, after: &Case) {
     for (record, verdict) in judged(case, after) {
-        let accepted = verdict & fantanolive::ERRORS == 0;
-        match record[72] {
-            0xC1 if accepted => note_field(
-                trial,
-                record,
-                [
-                    "A naming ADM without all three",
-                    "A naming ADM and all three",
-                ],
-            ),
-            0xD9 if accepted => note_field(
-                trial,
-                record,
-                [
-                    "R naming ADM without all three",
-                    "R naming ADM and all three",
-                ],
-            ),
-            _ => {}
+        let labels = match record[72] {
+            0xC1 => A_NAMES,
+            0xD9 => R_NAMES,
+            _ => continue,
+        };
+        if verdict & ERRORS == 0 {
+            note_field(trial, record, labels);
         }
     }
+}
+
+/// Counts the rows that kept ADM by itself though a batch changed them.
+pub fn note_kept(trial: &mut Trial, case: &Case, after: &Case) {
     let mut left = after.bytes("master").chunks_exact(ROW);
     for row in rows(case) {
         let same = left.find(|behind| behind[..12] == row[..12]);

@@ -58,12 +58,7 @@ fn has(verdict: u64, codes: &[u32]) -> bool {
 /// The B records by key and name, with their places.
 type Renames<'a> = HashMap<(Key, Name), Vec<(usize, &'a Detail)>>;
 
-/// Counts the details of a batch carried out.
-pub fn note(trial: &mut Trial, case: &Case, after: &Case) {
-    let details: Vec<Detail> = judged(case, after)
-        .into_iter()
-        .map(|(record, verdict)| detail(record, verdict))
-        .collect();
+fn renames(details: &[Detail]) -> Renames<'_> {
     let mut renames = Renames::new();
     for (place, detail) in details.iter().enumerate() {
         if detail.kind == 0xC2 {
@@ -71,6 +66,16 @@ pub fn note(trial: &mut Trial, case: &Case, after: &Case) {
             same.push((place, detail));
         }
     }
+    renames
+}
+
+/// Counts the details of a batch carried out.
+pub fn note(trial: &mut Trial, case: &Case, after: &Case) {
+    let details: Vec<Detail> = judged(case, after)
+        .into_iter()
+        .map(|(record, verdict)| detail(record, verdict))
+        .collect();
+    let renames = renames(&details);
     let mut stored = names_at_entry(case);
     let mut old: HashSet<(Key, Name)> = HashSet::new();
     for (place, detail) in details.iter().enumerate() {

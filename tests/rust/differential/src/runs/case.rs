@@ -67,6 +67,7 @@ fn note_batch(trial: &mut Trial, case: &Case, after: &Case) {
     names::note(trial, case, after);
     posting::note_batch(trial, case, after);
     exclusions::note_batch(trial, case, after);
+    exclusions::note_kept(trial, case, after);
 }
 
 fn note_posting(trial: &mut Trial, case: &Case, after: &Case) {
