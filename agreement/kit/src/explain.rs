@@ -309,9 +309,9 @@ fn field(call: &str, name: &str) -> Option<&'static str> {
 /// The type of the last detail with a row's key, in ordinary letters.
 fn type_under(case: &Case, key: &[u8]) -> Option<u8> {
     let details = case.bytes("batch").chunks_exact(245);
-    let own =
+    let mut own =
         details.filter(|record| [&record[..2], &record[5..14], &record[73..74]].concat() == key);
-    let letter = generator::text::shown(&[own.last()?[72]]);
+    let letter = generator::text::shown(&[own.next_back()?[72]]);
     letter.bytes().next()
 }
 

@@ -66,7 +66,7 @@ pub struct Report {
 /// Whether all calls of these names are among those given.
 pub fn allows(calls: &[usize], names: &[&str]) -> bool {
     let named = |name: &&str| calls.iter().any(|&call| CALLS[call].name == *name);
-    names.iter().all(|name| named(name))
+    names.iter().all(named)
 }
 
 pub struct Pair<'a> {
