@@ -1,5 +1,6 @@
 // The details of one key, at the positions of one rank, worked through the machine: each verdict at its detail's own position, below the
 // index.
+use crate::ahead;
 use crate::packed;
 use judging::front;
 use judging::front::FrontErrors;
@@ -28,11 +29,18 @@ pub fn flag_given(number: u64) -> bool
 }
 
 // The errors but 09 and 17 of a detail by its number: none, or they are judged again.
-fn front_of(x: u64, rec: &[u8; 245], state: &[u8], year: u64, list: &[u8]) -> FrontErrors
+fn front_of(
+    x: u64,
+    again: bool,
+    rec: &[u8; 245],
+    state: &[u8],
+    year: u64,
+    list: &[u8],
+) -> FrontErrors
     ensures { λ r. ⌜ (flagWrong x ≡ not (eqb (numberOfCodes (frontErrors (now (state .entry)) year (now (list .entry)) (now (rec .entry)))) 0)
         → IsFront (now (state .entry)) year (now (list .entry)) (now (rec .entry)) r) × (r .set ≤ 2 ^ 19) ⌝ }
 {
-    if tagged::flag_wrong(x) {
+    if tagged::flag_wrong(x) | again {
         front::judge_front(rec, state, year, list)
     } else {
         front::no_errors()
@@ -51,6 +59,7 @@ fn work_tagged(
     held: bool,
     batch: &[u8],
     x: u64,
+    again: bool,
     state: &[u8],
     year: u64,
     list: &[u8],
@@ -61,7 +70,7 @@ fn work_tagged(
 {
     let i = tagged::index_part(x);
     let rec = records::record_at(batch, i);
-    let f = front_of(x, &rec, state, year, list);
+    let f = front_of(x, again, &rec, state, year, list);
     let local = tagged::flag_local(x);
     let given = flag_given(x);
     let step = known::step_known(row, held, &rec, f, local, given, list);
@@ -92,7 +101,8 @@ pub fn work_run(
     let mut held = case.held;
     let mut q = p;
     while q < e {
-        let after = work_tagged(&mut row, held, batch, numbers[q], state, year, list);
+        let again = ahead::read_ahead(batch, numbers, q);
+        let after = work_tagged(&mut row, held, batch, numbers[q], again, state, year, list);
         numbers[q] = after.number;
         held = after.held;
         q += 1;
@@ -117,7 +127,7 @@ pub fn work_alone(
     let mut q = p;
     while q < e {
         let mut row = [0x40u8; 200];
-        let after = work_tagged(&mut row, false, batch, numbers[q], state, year, list);
+        let after = work_tagged(&mut row, false, batch, numbers[q], false, state, year, list);
         numbers[q] = after.number;
         q += 1;
     }

@@ -1,6 +1,7 @@
 -- `worked::front_of`: without the flag there is no error to judge again. Assumes nothing.
 use mathlib.Core.Path.{sym, _∙_}
 use Rattle.keywork.proofs.WorkedLaws.{none-wrong}
+use Rattle.text.proofs.BoolLaws.{or-left}
 use borrow.Author.Needs.{needs}
 use Rattle.keywork.proofs.worked.front_of.Statement.{statement}
 use Rattle.keywork.proofs.worked.front_of.Tie as tie
@@ -19,7 +20,7 @@ returns c = search needs
 
 returns-2 : tie.Need-returns-2
 returns-2 c = (
-  (λ w. c .no-errors .ensures .0 _ _ _ _ (none-wrong _ (sym (c .before .if1 .left) ∙ c .before .before .flag-wrong .ensures ∙ w))),
+  (λ w. c .no-errors .ensures .0 _ _ _ _ (none-wrong _ (sym (or-left _ (c .before .before .before .before .before .args .again) (c .before .if1 .left)) ∙ c .before .before .flag-wrong .ensures ∙ w))),
   c .no-errors .ensures .1,
 )
 

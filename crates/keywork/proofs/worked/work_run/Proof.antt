@@ -26,6 +26,9 @@ loop-holds c =
     let a = c .before .before .before .before .before .args in
     (omega arith, omega (arith, c .before .before .before .before .before .pre .0), refl, (λ k h. refl), search needs, λ names kn mk. run-none (settingOf (now (a .state)) (a .year) (now (a .list)) names) (now (a .batch)) (a .p) (rowOf (a .case)) (now (a .numbers)))
 
+read-ahead-requires : tie.Need-read-ahead-requires Inv-loop μ-loop
+read-ahead-requires c κs = omega (arith, c .before .loop-test .taken, c .before .before .loop .inv .1, c .before .before .loop .inv .2, c .before .before .before .before .before .before .before .before .pre .1)
+
 slice-aggregate-work-tagged : tie.Need-slice-aggregate-work-tagged Inv-loop μ-loop
 slice-aggregate-work-tagged c = search needs
 
@@ -33,18 +36,18 @@ mul-work-tagged : tie.Need-mul-work-tagged Inv-loop μ-loop
 mul-work-tagged c = search needs
 
 slice-read-work-tagged : tie.Need-slice-read-work-tagged Inv-loop μ-loop
-slice-read-work-tagged c = omega (arith, c .before .before .loop-test .taken, c .before .before .before .loop .inv .2, c .before .before .before .before .before .before .before .before .before .pre .1)
+slice-read-work-tagged c = omega (arith, c .before .before .before .before .loop-test .taken, c .before .before .before .before .before .loop .inv .2, c .before .before .before .before .before .before .before .before .before .before .before .pre .1)
 
 work-tagged-requires : tie.Need-work-tagged-requires Inv-loop μ-loop
 work-tagged-requires c κs =
-    let l = c .before .before .before .loop in
-    (search needs, rw (l .inv .3 (l .q) (omega arith)) (c .before .before .before .before .before .before .before .before .before .pre .2 (l .q) (l .inv .0) (c .before .before .loop-test .taken)))
+    let l = c .before .before .before .before .before .loop in
+    (search needs, rw (l .inv .3 (l .q) (omega arith)) (c .before .before .before .before .before .before .before .before .before .before .before .pre .2 (l .q) (l .inv .0) (c .before .before .before .before .loop-test .taken)))
 
 mul-numbers : tie.Need-mul-numbers Inv-loop μ-loop
 mul-numbers c = search needs
 
 slice-write-numbers : tie.Need-slice-write-numbers Inv-loop μ-loop
-slice-write-numbers c = omega (arith, c .before .before .before .before .loop-test .taken, c .before .before .before .before .before .loop .inv .2, c .before .before .before .before .before .before .before .before .before .before .before .pre .1)
+slice-write-numbers c = omega (arith, c .before .before .before .before .before .before .loop-test .taken, c .before .before .before .before .before .before .before .loop .inv .2, c .before .before .before .before .before .before .before .before .before .before .before .before .before .pre .1)
 
 add-q : tie.Need-add-q Inv-loop μ-loop
 add-q c = search needs
@@ -55,16 +58,16 @@ loop-less c = search needs
 loop-again : tie.Need-loop-again Inv-loop μ-loop
 loop-again c =
     let w = c .before .work-tagged in
-    let t = c .before .before .before .before .loop-test .taken in
-    let l = c .before .before .before .before .before .loop in
-    let a = c .before .before .before .before .before .before .before .before .before .before .before .args in (
+    let t = c .before .before .before .before .before .before .loop-test .taken in
+    let l = c .before .before .before .before .before .before .before .loop in
+    let a = c .before .before .before .before .before .before .before .before .before .before .before .before .before .args in (
       omega (arith, l .inv .0),
       omega (arith, t),
       length-set (l .numbers) (l .q) (w .result .number) ∙ l .inv .2,
       (λ k h. getD-set-other (l .numbers) (l .q) k (w .result .number) 0 (λ (z : k ≡ l .q). omega arith) ∙ l .inv .3 k (omega arith)),
       search needs,
       run-turn (now (a .state)) (a .year) (now (a .list)) (now (a .batch)) (a .p) (a .e) (l .q) (rowOf (a .case)) (rowIf (l .held) (l .row)) (now (a .numbers)) (l .numbers) _ (w .result)
-          (l .inv .0) t (c .before .before .before .before .before .before .before .before .before .before .before .pre .1) (l .inv .3 (l .q) (omega arith)) (l .inv .5) (w .ensures),
+          (l .inv .0) t (c .before .before .before .before .before .before .before .before .before .before .before .before .before .pre .1) (l .inv .3 (l .q) (omega arith)) (l .inv .5) (w .ensures),
     )
 
 same-length : tie.Need-same-length Inv-loop μ-loop
@@ -84,6 +87,7 @@ work-run-spec =
     Inv-loop
     μ-loop
     loop-holds
+    read-ahead-requires
     slice-aggregate-work-tagged
     mul-work-tagged
     slice-read-work-tagged
