@@ -8,7 +8,7 @@ use generator::records::{totals, Record, RECORD};
 use generator::text::{digits, number, put};
 
 use crate::calls::{Argument, Content};
-use crate::case::{Case, Value};
+use crate::case::{bytes_of, Case, Value};
 use crate::fields::{layout, Field};
 use crate::scene::put_number;
 use crate::text::record_width;
@@ -23,6 +23,15 @@ const LAST_NAME: Range<usize> = 29..49;
 /// A fresh row is sound, and nothing in it can be left out.
 const ROW: usize = 200;
 
+/// The columns of the totals in a last record, each with its width.
+fn total_columns(content: Content) -> &'static [(usize, usize)] {
+    match content {
+        Content::Batch => &[(6, 9), (15, 9), (24, 11), (35, 11)],
+        Content::Lines => &[(35, 15), (50, 15)],
+        _ => &[],
+    }
+}
+
 /// Writes the totals that a batch's details have into its control record.
 pub fn mend_totals(batch: &mut [u8]) {
     let Some(start) = batch.len().checked_sub(RECORD) else {
@@ -33,8 +42,8 @@ pub fn mend_totals(batch: &mut [u8]) {
         .chunks_exact(RECORD)
         .map(|record| record.try_into().unwrap_or([SPACE; RECORD]))
         .collect();
-    let columns = [(6, 9), (15, 9), (24, 11), (35, 11)];
-    for (total, (column, width)) in totals(&details).into_iter().zip(columns) {
+    let columns = total_columns(Content::Batch);
+    for (total, &(column, width)) in totals(&details).into_iter().zip(columns) {
         put(control, column, &digits(total, width));
     }
 }
@@ -56,8 +65,10 @@ fn mend_lines(file: &mut [u8]) {
             .filter(|line| above(&line[first - 1..first + 10]))
             .count() as u64
     };
-    put(last, 35, &digits(count(87), 15));
-    put(last, 50, &digits(count(76), 15));
+    let columns = total_columns(Content::Lines);
+    for (total, &(column, width)) in [count(87), count(76)].into_iter().zip(columns) {
+        put(last, column, &digits(total, width));
+    }
 }
 
 fn mend(content: Content, bytes: &mut [u8]) {
@@ -66,6 +77,27 @@ fn mend(content: Content, bytes: &mut [u8]) {
         Content::Lines => mend_lines(bytes),
         _ => {}
     }
+}
+
+/// Makes the totals right that were right before; answers whether all were.
+fn mend_as(content: Content, before: &[u8], bytes: &mut [u8]) -> bool {
+    let (mut right_before, mut right) = (before.to_vec(), bytes.to_vec());
+    mend(content, &mut right_before);
+    mend(content, &mut right);
+    let last = |bytes: &[u8]| bytes.len().checked_sub(record_width(content));
+    let (Some(old), Some(new)) = (last(before), last(bytes)) else {
+        return before == right_before;
+    };
+    let mut all = true;
+    for &(column, width) in total_columns(content) {
+        let old = old + column - 1..old + column - 1 + width;
+        let new = new + column - 1..new + column - 1 + width;
+        match before[old.clone()] == right_before[old] {
+            true => bytes[new.clone()].copy_from_slice(&right[new]),
+            false => all = false,
+        }
+    }
+    all
 }
 
 /// What is tried, and for how long.
@@ -149,23 +181,15 @@ impl Shrinker<'_> {
         kept
     }
 
-    /// Takes a candidate with totals made right where those before were, or as it is.
+    /// Takes a candidate with those totals made right that were so before, or as it is where some weren't.
     fn take_mended(&mut self, candidate: Case, argument: usize, content: Content) -> bool {
-        let bytes_of = |case: &Case| match &case.values[argument] {
-            Value::Bytes(bytes) => bytes.clone(),
-            _ => Vec::new(),
+        let mut mended = candidate.clone();
+        let before = bytes_of(&self.case.values[argument]);
+        let all = match &mut mended.values[argument] {
+            Value::Bytes(bytes) => mend_as(content, &before, bytes),
+            _ => true,
         };
-        let before = bytes_of(&self.case);
-        let mut right = before.clone();
-        mend(content, &mut right);
-        let mut bytes = bytes_of(&candidate);
-        mend(content, &mut bytes);
-        if before == right {
-            let mut mended = candidate;
-            mended.values[argument] = Value::Bytes(bytes);
-            return self.take(mended);
-        }
-        self.take(candidate)
+        self.take(mended) || !all && self.take(candidate)
     }
 
     fn buffers(&self) -> Vec<(usize, &'static str, Content, bool)> {
