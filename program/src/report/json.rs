@@ -4,6 +4,11 @@ use std::io::{self, Write};
 
 use crate::mask::masked;
 
+/// Whether a byte of a text is written otherwise.
+fn is_escaped(byte: u8) -> bool {
+    matches!(byte, b'"' | b'\\' | ..b' ')
+}
+
 /// A writer of one JSON value. Commas are set by it; that names and values alternate in an object is the caller's part.
 pub struct Json<W: Write> {
     out: W,
@@ -156,7 +161,7 @@ impl<W: Write> Json<W> {
     fn quoted(&mut self, text: &str) -> io::Result<()> {
         self.out.write_all(b"\"")?;
         let mut rest = text;
-        while let Some(at) = rest.find(|c: char| c == '"' || c == '\\' || c < ' ') {
+        while let Some(at) = rest.bytes().position(is_escaped) {
             self.out.write_all(&rest.as_bytes()[..at])?;
             match rest.as_bytes()[at] {
                 b'\n' => self.out.write_all(b"\\n")?,
