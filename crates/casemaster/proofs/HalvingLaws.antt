@@ -2,14 +2,14 @@
 use mathlib.Core.Path.{_≡_, refl, sym, ap, _∙_}
 use mathlib.Core.Logic.{⊎-elim}
 use mathlib.Core.Bool.{Bool, true, false}
-use mathlib.Core.List.{List, [], _∷_}
+use mathlib.Core.List.{List, [], _∷_, _++_}
 use mathlib.Core.Option.{none, some}
 use Prim.Native.Nat.{ℕ, zero, suc, _+_, _*_, _≤_, _<_, suc-le-suc}
-use native.Mathlib.Nat.{not-suc-le-zero, le-of-suc-le-suc, zero-lt-suc, eq-or-lt-of-le}
+use native.Mathlib.Nat.{not-suc-le-zero, le-of-suc-le-suc, zero-lt-suc, eq-or-lt-of-le, zero-add}
 use native.Mathlib.Omega.{arith}
 use lib.Dec.{ltb}
 use lib.ListN.{length, take, drop, getD}
-use lib.Seq.{take-take}
+use lib.Seq.{take-take, drop-drop}
 use borrow.Author.Count.{below-more}
 use borrow.Author.Tests.{ltb-true, ltb-false}
 use Rattle.text.specs.declared.byte_order.Order.{Order}
@@ -18,7 +18,7 @@ use Rattle.text.specs.Fields.{sameBytes}
 use Rattle.casemaster.specs.Row.{rowKey}
 use Rattle.casemaster.specs.Master.{rowsOf, keysOf}
 use Rattle.casemaster.specs.Rows.{placeWith, withRow}
-use Rattle.casemaster.specs.Search.{IsGap, inserted}
+use Rattle.casemaster.specs.Search.{IsGap, KeysRise, inserted}
 use Rattle.text.proofs.BlocksLaws.{blocks-get, length-blocks}
 use Rattle.casemaster.proofs.SearchLaws.{with-below, with-above, rows-head, rows-tail, place-found}
 use Rattle.text.specs.ByteOrder.{orderIn, less, equal, greater, orderOf, isLess, isEqual, rising}
@@ -121,3 +121,42 @@ module _ (n : ℕ) (m key : List ℕ) (r : rising (keysOf (rowsOf n m)) ≡ true
 
 pub turn-gap : (n : ℕ) (m key : List ℕ) (p : ℕ) → p ≤ n → KeysBelow key (rowsOf n m) p → KeysAbove key (rowsOf n m) p → IsGap p key (rowsOf n m)
 turn-gap n m key p l b a = found-gap key (rowsOf n m) p (rw (length-blocks 200 n m) l) b a
+
+-- ---- rows from a place on, where keys rise
+
+-- where a row's key is below another, so are those before it
+below-earlier : (key : List ℕ) (rows : List (List ℕ)) (i j : ℕ) → rising (keysOf rows) ≡ true → i ≤ j → j < length rows
+    → isLess (orderOf (rowKey (getD rows j [])) key) ≡ true → isLess (orderOf (rowKey (getD rows i [])) key) ≡ true
+below-earlier key rows i j r h l b =
+    ⊎-elim (λ (e : i ≡ j). rw e b)
+    (λ (k : i < j). less-trans (rowKey (getD rows i [])) (rowKey (getD rows j [])) key (rows-rise rows i j r k l) b) (eq-or-lt-of-le h)
+
+module _ (m : List ℕ) (from count : ℕ) where
+  -- the key of a row, as code cuts it out
+  key-cut : (i : ℕ) → i < count → rowKey (getD (rowsOf count (drop (from * 200) m)) i []) ≡ take 12 (drop ((from + i) * 200) m)
+  key-cut i l =
+      let e : i * 200 + from * 200 ≡ (from + i) * 200 = omega arith in
+      rw (blocks-get 200 count (drop (from * 200) m) i l)
+      (take-take 12 200 (drop (i * 200) (drop (from * 200) m)) (omega arith)
+      ∙ ap (take 12) (drop-drop (i * 200) (from * 200) m ∙ ap (λ (z : ℕ). drop z m) (comm ∙ e)))
+    where
+      comm : from * 200 + i * 200 ≡ i * 200 + from * 200
+      comm = omega arith
+
+  pub keys-rise : (end : ℕ) → end ≤ from + count → rising (keysOf (rowsOf count (drop (from * 200) m))) ≡ true → KeysRise m from end
+  keys-rise end e r key i j h l b =
+      let rows = rowsOf count (drop (from * 200) m) in
+      let inside : j < length rows = rw (length-blocks 200 count (drop (from * 200) m)) (omega arith) in
+      let bj : isLess (orderOf (rowKey (getD rows j [])) key) ≡ true = rw (key-cut j (omega arith)) b in
+      rw (key-cut i (omega arith)) at (below-earlier key rows i j r h inside bj)
+
+-- where all rise, those behind some do
+pub rows-behind : (front rows : List (List ℕ)) → rising (keysOf (front ++ rows)) ≡ true → rising (keysOf rows) ≡ true
+rows-behind [] rows r = r
+rows-behind (row ∷ front) rows r = rows-behind front rows (rows-tail row (front ++ rows) r)
+
+-- of all rows, from any place on
+pub rises-from : (m : List ℕ) (n from : ℕ) → rising (keysOf (rowsOf n m)) ≡ true → KeysRise m from n
+rises-from m n from r key i j h l b =
+    let k = keys-rise m 0 n n (omega arith) r key (from + i) (from + j) (omega arith) (rw zero-add l) (rw zero-add b) in
+    rw zero-add at k

@@ -2,7 +2,7 @@
 -- What a search for a key among rows answers, and rows put in, pulled down and moved up. Assumes nothing.
 use Prim.Native.Nat.{ℕ, _+_, _-_, _*_, _≤_, _<_}
 use mathlib.Core.Path.{_≡_}
-use mathlib.Core.Bool.{true, false}
+use mathlib.Core.Bool.{Bool, true, false}
 use mathlib.Core.Logic.{_⊎_}
 use mathlib.Core.List.{List, [], _∷_, _++_}
 use mathlib.Core.Option.{none, some}
@@ -32,6 +32,22 @@ pub record IsGap (p : ℕ) (key : List ℕ) (rows : List (List ℕ)) : Type 0 wh
 abbrev pub IsPlace : Place → List ℕ → List (List ℕ) → Type 0
 IsPlace (At p) key rows = placeWith key rows ≡ some p
 IsPlace (Gap p) key rows = IsGap p key rows
+
+-- the key of the row at place p is below a key
+abbrev pub isBelowAt : List ℕ → ℕ → List ℕ → Bool
+isBelowAt m p key = isLess (orderOf (take 12 (drop (p * 200) m)) key)
+
+-- from place `from` on, up to place end, keys rise: where a row's key is below another, so are those of the rows before it
+abbrev pub KeysRise : List ℕ → ℕ → ℕ → Type 0
+KeysRise m from end =
+    (key : List ℕ) (i j : ℕ) → i ≤ j → from + j < end → isBelowAt m (from + j) key ≡ true → isBelowAt m (from + i) key ≡ true
+
+-- from place `from` on, low rows have keys below the one given, and the row behind high rows, if it's before place end, hasn't
+pub record Between (m : List ℕ) (from end : ℕ) (key : List ℕ) (low high : ℕ) : Type 0 where
+  pub order : low ≤ high
+  pub within : from + high ≤ end
+  pub below : (j : ℕ) → j < low → isBelowAt m (from + j) key ≡ true
+  pub stops : (from + high ≡ end) ⊎ (isBelowAt m (from + high) key ≡ false)
 
 -- from place `from` on, count rows have keys below the one given, and the row behind them, if it's before place end, hasn't
 pub record AreBelow (m : List ℕ) (from end : ℕ) (key : List ℕ) (count : ℕ) : Type 0 where

@@ -7,7 +7,7 @@ ghost use mathlib.Core.Bool.{true};
 ghost use Prim.Native.Nat.{_+_, _*_, _≤_, _<_};
 ghost use lib.ListN.{length, take, drop};
 ghost use Rattle.casemaster.specs.Master.{rowsOf, keysOf};
-ghost use Rattle.casemaster.specs.Search.{IsPlace, AreBelow};
+ghost use Rattle.casemaster.specs.Search.{IsPlace, KeysRise, Between, AreBelow};
 ghost use Rattle.text.specs.ByteOrder.{orderIn, orderOf, isLess, rising};
 
 // Where a key's row is, or where it would go.
@@ -60,17 +60,45 @@ fn is_row_below(m: &[u8], p: usize, key: &[u8]) -> bool
     byte_order::is_below(&m[at..end], key)
 }
 
-// How many rows from place `from` on, up to place `end`, stand one behind the other with a key below the one given.
+// How far a search has come: so many rows have keys below the one looked for, and the first that hasn't stands at most so many rows on.
+pub struct Reach {
+    pub low: usize,
+    pub high: usize,
+}
+
+// The rows from place `from` on, up to place `end`, looked at in steps that double.
+fn reach_by_doubling(m: &[u8], from: usize, end: usize, key: &[u8]) -> Reach
+    requires { ⌜ (from ≤ end) × (end * 200 ≤ length (now m)) × (length (now key) ≡ 12) × KeysRise (now m) from end ⌝ }
+    ensures { λ r. ⌜ Between (now (m .entry)) from end (now (key .entry)) (r .low) (r .high) ⌝ }
+{
+    let n = end - from;
+    let mut low: usize = 0;
+    while low < n - low {
+        let next = low + low;
+        if !is_row_below(m, from + next, key) {
+            return Reach { low, high: next };
+        }
+        low = next + 1;
+    }
+    Reach { low, high: n }
+}
+
+// How many rows from place `from` on, up to place `end`, where keys rise, have a key below the one given: few are looked at, by steps that
+// double and then by halving.
 pub fn rows_below(m: &[u8], from: usize, end: usize, key: &[u8]) -> usize
-    requires { ⌜ (from ≤ end) × (end * 200 ≤ length (now m)) × (length (now key) ≡ 12) ⌝ }
+    requires { ⌜ (from ≤ end) × (end * 200 ≤ length (now m)) × (length (now key) ≡ 12) × KeysRise (now m) from end ⌝ }
     ensures { λ r. ⌜ AreBelow (now (m .entry)) from end (now (key .entry)) r ⌝ }
 {
-    let mut r: usize = 0;
-    while from + r < end {
-        if !is_row_below(m, from + r, key) {
-            return r;
+    let reached = reach_by_doubling(m, from, end, key);
+    let mut lo = reached.low;
+    let mut hi = reached.high;
+    while lo < hi {
+        let mid = lo + (hi - lo) / 2;
+        if is_row_below(m, from + mid, key) {
+            lo = mid + 1;
+        } else {
+            hi = mid;
         }
-        r += 1;
     }
-    r
+    lo
 }

@@ -15,6 +15,7 @@ ghost use mathlib.Core.Path.{_≡_};
 ghost use mathlib.Core.Bool.{true};
 ghost use Prim.Native.Nat.{_+_, _*_, _≤_, _<_};
 ghost use lib.ListN.{length};
+ghost use Rattle.casemaster.specs.Search.{KeysRise};
 ghost use Rattle.judging.specs.State.{rowIf};
 ghost use Rattle.onecase.specs.Machine.{rowOf};
 ghost use Rattle.keyorder.specs.Runs.{SortedFrom};
@@ -71,7 +72,7 @@ fn walk_key(
     wanted: bool,
 ) -> Cursor
     requires { ⌜ (s .position < own) × SortedFrom (now state) year (now list) (now batch) (now numbers) (s .position) own ⌝ }
-    requires { ⌜ (s .to ≤ s .from) × (s .from ≤ end) × (end * 200 ≤ length (now m)) ⌝ }
+    requires { ⌜ (s .to ≤ s .from) × (s .from ≤ end) × (end * 200 ≤ length (now m)) × KeysRise (now m) (s .from) end ⌝ }
     requires { ⌜ StaysBefore (fixedOf (now state) year (now list) (now batch) own end) (standOf s (now m) (now numbers)) ⌝ }
     requires { ⌜ KeyRoom (fixedOf (now state) year (now list) (now batch) own end) (standOf s (now m) (now numbers)) wanted (s .written) (now journal) ⌝ }
     ensures { λ r. ⌜ KeyJournaled (fixedOf (now (state .entry)) year (now (list .entry)) (now (batch .entry)) own end)

@@ -34,7 +34,9 @@ use Rattle.keywalk.proofs.StandLaws.{from-split, below-pass, none-back,
 use Rattle.keywalk.proofs.WalkLaws.{worked-low, worked-length, worked-final, worked-fit, worked-other, keyRow-key, length-own, run-stays}
 use Rattle.turns.specs.Under.{detailsUnder, runRow}
 use Rattle.turns.specs.Settings.{settingUnder}
+use Rattle.casemaster.specs.Search.{KeysRise}
 use Rattle.casemaster.proofs.RowsLaws.{Fit, rows-rise}
+use Rattle.casemaster.proofs.HalvingLaws.{keys-rise, rows-behind}
 use Rattle.text.specs.ByteOrder.{orderOf, isLess, rising}
 
 module _ (f : Fixed) (s₀ : Stand) (w : WalkReady f s₀) where
@@ -99,6 +101,12 @@ module _ (f : Fixed) (s₀ : Stand) (w : WalkReady f s₀) where
     pub untouched : (q : ℕ) → s .position ≤ q → q < f .own → rowWith (key q) (rowsAt s) ≡ rowWith (key q) rows₀
     pub below : (q : ℕ) → s .position ≤ q → q < f .own → AllBelow (key q) (rowsOf (s .to) (s .master))
     pub noted : (q : ℕ) → q < s .position → Packed (getD (s .numbers) q 0) (at q) (verdictAt f s₀ q)
+
+  -- the keys of the rows to come rise
+  pub walking-rises : (s : Stand) → Walking s → KeysRise (s .master) (s .from) (f .end)
+  walking-rises s g =
+      keys-rise (s .master) (s .from) (f .end - s .from) (f .end) (omega (arith, g .within))
+      (rows-behind (rowsOf (s .to) (s .master)) (rowsFrom (s .from) (f .end) (s .master)) (rows-rise (rowsAt s) (g .fit .sound)))
 
   pub walking-start : s₀ .position ≡ 0 → s₀ .to ≡ 0 → Walking s₀
   unfolding blocks

@@ -11,6 +11,7 @@ ghost use mathlib.Core.Bool.{true};
 ghost use Prim.Native.Nat.{_*_, _≤_, _<_};
 ghost use lib.ListN.{length};
 ghost use Rattle.casemaster.specs.Master.{rowsOf, areSoundRows};
+ghost use Rattle.casemaster.specs.Search.{KeysRise};
 ghost use Rattle.keywalk.specs.Walking.{isRowOf, AreThere, UnderOrder, fixedOf, newOwnKeys, KeyCounted};
 
 // How far the count of new rows has come: the position in the key order, the first row not yet passed, and the new rows so far.
@@ -38,7 +39,7 @@ pub fn is_row_of(m: &[u8], p: usize, end: usize, key: &[u8]) -> bool
 // records or rows are read.
 fn count_key(m: &[u8], n: usize, s: Count, batch: &[u8], numbers: &[u64], own: usize) -> Count
     requires { ⌜ (s .position < own) × AreThere (now batch) (now numbers) own ⌝ }
-    requires { ⌜ (s .from ≤ n) × (n * 200 ≤ length (now m)) × (s .new ≤ s .position) ⌝ }
+    requires { ⌜ (s .from ≤ n) × (n * 200 ≤ length (now m)) × (s .new ≤ s .position) × KeysRise (now m) (s .from) n ⌝ }
     ensures { λ r. ⌜ KeyCounted (now (batch .entry)) own n (now (m .entry)) (now (numbers .entry)) s r × (r .new ≤ r .position) ⌝ }
 {
     let p = s.position;

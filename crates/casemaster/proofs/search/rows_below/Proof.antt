@@ -1,29 +1,33 @@
--- `search::rows_below` meets its contract. The loop's invariant: the first r rows from place `from` on have keys below the one given.
+-- `search::rows_below` meets its contract. The loop's invariant: lo rows have keys below the one given, the row behind hi hasn't.
 -- Assumes nothing.
-use mathlib.Core.Bool.{true}
 use mathlib.Core.Logic.{inl, inr}
 use mathlib.Core.Path.{_≡_, sym, _∙_}
-use Prim.Native.Nat.{ℕ, _+_, _-_, _*_, _≤_, _<_}
-use native.Mathlib.Nat.{not-suc-le-zero}
+use Prim.Native.Nat.{ℕ, _+_, _-_, _/_}
 use native.Mathlib.Omega.{arith}
-use lib.ListN.{take, drop}
-use borrow.Author.Count.{below-more}
+use denote.Ref.{now}
+use borrow.Author.Needs.{needs}
 use borrow.Author.Tests.{not-true, not-false}
+use Rattle.casemaster.specs.Search.{Between}
 use Rattle.casemaster.proofs.search.rows_below.Statement.{statement}
 use Rattle.casemaster.proofs.search.rows_below.Tie as tie
-use Rattle.text.specs.ByteOrder.{orderOf, isLess}
 
 abbrev Inv-loop : tie.InvT-loop
-Inv-loop m from end key r₀ r = (from + r ≤ end) × ((j : ℕ) → j < r → isLess (orderOf (take 12 (drop ((from + j) * 200) m)) key) ≡ true)
+Inv-loop m from end key lo₀ hi₀ lo hi = Between m from end key lo hi
 
 abbrev μ-loop : tie.MeasureT-loop
-μ-loop m from end key r₀ r = end - (from + r)
+μ-loop m from end key lo₀ hi₀ lo hi = hi - lo
+
+reach-by-doubling-requires : tie.Need-reach-by-doubling-requires Inv-loop μ-loop
+reach-by-doubling-requires c κs = search needs
 
 loop-holds : tie.Need-loop-holds Inv-loop μ-loop
-loop-holds c = (omega arith, λ j h. absurd (not-suc-le-zero h))
+loop-holds c = search needs
 
-add-loop : tie.Need-add-loop Inv-loop μ-loop
-add-loop c = omega arith
+sub-mid : tie.Need-sub-mid Inv-loop μ-loop
+sub-mid c = omega arith
+
+add-mid : tie.Need-add-mid Inv-loop μ-loop
+add-mid c = omega arith
 
 add-is-row-below : tie.Need-add-is-row-below Inv-loop μ-loop
 add-is-row-below c = omega arith
@@ -31,30 +35,44 @@ add-is-row-below c = omega arith
 is-row-below-requires : tie.Need-is-row-below-requires Inv-loop μ-loop
 is-row-below-requires c κs = omega arith
 
-returns : tie.Need-returns Inv-loop μ-loop
-returns c =
-    let l = c .before .before .before .loop in
-    let b = c .before .is-row-below in
-    record { within = l .inv .0; below = l .inv .1; stops = inr (sym (b .ensures) ∙ not-true (b .result) (c .if1 .taken)) }
-
-add-r : tie.Need-add-r Inv-loop μ-loop
-add-r c = omega arith
+add-lo : tie.Need-add-lo Inv-loop μ-loop
+add-lo c = omega arith
 
 loop-less : tie.Need-loop-less Inv-loop μ-loop
 loop-less c = omega arith
 
 loop-again : tie.Need-loop-again Inv-loop μ-loop
 loop-again c =
+    let b = c .before .is-row-below in
     let l = c .before .before .before .loop in
-    let b = c .before .is-row-below in (
-      omega arith,
-      below-more _ (l .r) (l .inv .1) (sym (b .ensures) ∙ not-false (b .result) (c .if1 .left)),
-    )
+    let s = c .before .before .before .before .before .before .before in
+    let mid : ℕ = l .lo + (l .hi - l .lo) / 2 in
+    record {
+      order = omega arith;
+      within = l .inv .within;
+      below = λ j h. s .pre .3 (now (s .args .key)) j mid (omega arith) (omega (arith, l .inv .within)) (sym (b .ensures) ∙ c .if1 .taken);
+      stops = l .inv .stops;
+    }
 
-returns-2 : tie.Need-returns-2 Inv-loop μ-loop
-returns-2 c =
+loop-less-2 : tie.Need-loop-less-2 Inv-loop μ-loop
+loop-less-2 c = omega arith
+
+loop-again-2 : tie.Need-loop-again-2 Inv-loop μ-loop
+loop-again-2 c =
+    let b = c .before .is-row-below in
+    let l = c .before .before .before .loop in
+    record {
+      order = omega arith;
+      within = omega (arith, l .inv .within);
+      below = l .inv .below;
+      stops = inr (sym (b .ensures) ∙ c .if1 .left);
+    }
+
+returns : tie.Need-returns Inv-loop μ-loop
+returns c =
     let l = c .before .loop in
-    record { within = l .inv .0; below = l .inv .1; stops = inl (omega arith) }
+    let e : l .hi ≡ l .lo = omega (arith, l .inv .order) in
+    record { within = rw (← e) (l .inv .within); below = l .inv .below; stops = rw (← e) (l .inv .stops) }
 
 pub rows-below-spec : {M : Type 1} → statement M
 rows-below-spec =
@@ -62,12 +80,15 @@ rows-below-spec =
     (tie.spec
     Inv-loop
     μ-loop
+    reach-by-doubling-requires
     loop-holds
-    add-loop
+    sub-mid
+    add-mid
     add-is-row-below
     is-row-below-requires
-    returns
-    add-r
+    add-lo
     loop-less
     loop-again
-    returns-2)
+    loop-less-2
+    loop-again-2
+    returns)

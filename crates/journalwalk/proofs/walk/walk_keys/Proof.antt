@@ -4,7 +4,7 @@ use mathlib.Core.Path.{refl}
 use denote.Ref.{now}
 use Rattle.keywalk.specs.Walking.{WalkReady, fixedOf, startOf}
 use Rattle.journalwalk.specs.JournalWalk.{standOf}
-use Rattle.keywalk.proofs.WalkingLaws.{Walking, walking-start, walking-room, walking-sorted, walking-next}
+use Rattle.keywalk.proofs.WalkingLaws.{Walking, walking-start, walking-rises, walking-room, walking-sorted, walking-next}
 use Rattle.journalwalk.proofs.JournalingLaws.{Journaling, journaling-start, journaling-room, journaling-next, journaling-done}
 use native.Mathlib.Omega.{arith}
 use Prim.Native.Nat.{_-_}
@@ -40,7 +40,7 @@ walk-key-requires c κs =
     let s = startOf (a .from) (a .m .now) (a .numbers .now) in (
       (t, walking-sorted f s w _ g),
       (
-        (g .low, g .within, omega (arith, g .len, w .rows-in)),
+        (g .low, g .within, omega (arith, g .len, w .rows-in), walking-rises f s w _ g),
         (
           walking-room f s w _ g t,
           journaling-room f s (a .wanted) (a .journal .now) (a .at) w _ g _ _ n t,

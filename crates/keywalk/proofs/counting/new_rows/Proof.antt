@@ -9,6 +9,7 @@ use Rattle.layout.specs.Batch.{detailCount}
 use Rattle.text.specs.ByteOrder.{rising}
 use Rattle.casemaster.specs.Master.{rowsOf, keysOf}
 use Rattle.casemaster.proofs.RowsLaws.{rows-rise}
+use Rattle.casemaster.proofs.HalvingLaws.{rises-from}
 use Rattle.keywalk.specs.Walking.{OrderReady, fixedOf}
 use Rattle.keywalk.proofs.CountingLaws.{Counting, within-next, counting-start, counting-next, counting-done}
 use Rattle.keywalk.proofs.counting.new_rows.Statement.{statement}
@@ -30,9 +31,10 @@ loop-holds c =
 
 count-key-requires : tie.Need-count-key-requires Inv-loop μ-loop
 count-key-requires c κs =
+    let a = c .before .before .before .before .before .before .args in
     let h = c .before .before .before .before .before .before .pre in
     let i = c .before .before .loop .inv in
-    ((c .if1 .taken, h .2), (i .1, h .0, i .2))
+    ((c .if1 .taken, h .2), (i .1, h .0, i .2, rises-from (a .m .now) (a .n) (c .before .before .loop .s .from) (rows-rise _ (h .1))))
 
 loop-less : tie.Need-loop-less Inv-loop μ-loop
 loop-less c = let k = c .count-key .ensures .0 .ended in omega (arith, k .later, c .before .if1 .taken)
