@@ -46,7 +46,8 @@ same-length-6 c = search needs
 
 returns-2 : tie.Need-returns-2
 returns-2 c =
-    let r = c .before .before .before .before .before .before .before in
+    let at-before = c .before .before .before .before .before .before in
+    let r = at-before .before in
     let i = r .before .before .before .before .before in
     let f = i .before in
     let a = f .before .before .before .before .before .before .before .before .before .args in

@@ -22,7 +22,8 @@ use Rattle.batch.proofs.apply.run.Tie as tie
 
 sub-d : tie.Need-sub-d
 sub-d c =
-    let s = c .before .before .before .before .before .before in
+    let at-before = c .before .before .before .before .before in
+    let s = at-before .before in
     let a = s .args in
     let g = callOf (a .m .now) (a .n) (a .batch .now) (a .locals .now) (a .year) (a .verdicts .now) (a .rejects .now) in
     let k = known g (passed g (s .pre .0)) in
@@ -30,7 +31,8 @@ sub-d c =
 
 record-at-requires : tie.Need-record-at-requires
 record-at-requires c κs =
-    let s = c .before .before .before .before .before .before in
+    let at-before = c .before .before .before .before .before in
+    let s = at-before .before in
     let a = s .args in
     let g = callOf (a .m .now) (a .n) (a .batch .now) (a .locals .now) (a .year) (a .verdicts .now) (a .rejects .now) in
     let k = known g (passed g (s .pre .0)) in
@@ -53,7 +55,8 @@ work-requires c κs =
 finish-requires : tie.Need-finish-requires
 unfolding controlOf
 finish-requires c κs =
-    let w = c .before .before .before .before .before .before .before .before .before .before in
+    let at-before = c .before .before .before .before .before .before .before .before .before in
+    let w = at-before .before in
     let f = w .before .before .before .before .before in
     let r = f .before .before in
     let s = r .before .before .before .before .before .before .before in

@@ -52,9 +52,12 @@ loop-less c = search needs
 
 loop-again : tie.Need-loop-again Inv-loop μ-loop
 loop-again c =
-    let s = c .before .before .before .before .before .before in
-    let l = c .before .before .before .loop in
-    let e = lacking-next (s .args .n) (now (s .args .file)) (l .i) (now (s .args .held)) (c .before .before .loop-test .taken) in
+    let at-loop-test = c .before .before in
+    let at-loop = at-loop-test .before in
+    let at-before = at-loop .before .before in
+    let s = at-before .before in
+    let l = at-loop .loop in
+    let e = lacking-next (s .args .n) (now (s .args .file)) (l .i) (now (s .args .held)) (at-loop-test .loop-test .taken) in
     (search needs, omega (arith, c .lacks .ensures .1), omega (arith, e, c .lacks .ensures .0, l .inv .2))
 
 returns : tie.Need-returns Inv-loop μ-loop

@@ -12,13 +12,19 @@ key-number-requires : tie.Need-key-number-requires
 key-number-requires c κs = (c .before .before .before .before .pre .0, sym (c .before .is-contact-key .ensures) ∙ c .if1 .taken)
 
 shared-slice-read-h : tie.Need-shared-slice-read-h
-shared-slice-read-h c = omega (arith, c .before .key-number .ensures .1, c .before .before .before .before .before .before .pre .1)
+shared-slice-read-h c =
+    let start = c .before .before .before .before .before .before in
+    omega (arith, c .before .key-number .ensures .1, start .pre .1)
 
 cast-h : tie.Need-cast-h
-cast-h c = omega (arith, c .before .before .before .before .before .before .pre .2 (c .before .key-number .result))
+cast-h c =
+    let start = c .before .before .before .before .before .before in
+    omega (arith, start .pre .2 (c .before .key-number .result))
 
 sub-result : tie.Need-sub-result
-sub-result c = omega (arith, c .before .before .before .before .before .before .pre .2 (c .before .key-number .result))
+sub-result c =
+    let start = c .before .before .before .before .before .before in
+    omega (arith, start .pre .2 (c .before .key-number .result))
 
 returns : tie.Need-returns
 returns c =

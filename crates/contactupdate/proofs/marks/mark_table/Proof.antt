@@ -57,12 +57,15 @@ loop-less c = search needs
 
 loop-again : tie.Need-loop-again Inv-loop μ-loop
 loop-again c =
-    let s = c .before .before .before .before .before .before in
-    let l = c .before .before .before .loop in
+    let at-loop-test = c .before .before in
+    let at-loop = at-loop-test .before in
+    let at-before = at-loop .before .before in
+    let s = at-before .before in
+    let l = at-loop .loop in
     let k = c .key-number in (
       search needs,
       length-set (l .held) (k .result) 1 ∙ l .inv .1,
-      (rw (k .ensures .0) (sym (marked-next (s .args .count) (now (s .args .table)) (l .i) (l .held) (c .before .before .loop-test .taken)))) ∙ l .inv .2,
+      (rw (k .ensures .0) (sym (marked-next (s .args .count) (now (s .args .table)) (l .i) (l .held) (at-loop-test .loop-test .taken)))) ∙ l .inv .2,
     )
 
 same-length : tie.Need-same-length Inv-loop μ-loop

@@ -30,10 +30,15 @@ mul-present : tie.Need-mul-present Inv-loop μ-loop
 mul-present c = search needs
 
 shared-slice-read-present-2 : tie.Need-shared-slice-read-present-2 Inv-loop μ-loop
-shared-slice-read-present-2 c = omega (arith, c .before .before .before .before .before .before .pre .0)
+shared-slice-read-present-2 c =
+    let start = c .before .before .before .before .before .before in
+    omega (arith, start .pre .0)
 
 present-requires : tie.Need-present-requires Inv-loop μ-loop
-present-requires c κs = c .before .before .before .before .before .before .pre .1 (c .before .before .before .loop .k)
+present-requires c κs =
+    let at-loop = c .before .before .before in
+    let start = at-loop .before .before .before in
+    start .pre .1 (at-loop .loop .k)
 
 add-n : tie.Need-add-n Inv-loop μ-loop
 add-n c = omega (arith, c .present .ensures .1)
@@ -46,9 +51,12 @@ loop-less c = search needs
 
 loop-again : tie.Need-loop-again Inv-loop μ-loop
 loop-again c =
-    let a = c .before .before .before .before .before .before .before .args in
-    let l = c .before .before .before .before .loop in
-    let e = present-next (now (a .held)) (now (a .lasts)) (length (now (a .held))) (l .k) (c .before .before .before .loop-test .taken) in
+    let at-loop-test = c .before .before .before in
+    let at-loop = at-loop-test .before in
+    let start = at-loop .before .before .before in
+    let a = start .args in
+    let l = at-loop .loop in
+    let e = present-next (now (a .held)) (now (a .lasts)) (length (now (a .held))) (l .k) (at-loop-test .loop-test .taken) in
     (search needs, omega (arith, c .present .ensures .1), rw (c .present .ensures .0) (omega (arith, e, l .inv .2)))
 
 returns : tie.Need-returns Inv-loop μ-loop

@@ -27,52 +27,74 @@ sub-k : tie.Need-sub-k Inv-loop μ-loop
 sub-k c = search needs
 
 shared-slice-read-h : tie.Need-shared-slice-read-h Inv-loop μ-loop
-shared-slice-read-h c = omega (arith, c .before .before .before .before .before .before .before .pre .held-wide, c .before .before .loop .inv .0, c .before .loop-test .taken)
+shared-slice-read-h c =
+    let at-loop = c .before .before in
+    let start = at-loop .before .before .before .before .before in
+    omega (arith, start .pre .held-wide, at-loop .loop .inv .0, c .before .loop-test .taken)
 
 mul-l : tie.Need-mul-l Inv-loop μ-loop
 mul-l c = search needs
 
 shared-slice-read-l : tie.Need-shared-slice-read-l Inv-loop μ-loop
-shared-slice-read-l c = omega (arith, c .before .before .before .before .before .before .before .before .pre .lasts-wide, c .before .before .before .loop .inv .0, c .before .before .loop-test .taken)
+shared-slice-read-l c =
+    let at-loop-test = c .before .before in
+    let at-loop = at-loop-test .before in
+    let start = at-loop .before .before .before .before .before in
+    omega (arith, start .pre .lasts-wide, at-loop .loop .inv .0, at-loop-test .loop-test .taken)
 
 cast-o : tie.Need-cast-o Inv-loop μ-loop
 cast-o c =
-    let s = c .before .before .before .before .before .before .before .before in
+    let at-loop-test = c .before .before in
+    let at-loop = at-loop-test .before in
+    let at-before = at-loop .before .before .before .before in
+    let s = at-before .before in
     let a = s .args in
-    let l = c .before .before .before .loop in
-    let t = c .before .before .loop-test .taken in
+    let l = at-loop .loop in
+    let t = at-loop-test .loop-test .taken in
     omega (arith, turn-small (now (a .table)) (a .count) (a .total) (now (a .file)) (now (a .held)) (now (a .lasts)) (s .pre) (l .k) (l .k - 1) (l .o) (l .p) (l .table) (omega arith) (l .inv .0) (l .inv .1))
 
 sub-o : tie.Need-sub-o Inv-loop μ-loop
 sub-o c =
-    let s = c .before .before .before .before .before .before .before .before in
+    let at-loop-test = c .before .before in
+    let at-loop = at-loop-test .before in
+    let at-before = at-loop .before .before .before .before in
+    let s = at-before .before in
     let a = s .args in
-    let l = c .before .before .before .loop in
-    let t = c .before .before .loop-test .taken in
+    let l = at-loop .loop in
+    let t = at-loop-test .loop-test .taken in
     turn-old (now (a .table)) (a .count) (a .total) (now (a .file)) (now (a .held)) (now (a .lasts)) (s .pre) (l .k) (l .k - 1) (l .o) (l .p) (l .table) (omega arith) (l .inv .0) (l .inv .1)
 
 present-requires : tie.Need-present-requires Inv-loop μ-loop
 present-requires c κs =
-    let s = c .before .before .before .before .before .before .before .before in
+    let at-loop-test = c .before .before in
+    let at-loop = at-loop-test .before in
+    let at-before = at-loop .before .before .before .before in
+    let s = at-before .before in
     let a = s .args in
-    let l = c .before .before .before .loop in
-    let t = c .before .before .loop-test .taken in
+    let l = at-loop .loop in
+    let t = at-loop-test .loop-test .taken in
     turn-small (now (a .table)) (a .count) (a .total) (now (a .file)) (now (a .held)) (now (a .lasts)) (s .pre) (l .k) (l .k - 1) (l .o) (l .p) (l .table) (omega arith) (l .inv .0) (l .inv .1)
 
 sub-p : tie.Need-sub-p Inv-loop μ-loop
 sub-p c =
-    let s = c .before .before .before .before .before .before .before .before .before in
+    let at-loop-test = c .before .before .before in
+    let at-loop = at-loop-test .before in
+    let at-before = at-loop .before .before .before .before in
+    let s = at-before .before in
     let a = s .args in
-    let l = c .before .before .before .before .loop in
-    let t = c .before .before .before .loop-test .taken in
+    let l = at-loop .loop in
+    let t = at-loop-test .loop-test .taken in
     rw (c .present .ensures .0) (turn-new (now (a .table)) (a .count) (a .total) (now (a .file)) (now (a .held)) (now (a .lasts)) (s .pre) (l .k) (l .k - 1) (l .o) (l .p) (l .table) (omega arith) (l .inv .0) (l .inv .1))
 
 place-record-requires : tie.Need-place-record-requires Inv-loop μ-loop
 place-record-requires c κs =
-    let s = c .before .before .before .before .before .before .before .before .before .before in
+    let at-loop-test = c .before .before .before .before in
+    let at-loop = at-loop-test .before in
+    let at-before = at-loop .before .before .before .before in
+    let s = at-before .before in
     let a = s .args in
-    let l = c .before .before .before .before .before .loop in
-    let t = c .before .before .before .before .loop-test .taken in
+    let l = at-loop .loop in
+    let t = at-loop-test .loop-test .taken in
     let e : l .k ≡ suc (l .k - 1) = omega arith in
     let h = turn-small (now (a .table)) (a .count) (a .total) (now (a .file)) (now (a .held)) (now (a .lasts)) (s .pre) (l .k) (l .k - 1) (l .o) (l .p) (l .table) e (l .inv .0) (l .inv .1) in
     let f = turn-file (now (a .table)) (a .count) (a .total) (now (a .file)) (now (a .held)) (now (a .lasts)) (s .pre) (l .k) (l .k - 1) (l .o) (l .p) (l .table) e (l .inv .0) (l .inv .1) in
@@ -82,17 +104,24 @@ place-record-requires c κs =
     (h, f, omega (arith, o, w), rw (c .before .present .ensures .0) (omega (arith, p, l .inv .1 .room)))
 
 loop-less : tie.Need-loop-less Inv-loop μ-loop
-loop-less c = omega (arith, c .before .before .before .before .before .before .before .loop-test .taken)
+loop-less c =
+    let at-loop-test = c .before .before .before .before .before .before .before in
+    omega (arith, at-loop-test .loop-test .taken)
 
 loop-again : tie.Need-loop-again Inv-loop μ-loop
 loop-again c =
-    let s = c .before .before .before .before .before .before .before .before .before .before .before .before .before in
+    let at-place-record = c .before .before in
+    let at-present = at-place-record .before .before in
+    let at-loop-test = at-present .before .before .before in
+    let at-loop = at-loop-test .before in
+    let at-before = at-loop .before .before .before .before in
+    let s = at-before .before in
     let a = s .args in
-    let l = c .before .before .before .before .before .before .before .before .loop in
-    let t = c .before .before .before .before .before .before .before .loop-test .taken in
+    let l = at-loop .loop in
+    let t = at-loop-test .loop-test .taken in
     let e : l .k ≡ suc (l .k - 1) = omega arith in (
       omega (arith, l .inv .0),
-      rw (c .before .before .place-record .ensures, c .before .before .before .before .present .ensures .0) (turn-next (now (a .table)) (a .count) (a .total) (now (a .file)) (now (a .held)) (now (a .lasts)) (s .pre) (l .k) (l .k - 1) (l .o) (l .p) (l .table) e (l .inv .0) (l .inv .1)),
+      rw (at-place-record .place-record .ensures, at-present .present .ensures .0) (turn-next (now (a .table)) (a .count) (a .total) (now (a .file)) (now (a .held)) (now (a .lasts)) (s .pre) (l .k) (l .k - 1) (l .o) (l .p) (l .table) e (l .inv .0) (l .inv .1)),
     )
 
 same-length : tie.Need-same-length Inv-loop μ-loop
@@ -100,7 +129,8 @@ same-length c = c .before .loop .inv .1 .wide
 
 returns : tie.Need-returns Inv-loop μ-loop
 returns c =
-    let s = c .before .before .before .before .before .before in
+    let at-before = c .before .before .before .before .before in
+    let s = at-before .before in
     let a = s .args in
     let l = c .before .loop in
     let z : l .k ≡ 0 = omega (arith, c .loop-test .left) in

@@ -26,20 +26,28 @@ slice-aggregate-copy-in c = search needs
 
 copy-in-requires : tie.Need-copy-in-requires
 copy-in-requires c κs =
-    let s = c .before .before .before .before .before .before in
-    omega (arith, s .pre .3, present-one (s .args .held) (s .args .last) (c .before .before .before .if1 .taken))
+    let at-if1 = c .before .before .before in
+    let at-before = at-if1 .before .before in
+    let s = at-before .before in
+    omega (arith, s .pre .3, present-one (s .args .held) (s .args .last) (at-if1 .if1 .taken))
 
 same-length : tie.Need-same-length
 same-length c = search needs
 
 returns : tie.Need-returns
 returns c =
-    let s = c .before .before .before .before .before .before .before .before .before in
+    let at-copy-in = c .before .before in
+    let at-contact-at = at-copy-in .before .before .before in
+    let at-if1 = at-contact-at .before in
+    let at-before = at-if1 .before .before in
+    let s = at-before .before in
     let a = s .args in
-    c .before .before .copy-in .ensures ∙ (rw (chosen-file (now (a .file)) (now (a .table)) (a .held) (a .last) (a .o) (c .before .before .before .before .before .before .if1 .taken), c .before .before .before .before .before .contact-at .ensures))
+    at-copy-in .copy-in .ensures ∙ (rw (chosen-file (now (a .file)) (now (a .table)) (a .held) (a .last) (a .o) (at-if1 .if1 .taken), at-contact-at .contact-at .ensures))
 
 contact-at-requires-2 : tie.Need-contact-at-requires-2
-contact-at-requires-2 c κs = omega (arith, c .before .before .before .before .before .pre .2)
+contact-at-requires-2 c κs =
+    let start = c .before .before .before .before .before in
+    omega (arith, start .pre .2)
 
 mul-copy-in-2 : tie.Need-mul-copy-in-2
 mul-copy-in-2 c = search needs
@@ -49,17 +57,24 @@ slice-aggregate-copy-in-2 c = search needs
 
 copy-in-requires-2 : tie.Need-copy-in-requires-2
 copy-in-requires-2 c κs =
-    let s = c .before .before .before .before .before .before .before .before in
-    omega (arith, s .pre .3, present-held (s .args .held) (s .args .last) (c .before .before .before .before .before .if1 .left))
+    let at-if1 = c .before .before .before .before .before in
+    let at-before = at-if1 .before .before in
+    let s = at-before .before in
+    omega (arith, s .pre .3, present-held (s .args .held) (s .args .last) (at-if1 .if1 .left))
 
 same-length-2 : tie.Need-same-length-2
 same-length-2 c = search needs
 
 returns-2 : tie.Need-returns-2
 returns-2 c =
-    let s = c .before .before .before .before .before .before .before .before .before .before .before in
+    let at-copy-in2 = c .before .before in
+    let at-contact-at2 = at-copy-in2 .before .before .before in
+    let at-if2 = at-contact-at2 .before .before in
+    let at-if1 = at-if2 .before in
+    let at-before = at-if1 .before .before in
+    let s = at-before .before in
     let a = s .args in
-    c .before .before .copy-in2 .ensures ∙ (rw (chosen-table (now (a .file)) (now (a .table)) (a .held) (a .last) (a .o) (c .before .before .before .before .before .before .before .before .if1 .left) (c .before .before .before .before .before .before .before .if2 .taken), c .before .before .before .before .before .contact-at2 .ensures))
+    at-copy-in2 .copy-in2 .ensures ∙ (rw (chosen-table (now (a .file)) (now (a .table)) (a .held) (a .last) (a .o) (at-if1 .if1 .left) (at-if2 .if2 .taken), at-contact-at2 .contact-at2 .ensures))
 
 returns-3 : tie.Need-returns-3
 returns-3 c =

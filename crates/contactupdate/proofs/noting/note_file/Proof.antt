@@ -35,7 +35,9 @@ add-number : tie.Need-add-number Inv-loop μ-loop
 add-number c = search needs
 
 cast-number : tie.Need-cast-number Inv-loop μ-loop
-cast-number c = omega (arith, list-number, c .before .before .before .before .before .pre .1, c .loop-test .taken)
+cast-number c =
+    let start = c .before .before .before .before .before in
+    omega (arith, list-number, start .pre .1, c .loop-test .taken)
 
 sub-note-record : tie.Need-sub-note-record Inv-loop μ-loop
 sub-note-record c = search needs
@@ -48,11 +50,14 @@ part-note-record-end c = search needs
 
 note-record-requires : tie.Need-note-record-requires Inv-loop μ-loop
 note-record-requires c κs =
-    let s = c .before .before .before .before .before .before .before .before in
-    let l = c .before .before .before .before .loop in (
-      length-contact (s .args .n) (now (s .args .file)) (l .i) (c .before .before .before .loop-test .taken) (s .pre .0),
+    let at-loop-test = c .before .before .before in
+    let at-loop = at-loop-test .before in
+    let at-before = at-loop .before .before .before in
+    let s = at-before .before in
+    let l = at-loop .loop in (
+      length-contact (s .args .n) (now (s .args .file)) (l .i) (at-loop-test .loop-test .taken) (s .pre .0),
       l .inv .2,
-      omega (arith, l .inv .1, l .inv .3, s .pre .3, c .before .before .before .loop-test .taken),
+      omega (arith, l .inv .1, l .inv .3, s .pre .3, at-loop-test .loop-test .taken),
     )
 
 add-i : tie.Need-add-i Inv-loop μ-loop
@@ -63,14 +68,18 @@ loop-less c = search needs
 
 loop-again : tie.Need-loop-again Inv-loop μ-loop
 loop-again c =
-    let s = c .before .before .before .before .before .before .before .before .before .before .before .before .before in
+    let at-note-record = c .before .before .before .before in
+    let at-loop-test = at-note-record .before .before .before .before in
+    let at-loop = at-loop-test .before in
+    let at-before = at-loop .before .before .before in
+    let s = at-before .before in
     let a = s .args in
-    let l = c .before .before .before .before .before .before .before .before .before .loop in
-    let t = c .before .before .before .before .before .before .before .before .loop-test .taken in
-    let e = c .before .before .before .before .note-record .ensures in
-    let f = c .before .before .before .before .note-record .kept in (
+    let l = at-loop .loop in
+    let t = at-loop-test .loop-test .taken in
+    let e = at-note-record .note-record .ensures in
+    let f = at-note-record .note-record .kept in (
       search needs,
-      listed-within (isFaulty (contactAt (now (a .file)) (l .i))) (l .listed) (l .i) (c .before .before .before .before .note-record .result) (e .0) (l .inv .1),
+      listed-within (isFaulty (contactAt (now (a .file)) (l .i))) (l .listed) (l .i) (at-note-record .note-record .result) (e .0) (l .inv .1),
       f .1 .1 .0 ∙ l .inv .2,
       f .1 .1 .1 .0 ∙ l .inv .3,
       (rw (e .1) (sym (lasts-next (a .n) (now (a .file)) (l .i) t (l .lasts)))) ∙ l .inv .4,
@@ -78,7 +87,9 @@ loop-again c =
     )
 
 same-length : tie.Need-same-length Inv-loop μ-loop
-same-length c = c .before .loop .inv .2 ∙ sym (c .before .before .before .before .before .pre .2)
+same-length c =
+    let start = c .before .before .before .before .before in
+    c .before .loop .inv .2 ∙ sym (start .pre .2)
 
 same-length-2 : tie.Need-same-length-2 Inv-loop μ-loop
 same-length-2 c = c .before .loop .inv .3

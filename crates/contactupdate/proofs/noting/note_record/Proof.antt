@@ -25,13 +25,16 @@ returns c =
 
 key-number-requires : tie.Need-key-number-requires
 key-number-requires c κs =
-    (c .before .before .before .before .before .pre .0, good-key (now (c .before .before .before .before .before .args .rec)) (sym (c .before .is-faulty .ensures) ∙ c .if1 .left))
+    let start = c .before .before .before .before .before in
+    (start .pre .0, good-key (now (start .args .rec)) (sym (c .before .is-faulty .ensures) ∙ c .if1 .left))
 
 mul-lasts : tie.Need-mul-lasts
 mul-lasts c = search needs
 
 slice-write-lasts : tie.Need-slice-write-lasts
-slice-write-lasts c = omega (arith, c .key-number .ensures .1, c .before .before .before .before .before .before .pre .1)
+slice-write-lasts c =
+    let start = c .before .before .before .before .before .before in
+    omega (arith, c .key-number .ensures .1, start .pre .1)
 
 same-length-2 : tie.Need-same-length-2
 same-length-2 c = search needs

@@ -22,18 +22,23 @@ slice-aggregate-count-present c = search needs
 
 count-present-requires : tie.Need-count-present-requires
 count-present-requires c κs =
-    let s = c .before .before .before .before .before .before .before .before .before .before .before in
+    let at-note-file = c .before .before .before .before in
+    let at-before = at-note-file .before .before .before .before .before .before in
+    let s = at-before .before in
     let a = s .args in
-    (s .pre .marks .wide ∙ sym (c .before .before .before .before .note-file .kept .1 .1 .0), flag-small (contactsOf (a .count) (now (a .table))) (now (a .held)) (s .pre .marks))
+    (s .pre .marks .wide ∙ sym (at-note-file .note-file .kept .1 .1 .0), flag-small (contactsOf (a .count) (now (a .table))) (now (a .held)) (s .pre .marks))
 
 slice-aggregate-merge : tie.Need-slice-aggregate-merge
 slice-aggregate-merge c = search needs
 
 merge-requires : tie.Need-merge-requires
 merge-requires c κs =
-    let s = c .before .before .before .before .before .before .before .before .before .before .before .before .before .before in
+    let at-count-present = c .before .before in
+    let at-note-file = at-count-present .before .before .before .before .before in
+    let at-before = at-note-file .before .before .before .before .before .before in
+    let s = at-before .before in
     let a = s .args in
-    ready (now (a .table)) (a .count) (now (a .file)) (now (a .held)) (replicate {A = ℕ} 54000 0) (s .pre .table-right) (s .pre .marks) (length-replicate {A = ℕ} 54000 0) (zeros-get 54000) (s .pre .space) (c .before .before .count-present .result) (c .before .before .before .before .before .before .before .note-file .last .1 .1 .0) (c .before .before .before .before .before .before .before .note-file .ensures .1) (c .before .before .count-present .ensures)
+    ready (now (a .table)) (a .count) (now (a .file)) (now (a .held)) (replicate {A = ℕ} 54000 0) (s .pre .table-right) (s .pre .marks) (length-replicate {A = ℕ} 54000 0) (zeros-get 54000) (s .pre .space) (at-count-present .count-present .result) (at-note-file .note-file .last .1 .1 .0) (at-note-file .note-file .ensures .1) (at-count-present .count-present .ensures)
 
 same-length : tie.Need-same-length
 same-length c = search needs
@@ -43,12 +48,16 @@ same-length-2 c = search needs
 
 returns : tie.Need-returns
 returns c =
-    let s = c .before .before .before .before .before .before .before .before .before .before .before .before .before .before .before .before .before in
+    let at-merge = c .before .before in
+    let at-count-present = at-merge .before .before .before in
+    let at-note-file = at-count-present .before .before .before .before .before in
+    let at-before = at-note-file .before .before .before .before .before .before in
+    let s = at-before .before in
     let a = s .args in
-    let n = new-count (now (a .table)) (a .count) (now (a .file)) (now (a .held)) (replicate {A = ℕ} 54000 0) (s .pre .table-right) (s .pre .marks) (length-replicate {A = ℕ} 54000 0) (zeros-get 54000) (s .pre .space) (c .before .before .before .before .before .count-present .result) (c .before .before .before .before .before .before .before .before .before .before .note-file .last .1 .1 .0) (c .before .before .before .before .before .before .before .before .before .before .note-file .ensures .1) (c .before .before .before .before .before .count-present .ensures) in
-    let f = c .before .before .before .before .before .before .before .before .before .before .note-file .ensures in (
+    let n = new-count (now (a .table)) (a .count) (now (a .file)) (now (a .held)) (replicate {A = ℕ} 54000 0) (s .pre .table-right) (s .pre .marks) (length-replicate {A = ℕ} 54000 0) (zeros-get 54000) (s .pre .space) (at-count-present .count-present .result) (at-note-file .note-file .last .1 .1 .0) (at-note-file .note-file .ensures .1) (at-count-present .count-present .ensures) in
+    let f = at-note-file .note-file .ensures in (
       (rw (n, f .0)),
-      new-table (now (a .table)) (a .count) (now (a .file)) (now (a .held)) (replicate {A = ℕ} 54000 0) (s .pre .table-right) (s .pre .marks) (length-replicate {A = ℕ} 54000 0) (zeros-get 54000) (s .pre .space) (c .before .before .before .before .before .count-present .result) (c .before .before .before .before .before .before .before .before .before .before .note-file .last .1 .1 .0) (c .before .before .before .before .before .before .before .before .before .before .note-file .ensures .1) (c .before .before .before .before .before .count-present .ensures) (c .before .before .merge .last .0) (c .before .before .merge .ensures),
+      new-table (now (a .table)) (a .count) (now (a .file)) (now (a .held)) (replicate {A = ℕ} 54000 0) (s .pre .table-right) (s .pre .marks) (length-replicate {A = ℕ} 54000 0) (zeros-get 54000) (s .pre .space) (at-count-present .count-present .result) (at-note-file .note-file .last .1 .1 .0) (at-note-file .note-file .ensures .1) (at-count-present .count-present .ensures) (at-merge .merge .last .0) (at-merge .merge .ensures),
       f .2,
     )
 

@@ -28,7 +28,8 @@ index-part-requires c κs = search needs
 
 key-at-requires : tie.Need-key-at-requires
 key-at-requires c κs =
-    let h = c .before .before .before .before .before .before .before .before .before .before .pre .0 in
+    let start = c .before .before .before .before .before .before .before .before .before .before in
+    let h = start .pre .0 in
     let i = c .index-part .ensures .0 in
     omega (arith, i, h .1 .there _ (omega arith) (h .0))
 
@@ -52,44 +53,72 @@ is-row-of-requires c κs = search needs
 
 case-at-requires : tie.Need-case-at-requires
 case-at-requires c κs =
-    row-there _ _ _ _ _ (c .before .is-row-of .ensures) (omega (arith, c .before .before .before .before .before .before .before .before .before .before .before .before .before .before .before .before .before .before .before .before .before .before .pre .1 .0 .2, c .before .before .before .before .before .before .pull-rows .ensures .same-length))
+    let at-pull-rows = c .before .before .before .before .before .before in
+    let start = at-pull-rows .before .before .before .before .before .before .before .before .before .before .before .before .before .before .before .before in
+    row-there _ _ _ _ _ (c .before .is-row-of .ensures) (omega (arith, start .pre .1 .0 .2, at-pull-rows .pull-rows .ensures .same-length))
 
 work-key-requires : tie.Need-work-key-requires
 work-key-requires c κs =
-    let a = c .before .before .before .before .before .before .before .before .before .before .before .before .before .before .before .before .before .before .before .before .before .before .before .before .args in
-    key-ready (a .state .now) (a .year) (a .list .now) (a .batch .now) (a .numbers .now) (a .s .position) (a .own) (c .before .before .before .before .before .before .before .before .before .before .before .before .before .before .before .before .run-at .result) (c .before .before .before .before .before .before .before .before .before .before .before .before .before .before .before .before .before .before .before .before .before .before .before .before .pre .0 .1) (c .before .before .before .before .before .before .before .before .before .before .before .before .before .before .before .before .run-at .ensures)
+    let at-run-at = c .before .before .before .before .before .before .before .before .before .before .before .before .before .before .before .before in
+    let start = at-run-at .before .before .before .before .before .before .before .before in
+    let a = start .args in
+    key-ready (a .state .now) (a .year) (a .list .now) (a .batch .now) (a .numbers .now) (a .s .position) (a .own) (at-run-at .run-at .result) (start .pre .0 .1) (at-run-at .run-at .ensures)
 
 add-put-key-entry : tie.Need-add-put-key-entry
 add-put-key-entry c =
-    let h = c .before .before .before .before .before .before .before .before .before .before .before .before .before .before .before .before .before .before .before .before .before .before .before .before .before .before .before .before .pre .1 .0 in
-    omega (arith, h .0, c .before .before .before .before .before .before .before .before .before .before .before .before .before .before .rows-below .ensures .within, h .2, c .before .before .before .before .before .before .before .before .before .before .before .before .before .before .before .before .before .before .before .before .before .before .before .before .before .before .before .before .good .0)
+    let at-rows-below = c .before .before .before .before .before .before .before .before .before .before .before .before .before .before in
+    let start = at-rows-below .before .before .before .before .before .before .before .before .before .before .before .before .before .before in
+    let h = start .pre .1 .0 in
+    omega (arith, h .0, at-rows-below .rows-below .ensures .within, h .2, start .good .0)
 
 put-key-entry-requires : tie.Need-put-key-entry-requires
 put-key-entry-requires c κs =
-    let a = c .before .before .before .before .before .before .before .before .before .before .before .before .before .before .before .before .before .before .before .before .before .before .before .before .before .before .before .before .args in
+    let at-work-key = c .before .before .before in
+    let at-case-at = at-work-key .before .before in
+    let at-is-row-of = at-case-at .before .before in
+    let at-pull-rows = at-is-row-of .before .before .before .before .before in
+    let at-rows-below = at-pull-rows .before .before in
+    let at-key-at = at-rows-below .before .before .before in
+    let at-index-part = at-key-at .before in
+    let at-run-at = at-index-part .before .before in
+    let start = at-run-at .before .before .before .before .before .before .before .before in
+    let a = start .args in
     entry-room (fixedOf (a .state .now) (a .year) (a .list .now) (a .batch .now) (a .own) (a .end)) (standOf (a .s) (a .m .now) (a .numbers .now))
-    (c .before .before .before .before .before .before .before .before .before .before .before .before .before .before .before .before .before .before .before .before .before .before .before .before .before .before .before .before .pre .1 .1 .0) _ _ _ _ (c .before .before .before .before .before .before .before .before .before .before .before .before .before .before .before .before .before .before .before .before .run-at .ensures .run) (c .before .before .before .before .before .before .before .before .before .before .before .before .before .before .before .before .before .key-at .ensures ∙ ap (λ (i : ℕ). recordKey (recordAt (a .batch .now) i)) (c .before .before .before .before .before .before .before .before .before .before .before .before .before .before .before .before .before .before .index-part .ensures .0)) (c .before .before .before .before .before .before .before .before .before .before .before .before .before .before .rows-below .ensures) (c .before .before .before .before .before .before .before .before .before .before .before .before .pull-rows .ensures) _
-    (c .before .before .before .before .before .before .before .is-row-of .ensures) _ _ (c .before .before .before .before .before .case-at .ensures) _ (c .before .before .before .work-key .ensures) (a .wanted) (a .s .written) (a .journal .now) (c .before .before .before .before .before .before .before .before .before .before .before .before .before .before .before .before .before .before .before .before .before .before .before .before .before .before .before .before .pre .1 .1 .1)
+    (start .pre .1 .1 .0) _ _ _ _ (at-run-at .run-at .ensures .run) (at-key-at .key-at .ensures ∙ ap (λ (i : ℕ). recordKey (recordAt (a .batch .now) i)) (at-index-part .index-part .ensures .0)) (at-rows-below .rows-below .ensures) (at-pull-rows .pull-rows .ensures) _
+    (at-is-row-of .is-row-of .ensures) _ _ (at-case-at .case-at .ensures) _ (at-work-key .work-key .ensures) (a .wanted) (a .s .written) (a .journal .now) (start .pre .1 .1 .1)
 
 add-put-row-of : tie.Need-add-put-row-of
 add-put-row-of c =
-    let h = c .before .before .before .before .before .before .before .before .before .before .before .before .before .before .before .before .before .before .before .before .before .before .before .before .before .before .before .before .before .before .before .before .pre .1 .0 in
-    omega (arith, h .0, c .before .before .before .before .before .before .before .before .before .before .before .before .before .before .before .before .before .before .rows-below .ensures .within, h .2, c .before .before .before .before .before .before .before .before .before .before .before .before .before .before .before .before .before .before .before .before .before .before .before .before .before .before .before .before .before .before .before .before .good .0)
+    let at-rows-below = c .before .before .before .before .before .before .before .before .before .before .before .before .before .before .before .before .before .before in
+    let start = at-rows-below .before .before .before .before .before .before .before .before .before .before .before .before .before .before in
+    let h = start .pre .1 .0 in
+    omega (arith, h .0, at-rows-below .rows-below .ensures .within, h .2, start .good .0)
 
 put-row-of-requires : tie.Need-put-row-of-requires
 put-row-of-requires c κs =
-    let a = c .before .before .before .before .before .before .before .before .before .before .before .before .before .before .before .before .before .before .before .before .before .before .before .before .before .before .before .before .before .before .before .before .args in
+    let at-work-key = c .before .before .before .before .before .before .before in
+    let at-case-at = at-work-key .before .before in
+    let at-is-row-of = at-case-at .before .before in
+    let at-pull-rows = at-is-row-of .before .before .before .before .before in
+    let at-rows-below = at-pull-rows .before .before in
+    let at-key-at = at-rows-below .before .before .before in
+    let at-index-part = at-key-at .before in
+    let at-run-at = at-index-part .before .before in
+    let start = at-run-at .before .before .before .before .before .before .before .before in
+    let a = start .args in
     put-room (fixedOf (a .state .now) (a .year) (a .list .now) (a .batch .now) (a .own) (a .end)) (standOf (a .s) (a .m .now) (a .numbers .now))
-    (c .before .before .before .before .before .before .before .before .before .before .before .before .before .before .before .before .before .before .before .before .before .before .before .before .before .before .before .before .before .before .before .before .pre .1 .1 .0) _ _ _ _ (c .before .before .before .before .before .before .before .before .before .before .before .before .before .before .before .before .before .before .before .before .before .before .before .before .run-at .ensures .run) (c .before .before .before .before .before .before .before .before .before .before .before .before .before .before .before .before .before .before .before .before .before .key-at .ensures ∙ ap (λ (i : ℕ). recordKey (recordAt (a .batch .now) i)) (c .before .before .before .before .before .before .before .before .before .before .before .before .before .before .before .before .before .before .before .before .before .before .index-part .ensures .0)) (c .before .before .before .before .before .before .before .before .before .before .before .before .before .before .before .before .before .before .rows-below .ensures) (c .before .before .before .before .before .before .before .before .before .before .before .before .before .before .before .before .pull-rows .ensures) _
-    (c .before .before .before .before .before .before .before .before .before .before .before .is-row-of .ensures) _ _ (c .before .before .before .before .before .before .before .before .before .case-at .ensures) _ (c .before .before .before .before .before .before .before .work-key .ensures) (c .before .before .before .before .before .before .before .before .before .before .before .before .before .before .before .before .before .before .before .before .before .before .before .before .before .before .before .before .before .before .before .before .pre .1 .0 .2)
+    (start .pre .1 .1 .0) _ _ _ _ (at-run-at .run-at .ensures .run) (at-key-at .key-at .ensures ∙ ap (λ (i : ℕ). recordKey (recordAt (a .batch .now) i)) (at-index-part .index-part .ensures .0)) (at-rows-below .rows-below .ensures) (at-pull-rows .pull-rows .ensures) _
+    (at-is-row-of .is-row-of .ensures) _ _ (at-case-at .case-at .ensures) _ (at-work-key .work-key .ensures) (start .pre .1 .0 .2)
 
 one-if-requires : tie.Need-one-if-requires
 one-if-requires c κs = search needs
 
 add-t30 : tie.Need-add-t30
 add-t30 c =
-    let h = c .before .before .before .before .before .before .before .before .before .before .before .before .before .before .before .before .before .before .before .before .before .before .before .before .before .before .before .before .before .before .before .before .before .before .before .before .pre .1 .0 in
-    omega (arith, c .one-if .ensures .1, c .before .before .before .before .before .before .before .before .before .before .before .before .before .before .before .before .before .before .before .before .before .before .rows-below .ensures .within, h .2, c .before .before .before .before .before .before .before .before .before .before .before .before .before .before .before .before .before .before .before .before .before .before .before .before .before .before .before .before .before .before .before .before .before .before .before .before .good .0)
+    let at-rows-below = c .before .before .before .before .before .before .before .before .before .before .before .before .before .before .before .before .before .before .before .before .before .before in
+    let start = at-rows-below .before .before .before .before .before .before .before .before .before .before .before .before .before .before in
+    let h = start .pre .1 .0 in
+    omega (arith, c .one-if .ensures .1, at-rows-below .rows-below .ensures .within, h .2, start .good .0)
 
 same-length : tie.Need-same-length
 same-length c = search needs
@@ -102,11 +131,22 @@ same-length-3 c = search needs
 
 returns : tie.Need-returns
 returns c =
-    let a = c .before .before .before .before .before .before .before .before .before .before .before .before .before .before .before .before .before .before .before .before .before .before .before .before .before .before .before .before .before .before .before .before .before .before .before .before .args in
+    let at-put-row-of = c .before .before .before in
+    let at-put-key-entry = at-put-row-of .before .before .before .before in
+    let at-work-key = at-put-key-entry .before .before .before .before in
+    let at-case-at = at-work-key .before .before in
+    let at-is-row-of = at-case-at .before .before in
+    let at-pull-rows = at-is-row-of .before .before .before .before .before in
+    let at-rows-below = at-pull-rows .before .before in
+    let at-key-at = at-rows-below .before .before .before in
+    let at-index-part = at-key-at .before in
+    let at-run-at = at-index-part .before .before in
+    let start = at-run-at .before .before .before .before .before .before .before .before in
+    let a = start .args in
     key-journaled (fixedOf (a .state .now) (a .year) (a .list .now) (a .batch .now) (a .own) (a .end)) (standOf (a .s) (a .m .now) (a .numbers .now))
-    (c .before .before .before .before .before .before .before .before .before .before .before .before .before .before .before .before .before .before .before .before .before .before .before .before .before .before .before .before .before .before .before .before .before .before .before .before .pre .1 .1 .0) _ _ _ _ (c .before .before .before .before .before .before .before .before .before .before .before .before .before .before .before .before .before .before .before .before .before .before .before .before .before .before .before .before .run-at .ensures .run) (c .before .before .before .before .before .before .before .before .before .before .before .before .before .before .before .before .before .before .before .before .before .before .before .before .before .key-at .ensures ∙ ap (λ (i : ℕ). recordKey (recordAt (a .batch .now) i)) (c .before .before .before .before .before .before .before .before .before .before .before .before .before .before .before .before .before .before .before .before .before .before .before .before .before .before .index-part .ensures .0)) (c .before .before .before .before .before .before .before .before .before .before .before .before .before .before .before .before .before .before .before .before .before .before .rows-below .ensures) (c .before .before .before .before .before .before .before .before .before .before .before .before .before .before .before .before .before .before .before .before .pull-rows .ensures) _
-    (c .before .before .before .before .before .before .before .before .before .before .before .before .before .before .before .is-row-of .ensures) _ _ (c .before .before .before .before .before .before .before .before .before .before .before .before .before .case-at .ensures) _ (c .before .before .before .before .before .before .before .before .before .before .before .work-key .ensures) (a .wanted) (a .s .written) (a .journal .now)
-    _ _ (c .before .before .before .put-row-of .ensures) _ (c .one-if .ensures .0) _ _ (c .before .before .before .before .before .before .before .put-key-entry .ensures)
+    (start .pre .1 .1 .0) _ _ _ _ (at-run-at .run-at .ensures .run) (at-key-at .key-at .ensures ∙ ap (λ (i : ℕ). recordKey (recordAt (a .batch .now) i)) (at-index-part .index-part .ensures .0)) (at-rows-below .rows-below .ensures) (at-pull-rows .pull-rows .ensures) _
+    (at-is-row-of .is-row-of .ensures) _ _ (at-case-at .case-at .ensures) _ (at-work-key .work-key .ensures) (a .wanted) (a .s .written) (a .journal .now)
+    _ _ (at-put-row-of .put-row-of .ensures) _ (c .one-if .ensures .0) _ _ (at-put-key-entry .put-key-entry .ensures)
 
 pub walk-key-spec : {M : Type 1} → statement M
 walk-key-spec =

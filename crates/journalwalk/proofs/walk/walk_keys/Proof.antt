@@ -22,20 +22,24 @@ abbrev μ-loop : tie.MeasureT-loop
 
 loop-holds : tie.Need-loop-holds Inv-loop μ-loop
 loop-holds c =
-    let a = c .before .before .before .before .before .before .args in
-    let w = c .before .before .before .before .before .before .pre .0 in
+    let start = c .before .before .before .before .before .before in
+    let a = start .args in
+    let w = start .pre .0 in
     let f = fixedOf (a .state .now) (a .year) (a .list .now) (a .batch .now) (a .own) (a .end) in
     let s = startOf (a .from) (a .m .now) (a .numbers .now) in
-    (w, (walking-start f s w refl refl, journaling-start f s (a .wanted) (a .journal .now) (a .at) refl refl (c .before .before .before .before .before .before .pre .1)))
+    (w, (walking-start f s w refl refl, journaling-start f s (a .wanted) (a .journal .now) (a .at) refl refl (start .pre .1)))
 
 walk-key-requires : tie.Need-walk-key-requires Inv-loop μ-loop
 walk-key-requires c κs =
-    let a = c .before .before .before .before .before .before .before .before .before .before .before .before .args in
-    let l = c .before .before .before .before .before .loop in
+    let at-if1 = c .before .before .before in
+    let at-loop = at-if1 .before .before in
+    let start = at-loop .before .before .before .before .before .before .before in
+    let a = start .args in
+    let l = at-loop .loop in
     let w = l .inv .0 in
     let g = l .inv .1 .0 in
     let n = l .inv .1 .1 in
-    let t = c .before .before .before .if1 .taken in
+    let t = at-if1 .if1 .taken in
     let f = fixedOf (a .state .now) (a .year) (a .list .now) (a .batch .now) (a .own) (a .end) in
     let s = startOf (a .from) (a .m .now) (a .numbers .now) in (
       (t, walking-sorted f s w _ g),
@@ -49,17 +53,24 @@ walk-key-requires c κs =
     )
 
 loop-less : tie.Need-loop-less Inv-loop μ-loop
-loop-less c = let k = c .before .before .before .before .before .before .walk-key .ensures .walked .worked .ended in omega (arith, k .later, c .before .before .before .before .before .before .before .before .before .before .if1 .taken)
+loop-less c =
+    let at-walk-key = c .before .before .before .before .before .before in
+    let at-if1 = at-walk-key .before .before .before .before in
+    let k = at-walk-key .walk-key .ensures .walked .worked .ended in omega (arith, k .later, at-if1 .if1 .taken)
 
 loop-again : tie.Need-loop-again Inv-loop μ-loop
 loop-again c =
-    let a = c .before .before .before .before .before .before .before .before .before .before .before .before .before .before .before .before .before .before .before .args in
-    let l = c .before .before .before .before .before .before .before .before .before .before .before .before .loop in
+    let at-walk-key = c .before .before .before .before .before .before in
+    let at-if1 = at-walk-key .before .before .before .before in
+    let at-loop = at-if1 .before .before in
+    let start = at-loop .before .before .before .before .before .before .before in
+    let a = start .args in
+    let l = at-loop .loop in
     let w = l .inv .0 in
     let g = l .inv .1 .0 in
     let n = l .inv .1 .1 in
-    let k = c .before .before .before .before .before .before .walk-key in
-    let t = c .before .before .before .before .before .before .before .before .before .before .if1 .taken in
+    let k = at-walk-key .walk-key in
+    let t = at-if1 .if1 .taken in
     let f = fixedOf (a .state .now) (a .year) (a .list .now) (a .batch .now) (a .own) (a .end) in
     let s = startOf (a .from) (a .m .now) (a .numbers .now) in
     (w, (walking-next f s w _ g t _ (k .ensures .walked) (k .kept .0), journaling-next f s (a .wanted) (a .journal .now) (a .at) w _ g _ _ n t _ _ _ (k .ensures)))
@@ -75,8 +86,10 @@ same-length-3 c = c .before .before .loop .inv .1 .1 .len
 
 returns : tie.Need-returns Inv-loop μ-loop
 returns c =
-    let a = c .before .before .before .before .before .before .before .before .before .args in
-    let l = c .before .before .loop in
+    let at-loop = c .before .before in
+    let start = at-loop .before .before .before .before .before .before .before in
+    let a = start .args in
+    let l = at-loop .loop in
     let f = fixedOf (a .state .now) (a .year) (a .list .now) (a .batch .now) (a .own) (a .end) in
     let s = startOf (a .from) (a .m .now) (a .numbers .now) in
     journaling-done f s (a .wanted) (a .journal .now) (a .at) (l .inv .0) _ (l .inv .1 .0) _ _ (l .inv .1 .1) (c .if1 .left)
