@@ -10,16 +10,16 @@ use text::fields::Columns;
 ghost use mathlib.Core.Path.{_≡_};
 ghost use Prim.Native.Nat.{_+_};
 ghost use lib.ListN.{length};
-ghost use Rattle.text.specs.Fields.{columns, placed, isBlank};
+ghost use Rattle.text.specs.Fields.{placed};
 ghost use Rattle.casemaster.specs.Row.{withZeroCents};
-ghost use Rattle.onecase.specs.Copies.{InRow, InRecord, withExclusions, withNames, freshEnd};
+ghost use Rattle.onecase.specs.Copies.{InRow, InRecord, copied, copiedUnlessBlank, withExclusions, withNames, freshEnd};
 ghost use Rattle.onecase.specs.Machine.{changed};
-ghost use Rattle.onecase.specs.Changes.{placedUnless, exclusionByte, addedLocalCode, freshRow, recertified, renamed, reidentified, deleted, relocated, amended, excluded, paid, transferred, readdressed};
+ghost use Rattle.onecase.specs.Changes.{exclusionByte, addedLocalCode, freshRow, recertified, renamed, reidentified, deleted, relocated, amended, excluded, paid, transferred, readdressed};
 
 // Copies the columns `from` of the record into the row's columns `to`, which are as many.
 fn copy(row: &mut [u8], to: Columns, rec: &[u8; 245], from: Columns)
     requires { ⌜ (length (now row) ≡ 200) × InRow to × InRecord from × (to .last + from .first ≡ from .last + to .first) ⌝ }
-    ensures { λ _. ⌜ now (row .exit) ≡ placed (to .first) (to .last) (columns (from .first) (from .last) (now (rec .entry))) (now (row .entry)) ⌝ }
+    ensures { λ _. ⌜ now (row .exit) ≡ copied to (now (rec .entry)) from (now (row .entry)) ⌝ }
 {
     fields::copy(row, to, rec, from);
 }
@@ -27,7 +27,7 @@ fn copy(row: &mut [u8], to: Columns, rec: &[u8; 245], from: Columns)
 // The same, unless those columns of the record are blank.
 fn copy_unless_blank(row: &mut [u8], to: Columns, rec: &[u8; 245], from: Columns)
     requires { ⌜ (length (now row) ≡ 200) × InRow to × InRecord from × (to .last + from .first ≡ from .last + to .first) ⌝ }
-    ensures { λ _. ⌜ now (row .exit) ≡ placedUnless (isBlank (columns (from .first) (from .last) (now (rec .entry)))) (to .first) (to .last) (columns (from .first) (from .last) (now (rec .entry))) (now (row .entry)) ⌝ }
+    ensures { λ _. ⌜ now (row .exit) ≡ copiedUnlessBlank to (now (rec .entry)) from (now (row .entry)) ⌝ }
 {
     if !fields::is_blank(fields::field(rec, from)) {
         copy(row, to, rec, from);
