@@ -2,5 +2,8 @@ pub mod PassedLaws
 pub mod ApplyLaws
 pub mod KnownLaws
 pub mod CarriedLaws
+pub mod ArrangedLaws
+pub mod MovedLaws
+pub mod NotedLaws
 pub mod WorkedLaws
 pub mod JournalingLaws

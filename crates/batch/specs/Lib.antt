@@ -3,3 +3,4 @@ pub mod Refusals
 pub mod Apply
 pub mod Progress
 pub mod Journaling
+pub mod Parts

@@ -1,33 +1,24 @@
-// Applying a batch: the refusals in order, then its details, key by key.
+// Applying a batch: the refusals in order, then the work on its details, the control record and the counts.
 use crate::refusals;
-use casemaster::master;
-use journal::writing;
-use journalwalk::walk;
-use keyorder::order;
-use keywalk::counting;
-use keywork::batch_order;
-use keywork::worked;
+use crate::work;
 use layout::chart_a2;
 use layout::records;
 use rejectfile::counts;
-use rejectfile::verdicts;
 use rejectfile::verdicts::Progress;
 use text::fields;
 ghost use mathlib.Core.Path.{_≡_};
 ghost use mathlib.Core.Bool.{true};
-ghost use Prim.Native.Nat.{_+_, _*_, _/_, _≤_, _<_};
+ghost use Prim.Native.Nat.{_+_, _*_, _≤_, _<_};
 ghost use lib.ListN.{length};
 ghost use Rattle.text.specs.Blocks.{spliced};
 ghost use Rattle.rejectfile.specs.Counts.{controlRecord};
 ghost use Rattle.rejectfile.specs.Tally.{countsIn, AtMost};
-ghost use Rattle.journal.specs.Numbers.{numberBytes};
 ghost use Rattle.journal.specs.Space.{journalSpace};
-ghost use Rattle.journal.specs.Writing.{Wrote};
-ghost use Rattle.batch.specs.Journaling.{countsPart, WorkJournaled, resultOf, RunJournaled};
-ghost use Rattle.batch.specs.Apply.{resultIn, appliedAs, IsOutcome};
-ghost use Rattle.layout.specs.Batch.{detailCount, submittingState};
+ghost use Rattle.layout.specs.Batch.{detailCount};
 ghost use Rattle.batch.specs.Call.{callOf};
 ghost use Rattle.batch.specs.Refusals.{applyRefusal};
+ghost use Rattle.batch.specs.Apply.{resultIn, appliedAs, IsOutcome};
+ghost use Rattle.batch.specs.Journaling.{resultOf, RunJournaled};
 
 // The answer of the call: the counts of a run that is carried out, or the number of the refusal.
 pub enum Applied {
@@ -41,12 +32,6 @@ pub enum Applied {
     Refused(u64),
 }
 
-// What the work has come to, and the journal's length.
-pub struct JournaledWork {
-    pub progress: Progress,
-    pub written: usize,
-}
-
 // The result of a run that is carried out, and the journal's length.
 pub struct RunResult {
     pub accepted: u64,
@@ -57,66 +42,11 @@ pub struct RunResult {
     pub written: usize,
 }
 
-// The counts at the front of the journal, where one is wanted.
-fn start_journal(journal: &mut [u8], before: usize, after: usize, wanted: bool) -> usize
-    requires { ⌜ (wanted ≡ true → length (numberBytes before) + length (numberBytes after) ≤ length (now journal)) ⌝ }
-    ensures { λ r. ⌜ Wrote (now (journal .entry)) 0 (countsPart wanted before after) (now (journal .exit)) r ⌝ }
-{
-    if wanted {
-        return writing::put_counts(journal, before, after);
-    }
-    0
-}
-
-// All details worked, key by key: what that leaves is what each in turn leaves. Where a journal is wanted it is written.
-fn work(
-    m: &mut [u8],
-    n: usize,
-    batch: &[u8],
-    state: &[u8],
-    year: u64,
-    list: &[u8],
-    verdicts: &mut [u64],
-    rejects: &mut [u8],
-    journal: &mut [u8],
-    wanted: bool,
-) -> JournaledWork
-    requires { ⌜ (applyRefusal (callOf (now m) n (now batch) (now list) year (now verdicts) (now rejects)) ≡ 0) × (now state ≡ submittingState (now batch)) ⌝ }
-    requires { ⌜ (wanted ≡ true → journalSpace (detailCount (now batch)) ≤ length (now journal)) ⌝ }
-    ensures { λ r. ⌜ WorkJournaled
-        (callOf (now (m .entry)) n (now (batch .entry)) (now (list .entry)) year (now (verdicts .entry)) (now (rejects .entry)))
-        wanted (now (journal .entry)) (now (m .exit)) (now (verdicts .exit)) (now (rejects .exit)) (r .progress) (now (journal .exit)) (r .written) ⌝ }
-{
-    let d = batch.len() / 245 - 1;
-    let own = order::order_details(batch, d, state, year, list, verdicts);
-    let new = counting::new_rows(m, n, batch, verdicts, own);
-    let rows = n + new;
-    master::shift_rows(m, n, new);
-    let at = start_journal(journal, n, rows, wanted);
-    let written = walk::walk_keys(
-        m,
-        new,
-        rows,
-        batch,
-        verdicts,
-        own,
-        state,
-        year,
-        list,
-        journal,
-        at,
-        wanted,
-    );
-    worked::work_alone(batch, verdicts, own, d, state, year, list);
-    batch_order::put_back(verdicts, d);
-    let progress = verdicts::write_verdicts(rows, batch, d, verdicts, rejects);
-    JournaledWork { progress, written }
-}
-
 // Writes the control record behind the reject records, and answers the counts, with the journal's length.
 fn finish(s: Progress, state: &[u8], rejects: &mut [u8], d: usize, written: usize) -> RunResult
     requires { ⌜ (length (now state) ≡ 2) × (s .rejects * 245 + 245 ≤ length (now rejects)) × (AtMost d (s .tally)) × (d < 9223372036854775807) ⌝ }
-    ensures { λ r. ⌜ now (rejects .exit) ≡ spliced (now (rejects .entry)) (s .rejects * 245) (controlRecord (now (state .entry)) (countsIn (s .tally))) ⌝ }
+    ensures { λ r. ⌜ now (rejects .exit)
+        ≡ spliced (now (rejects .entry)) (s .rejects * 245) (controlRecord (now (state .entry)) (countsIn (s .tally))) ⌝ }
     ensures { λ r. ⌜ (resultOf r ≡ resultIn (countsIn (s .tally)) (s .rows)) × (r .written ≡ written) ⌝ }
 {
     let t = s.tally;
@@ -147,13 +77,14 @@ pub fn run(
 ) -> RunResult
     requires { ⌜ applyRefusal (callOf (now m) n (now batch) (now locals) year (now verdicts) (now rejects)) ≡ 0 ⌝ }
     requires { ⌜ (wanted ≡ true → journalSpace (detailCount (now batch)) ≤ length (now journal)) ⌝ }
-    ensures { λ r. ⌜ RunJournaled (callOf (now (m .entry)) n (now (batch .entry)) (now (locals .entry)) year (now (verdicts .entry)) (now (rejects .entry)))
+    ensures { λ r. ⌜ RunJournaled
+        (callOf (now (m .entry)) n (now (batch .entry)) (now (locals .entry)) year (now (verdicts .entry)) (now (rejects .entry)))
         wanted (now (journal .entry)) (now (m .exit)) (now (verdicts .exit)) (now (rejects .exit)) r (now (journal .exit)) ⌝ }
 {
     let d = batch.len() / 245 - 1;
     let control = records::record_at(batch, d);
     let state = fields::field(&control, chart_a2::STATE);
-    let s = work(
+    let s = work::work(
         m,
         n,
         batch,

@@ -39,7 +39,8 @@ fn most_rows(m: &[u8]) -> usize
 
 // Refusal 9. The A records are counted first: where all of them have a place, no key is looked up.
 fn lacks_room(m: &[u8], n: usize, batch: &[u8], d: usize) -> bool
-    requires { ⌜ (n * 200 ≤ length (now m)) × (areSoundRows (rowsOf n (now m)) ≡ true) × (d ≡ detailCount (now batch)) × (d * 245 ≤ length (now batch)) ⌝ }
+    requires { ⌜ (n * 200 ≤ length (now m)) × (areSoundRows (rowsOf n (now m)) ≡ true)
+        × (d ≡ detailCount (now batch)) × (d * 245 ≤ length (now batch)) ⌝ }
     ensures { λ r. ⌜ r ≡ refusal9 maxRows (now (m .entry)) n (now (batch .entry)) ⌝ }
 {
     let count = adds::count_adds(batch, d);
@@ -57,8 +58,10 @@ fn space_refusal(
     verdicts: &[u64],
     rejects: &[u8],
 ) -> u64
-    requires { ⌜ (n * 200 ≤ length (now m)) × (areSoundRows (rowsOf n (now m)) ≡ true) × (detailCount (now batch) * 245 + 245 ≤ length (now batch)) ⌝ }
-    ensures { λ r. ⌜ r ≡ spaceRefusal (callOf (now (m .entry)) n (now (batch .entry)) (now (locals .entry)) year (now (verdicts .entry)) (now (rejects .entry))) ⌝ }
+    requires { ⌜ (n * 200 ≤ length (now m)) × (areSoundRows (rowsOf n (now m)) ≡ true)
+        × (detailCount (now batch) * 245 + 245 ≤ length (now batch)) ⌝ }
+    ensures { λ r. ⌜ r
+        ≡ spaceRefusal (callOf (now (m .entry)) n (now (batch .entry)) (now (locals .entry)) year (now (verdicts .entry)) (now (rejects .entry))) ⌝ }
 {
     let d = batch.len() / 245 - 1;
     if lacks_room(m, n, batch, d) {
@@ -83,7 +86,8 @@ pub fn first_refusal(
     verdicts: &[u64],
     rejects: &[u8],
 ) -> u64
-    ensures { λ r. ⌜ r ≡ applyRefusal (callOf (now (m .entry)) n (now (batch .entry)) (now (locals .entry)) year (now (verdicts .entry)) (now (rejects .entry))) ⌝ }
+    ensures { λ r. ⌜ r
+        ≡ applyRefusal (callOf (now (m .entry)) n (now (batch .entry)) (now (locals .entry)) year (now (verdicts .entry)) (now (rejects .entry))) ⌝ }
 {
     let opening = opening_refusal(year, locals);
     if opening != 0 {

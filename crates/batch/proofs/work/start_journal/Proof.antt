@@ -1,9 +1,9 @@
--- `apply::start_journal`: the flag decides what is written. Assumes nothing.
+-- `work::start_journal`: the flag decides what is written. Assumes nothing.
 use Rattle.journalwalk.proofs.KeyEntryLaws.{wrote-none}
 use denote.Ref.{now}
 use borrow.Author.Needs.{needs}
-use Rattle.batch.proofs.apply.start_journal.Statement.{statement}
-use Rattle.batch.proofs.apply.start_journal.Tie as tie
+use Rattle.batch.proofs.work.start_journal.Statement.{statement}
+use Rattle.batch.proofs.work.start_journal.Tie as tie
 
 put-counts-requires : tie.Need-put-counts-requires
 put-counts-requires c κs = c .before .before .before .pre (c .before .if1 .taken)
