@@ -9,16 +9,19 @@ use borrow.Rule.Slice.PartMut.{putMid, post-is}
 use lib.Dec.{eqb, lit≤}
 use lib.ListN.{length, getD, take, drop, length-append, drop-of-length-le}
 use Rattle.text.specs.Characters.{A, N}
-use Rattle.text.specs.Fields.{columns, placed, digitField, spaces}
+use Rattle.text.specs.Fields.{placed, digitField, spaces}
 use Rattle.exclusionsets.specs.Exclusions.{exclusionColumns}
 use Rattle.text.specs.Blocks.{blocks, spliced, Holds}
+use Rattle.casemaster.specs.Row.{rowExclusions}
 use Rattle.casemaster.specs.Master.{rowsOf, rowsThat}
 use Rattle.text.proofs.FieldsLaws.{one-column}
 use Rattle.text.proofs.NumberLaws.{length-digits}
 use Rattle.text.proofs.BlocksLaws.{blocks-next, length-blocks, holds-append}
+use Rattle.reconciliation.specs.Parts.{withIdentity, withCase, withEnd}
 use Rattle.reconciliation.specs.Reconcile.{REC, RCT, isReported, recRecord, recRecords, reportedOf, rctRecord}
 use Rattle.text.proofs.ColumnsWritten.{written-none, written-field, written-columns, written-all}
 use Rattle.text.proofs.SplicedLaws.{take-through}
+use Rattle.exclusionsets.proofs.ExclusionsLaws.{columns-length}
 use Rattle.text.proofs.HoldsLaws.{holds-kept, holds-then}
 
 -- ---- the records, field by field
@@ -27,39 +30,31 @@ use Rattle.text.proofs.HoldsLaws.{holds-kept, holds-then}
 pub front-spliced : (d s b : List ℕ) → b ≡ spliced d 0 s → take (length s - 0) b ≡ s
 front-spliced d s b e = let z : length s - 0 ≡ length s = omega arith in rw (z, e) (take-through d 0 s (length s) (omega arith) (omega arith))
 
+-- the end of a REC record, by the byte that the exclusions are
+pub end-written : (row s0 names s1 s2 s3 : List ℕ) → s1 ≡ placed 80 81 (spaces 2) s0 → names ≡ exclusionColumns (getD row 194 0)
+    → s2 ≡ placed 82 105 names s1 → s3 ≡ placed 106 245 (spaces 140) s2 → s3 ≡ withEnd row s0
+end-written row s0 names s1 s2 s3 e1 en e2 e3 = rw (e3, e2, e1, en, one-column 195 row (lit≤ tt))
+
+-- its three parts make it
 pub rec-filled : (row s0 : List ℕ) → length row ≡ 200 → length s0 ≡ 245
-    → (names s1 s2 s3 s4 s5 s6 s7 s8 s9 s10 s11 s12 s13 : List ℕ) → length names ≡ 24
-    → s1 ≡ placed 1 3 REC s0
-    → s2 ≡ placed 4 5 (columns 1 2 row) s1
-    → s3 ≡ placed 6 8 (columns 13 15 row) s2
-    → s4 ≡ placed 9 17 (columns 3 11 row) s3
-    → s5 ≡ placed 18 32 (columns 16 30 row) s4
-    → s6 ≡ placed 33 52 (columns 31 50 row) s5
-    → s7 ≡ placed 53 62 (columns 51 60 row) s6
-    → s8 ≡ placed 63 70 (columns 66 73 row) s7
-    → s9 ≡ placed 71 71 (columns 12 12 row) s8
-    → s10 ≡ placed 72 79 (columns 187 194 row) s9
-    → s11 ≡ placed 80 81 (spaces 2) s10
-    → names ≡ exclusionColumns (getD row 194 0)
-    → s12 ≡ placed 82 105 names s11
-    → s13 ≡ placed 106 245 (spaces 140) s12
-    → s13 ≡ recRecord row
+    → (s1 s2 s3 : List ℕ) → s1 ≡ withIdentity row s0 → s2 ≡ withCase row s1 → s3 ≡ withEnd row s2 → s3 ≡ recRecord row
 unfolding recRecord
-rec-filled row s0 w w0 names s1 s2 s3 s4 s5 s6 s7 s8 s9 s10 s11 s12 s13 wn e1 e2 e3 e4 e5 e6 e7 e8 e9 e10 e11 en e12 e13 =
-    let f1 = written-field (written-none s0) 1 3 REC e1 refl refl (omega arith) in
-    let f2 = written-columns f1 4 5 200 1 2 row e2 w (rw w0) in
-    let f3 = written-columns f2 6 8 200 13 15 row e3 w (rw w0) in
-    let f4 = written-columns f3 9 17 200 3 11 row e4 w (rw w0) in
-    let f5 = written-columns f4 18 32 200 16 30 row e5 w (rw w0) in
-    let f6 = written-columns f5 33 52 200 31 50 row e6 w (rw w0) in
-    let f7 = written-columns f6 53 62 200 51 60 row e7 w (rw w0) in
-    let f8 = written-columns f7 63 70 200 66 73 row e8 w (rw w0) in
-    let f9 = written-columns f8 71 71 200 12 12 row e9 w (rw w0) in
-    let f10 = written-columns f9 72 79 200 187 194 row e10 w (rw w0) in
-    let f11 = written-field f10 80 81 (spaces 2) e11 refl refl (omega arith) in
-    let f12 = written-field f11 82 105 names e12 refl (omega arith) (omega arith) in
-    let f13 = written-field f12 106 245 (spaces 140) e13 refl refl (omega arith) in
-    written-all f13 (sym w0) ∙ rw (en, one-column 195 row (lit≤ tt))
+rec-filled row s0 w w0 s1 s2 s3 e1 e2 e3 =
+    let f1 = written-field (written-none s0) 1 3 REC refl refl refl (omega arith) in
+    let f2 = written-columns f1 4 5 200 1 2 row refl w (rw w0) in
+    let f3 = written-columns f2 6 8 200 13 15 row refl w (rw w0) in
+    let f4 = written-columns f3 9 17 200 3 11 row refl w (rw w0) in
+    let f5 = written-columns f4 18 32 200 16 30 row e1 w (rw w0) in
+    let f6 = written-columns f5 33 52 200 31 50 row refl w (rw w0) in
+    let f7 = written-columns f6 53 62 200 51 60 row refl w (rw w0) in
+    let f8 = written-columns f7 63 70 200 66 73 row refl w (rw w0) in
+    let f9 = written-columns f8 71 71 200 12 12 row refl w (rw w0) in
+    let f10 = written-columns f9 72 79 200 187 194 row e2 w (rw w0) in
+    let f11 = written-field f10 80 81 (spaces 2) refl refl refl (omega arith) in
+    let names = exclusionColumns (getD (rowExclusions row) 0 0) in
+    let f12 = written-field f11 82 105 names refl refl (omega (arith, columns-length (getD (rowExclusions row) 0 0))) (omega arith) in
+    let f13 = written-field f12 106 245 (spaces 140) e3 refl refl (omega arith) in
+    written-all f13 (sym w0)
 
 pub rct-filled : (state date : List ℕ) (tanf nonTanf total : ℕ) → length state ≡ 2 → length date ≡ 8
     → (s1 s2 s3 s4 s5 s6 : List ℕ)

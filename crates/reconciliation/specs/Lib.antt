@@ -1,2 +1,3 @@
 pub mod Reconcile
 pub mod Columns
+pub mod Parts

@@ -20,6 +20,7 @@ ghost use Rattle.text.specs.Characters;
 ghost use Rattle.text.specs.Fields.{columns, placed, Inside, digitField, spaces};
 ghost use Rattle.text.specs.Blocks.{blocks, Holds};
 ghost use Rattle.casemaster.specs.Master.{rowsOf};
+ghost use Rattle.reconciliation.specs.Parts.{withIdentity, withCase, withEnd};
 ghost use Rattle.reconciliation.specs.Reconcile.{isReported, RCT, recRecord, recRecords, reportedOf, reconciledAs, reconcileOutcome};
 
 // The answer of the call: the number of REC records, or the number of the refusal.
@@ -97,26 +98,50 @@ fn copy_field(rec: &mut [u8], to: Columns, row: &[u8], from: Columns)
     fields::put(rec, to, &bytes[0..width]);
 }
 
-// Writes the REC record of a row, each column once.
-fn fill_rec(rec: &mut [u8], row: &[u8])
+// The front of a REC record: who the case is.
+fn put_identity(rec: &mut [u8], row: &[u8])
     requires { ⌜ (length (now rec) ≡ 245) × (length (now row) ≡ 200) ⌝ }
-    ensures { λ _. ⌜ now (rec .exit) ≡ recRecord (now (row .entry)) ⌝ }
+    ensures { λ _. ⌜ now (rec .exit) ≡ withIdentity (now (row .entry)) (now (rec .entry)) ⌝ }
 {
     fields::put(rec, chart_06::IDENTIFIER, b"\xD9\xC5\xC3");
     copy_field(rec, chart_06::STATE, row, row::STATE);
     copy_field(rec, chart_06::LOCAL_CODE, row, row::LOCAL_CODE);
     copy_field(rec, chart_06::SSN, row, row::SSN);
     copy_field(rec, chart_06::CASE_ID, row, row::CASE_ID);
+}
+
+// Its middle: names, arrearage, case type and date.
+fn put_case(rec: &mut [u8], row: &[u8])
+    requires { ⌜ (length (now rec) ≡ 245) × (length (now row) ≡ 200) ⌝ }
+    ensures { λ _. ⌜ now (rec .exit) ≡ withCase (now (row .entry)) (now (rec .entry)) ⌝ }
+{
     copy_field(rec, chart_06::LAST_NAME, row, row::LAST_NAME);
     copy_field(rec, chart_06::FIRST_NAME, row, FIRST_NAME_CUT);
     copy_field(rec, chart_06::ARREARAGE, row, row::ARREARAGE);
     copy_field(rec, chart_06::CASE_TYPE, row, row::CASE_TYPE);
     copy_field(rec, chart_06::NOTICE_DATE, row, row::DATE_ISSUED);
+}
+
+// Its end: exclusions, and blank columns before and behind them.
+fn put_end(rec: &mut [u8], row: &[u8])
+    requires { ⌜ (length (now rec) ≡ 245) × (length (now row) ≡ 200) ⌝ }
+    ensures { λ _. ⌜ now (rec .exit) ≡ withEnd (now (row .entry)) (now (rec .entry)) ⌝ }
+{
     fields::put(rec, HOLD_AND_ACTION, b"\x40\x40");
     let names = exclusions::exclusion_columns(row[194]);
     fields::put(rec, chart_06::EXCLUSIONS, &names);
     let filler = [0x40u8; 140];
     fields::put(rec, chart_06::FILLER, &filler);
+}
+
+// Writes the REC record of a row, each column once.
+fn fill_rec(rec: &mut [u8], row: &[u8])
+    requires { ⌜ (length (now rec) ≡ 245) × (length (now row) ≡ 200) ⌝ }
+    ensures { λ _. ⌜ now (rec .exit) ≡ recRecord (now (row .entry)) ⌝ }
+{
+    put_identity(rec, row);
+    put_case(rec, row);
+    put_end(rec, row);
 }
 
 // The RCT record.
