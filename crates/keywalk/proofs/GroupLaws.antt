@@ -2,23 +2,24 @@
 use Prim.Native.Nat.{ℕ, zero, suc, _+_, _-_, _^_, _≤_, _<_}
 use mathlib.Core.Path.{_≡_, refl, sym, ap, _∙_, subst}
 use mathlib.Core.Logic.{_⊎_, inl, inr}
-use mathlib.Core.Bool.{Bool, true, false, not, _||_}
+use mathlib.Core.Bool.{Bool, true, false, not}
 use mathlib.Core.List.{List, [], _∷_, _++_}
-use mathlib.Core.Option.{Option, none, some}
+use mathlib.Core.Option.{Option, none}
 use native.Mathlib.Nat.{eq-or-lt-of-le}
 use native.Mathlib.Omega.{arith}
 use lib.ListN.{length, take, getD}
 use Rattle.text.specs.Fields.{sameBytes}
 use Rattle.text.proofs.SameLaws.{eq-same, same-eq}
 use Rattle.onecase.specs.Machine.{next}
-use Rattle.onecase.proofs.MachineLaws.{row-stays}
 use Rattle.keyorder.specs.Order.{detailAt, rankAt, rankOf, noRank, InKeyOrder}
 use Rattle.keyorder.specs.Tagged.{makesFrom, recordIn}
 use Rattle.keyorder.specs.Runs.{anyFrom}
 use Rattle.keyorder.proofs.RunLaws.{any-nil, any-more}
 use Rattle.keywork.specs.Worked.{rowAfter}
 use Rattle.keywork.proofs.WorkedLaws.{after-none, after-more}
-use Rattle.keywalk.proofs.KeyOrderLaws.{keyAt, under-first, under-next, under-last}
+use Rattle.turns.proofs.IndexLaws.{keyAt}
+use Rattle.turns.proofs.RunLaws.{run-more, held-more, held-is}
+use Rattle.keywalk.proofs.KeyOrderLaws.{under-first, under-next, under-last}
 use Rattle.turns.specs.Under.{detailsUnder, runRow}
 use Rattle.turns.specs.Adds.{hasNoRow}
 use Rattle.judging.specs.State.{isHeld}
@@ -109,23 +110,6 @@ module _ (state : List ℕ) (details : List (List ℕ)) (order : List ℕ) (o : 
 -- ---- the machine's run
 
 module _ (setting : Setting) where
-  -- one detail more
-  pub run-more : (row : Option (List ℕ)) (xs : List (List ℕ)) (x : List ℕ)
-      → runRow setting row (xs ++ (x ∷ [])) ≡ next setting (runRow setting row xs) x
-  unfolding runRow
-  run-more row [] x = refl
-  run-more row (y ∷ xs) x = run-more (next setting row y) xs x
-
-  -- a row is there after one detail more: it was there, or the detail makes it
-  held-more : (row : Option (List ℕ)) (x : List ℕ)
-      → not (hasNoRow (next setting row x)) ≡ (not (hasNoRow row) || not (hasNoRow (next setting none x)))
-  held-more none x = refl
-  held-more (some row) x = let s = row-stays setting row x in rw (s .1)
-
-  held-is : (row : Option (List ℕ)) → isHeld row ≡ not (hasNoRow row)
-  held-is none = refl
-  held-is (some row) = refl
-
   module _ (numbers : List ℕ) (details : List (List ℕ)) (order : List ℕ) where
     -- one of the details makes a row: the run from none ends with one
     pub makes-run : (p n : ℕ)
@@ -139,9 +123,9 @@ module _ (setting : Setting) where
           makes-run p n (λ j l. h j (omega arith)),
           h n (omega arith),
           held-is (next setting none (detailAt details (getD order (p + n) 0))),
-          run-more none (detailsFrom details order p n) (detailAt details (getD order (p + n) 0)),
+          run-more setting none (detailsFrom details order p n) (detailAt details (getD order (p + n) 0)),
         )
-        (sym (held-more (runRow setting none (detailsFrom details order p n)) (detailAt details (getD order (p + n) 0))))
+        (sym (held-more setting (runRow setting none (detailsFrom details order p n)) (detailAt details (getD order (p + n) 0))))
 
     -- the row after n details is that of the run over them
     pub after-run : (batch : List ℕ) (p n : ℕ) (row : Option (List ℕ))
@@ -152,4 +136,4 @@ module _ (setting : Setting) where
     after-run batch p (suc n) row h =
         after-more setting batch numbers p row n
         ∙ rw (after-run batch p n row (λ j l. h j (omega arith)), h n (omega arith))
-        (sym (run-more row (detailsFrom details order p n) (detailAt details (getD order (p + n) 0))))
+        (sym (run-more setting row (detailsFrom details order p n) (detailAt details (getD order (p + n) 0))))

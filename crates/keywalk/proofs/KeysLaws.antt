@@ -23,7 +23,7 @@ use Rattle.namemarks.specs.Marks.{namesOf, part}
 use Rattle.keywalk.specs.Walk.{keysAt, distinct}
 use Rattle.text.proofs.WidthLaws.{All, blocks-wide}
 use Rattle.turns.proofs.UnderLaws.{IsRecord}
-use Rattle.keywalk.proofs.KeyOrderLaws.{keyAt}
+use Rattle.turns.proofs.IndexLaws.{keyAt}
 use Rattle.keywalk.specs.Walking.{OrderReady}
 use Rattle.keywalk.proofs.GroupLaws.{detailsFrom, IsStart, Group, group-part, group-whole}
 use Rattle.keywalk.proofs.PassLaws.{below-other}

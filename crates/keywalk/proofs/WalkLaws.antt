@@ -21,9 +21,6 @@ use Rattle.casemaster.specs.Rows.{rowWith, withStored}
 use Rattle.text.proofs.FieldsLaws.{and-left, and-right}
 use Rattle.text.proofs.SameLaws.{eq-same, same-eq}
 use Rattle.casemaster.proofs.SearchLaws.{row-key, with-sound, length-replaced, length-added, row-with-same, row-with-other}
-use Rattle.layout.specs.Record.{recordKey}
-use Rattle.onecase.specs.Machine.{next}
-use Rattle.onecase.proofs.MachineLaws.{Keyed, GoodRow, row-stays, next-keyed, next-good}
 use Rattle.keyorder.specs.Order.{noRank, rankOf, rankAt, Before, InKeyOrder}
 use Rattle.keyorder.proofs.RankLaws.{own-below, below-own, rank-same, rank-less}
 use Rattle.turns.specs.Turns.{finalRows}
@@ -31,12 +28,11 @@ use Rattle.keywalk.specs.Walk.{keysAt, isFirst, distinct, keyRow, worked
 use Rattle.text.proofs.WidthLaws.{All, every-all}
 use Rattle.casemaster.proofs.RowsLaws.{found-all, all-put, same-rows, Each, IsWide, each-some, Fit, each-sound, rows-rise}
 use Rattle.turns.proofs.UnderLaws.{IsRecord, final-fit, found-final}
-use Rattle.keywalk.proofs.KeyOrderLaws.{keyAt, under-none}
-use Rattle.turns.specs.Under.{isUnder, detailsUnder, runRow}
+use Rattle.turns.proofs.IndexLaws.{keyAt, under-none}
+use Rattle.turns.proofs.RunLaws.{KeyRow, SoundKeyRow, run-keyed, run-sound, run-none, run-stays, run-other}
+use Rattle.turns.specs.Under.{detailsUnder, runRow}
 use Rattle.turns.specs.Adds.{hasNoRow}
-use Rattle.judging.specs.Setting.{Setting}
 use Rattle.turns.specs.Settings.{Settings, settingUnder}
-use Rattle.onecase.proofs.JudgementLaws.{kept-alone}
 use Rattle.text.specs.ByteOrder.{less, orderOf, isLess, isEqual, belowFirst, rising}
 use Rattle.text.proofs.ByteOrderLaws.{less-trans, less-sides, same-order}
 
@@ -187,86 +183,6 @@ same-flip k l f = go (sameBytes l k) refl
 apart-flip : (k : List ℕ) (ks : List (List ℕ)) → All (λ (l : List ℕ). sameBytes k l ≡ false) ks → Apart k ks
 apart-flip k [] n = tt
 apart-flip k (l ∷ ls) n = (same-flip k l (n .0), apart-flip k ls (n .1))
-
--- ---- the machine's run under a key
-
--- a row of the key, as wide as rows are
-pub record KeyRow (key row : List ℕ) : Type 0 where
-  pub wide : length row ≡ 200
-  pub key-is : rowKey row ≡ key
-
--- and sound
-pub record SoundKeyRow (key row : List ℕ) : Type 0 where
-  pub wide : length row ≡ 200
-  pub key-is : rowKey row ≡ key
-  pub sound : isSoundRow row ≡ true
-
-each-map : (P Q : List ℕ → Type 0) → ((row : List ℕ) → P row → Q row) → (o : Option (List ℕ)) → Each P o → Each Q o
-each-map P Q f none h = tt
-each-map P Q f (some row) h = f row h
-
-module _ (setting : Setting) (key : List ℕ) where
-  -- what each step under the key keeps, the run keeps
-  run-each : (P : List ℕ → Type 0)
-      → ((o : Option (List ℕ)) (d : List ℕ) → IsRecord d → recordKey d ≡ key → Each P o → Each P (next setting o d))
-      → (o : Option (List ℕ)) (details : List (List ℕ)) → All IsRecord details → Each P o
-      → Each P (runRow setting o (detailsUnder key details))
-  unfolding runRow detailsUnder
-  run-each P step o [] a h = h
-  run-each P step o (d ∷ details) a h = go (λ s k. run-each P step s details (a .1) k) (isUnder key d) refl
-    where
-      go : ((s : Option (List ℕ)) → Each P s → Each P (runRow setting s (detailsUnder key details))) → (t : Bool) → isUnder key d ≡ t
-          → Each P (runRow setting o (cond t (d ∷ detailsUnder key details) (detailsUnder key details)))
-      go ih true t = ih (next setting o d) (step o d (a .0) (same-eq (recordKey d) key t) h)
-      go ih false t = ih o h
-
-  -- width and key
-  run-keyed : (o : Option (List ℕ)) (details : List (List ℕ)) → All IsRecord details → Each (KeyRow key) o
-      → Each (KeyRow key) (runRow setting o (detailsUnder key details))
-  run-keyed =
-      run-each (KeyRow key)
-      (λ o d e k h.
-      each-map (Keyed d) (KeyRow key) (λ row r. record { wide = r .wide; key-is = r .key ∙ k }) (next setting o d)
-      (next-keyed setting o d e (each-map (KeyRow key) (Keyed d) (λ row r. record { wide = r .wide; key = r .key-is ∙ sym k }) o h)))
-
-  -- and soundness
-  run-sound : isLocalList (setting .list) ≡ true → (o : Option (List ℕ)) (details : List (List ℕ)) → All IsRecord details → Each (SoundKeyRow key) o
-      → Each (SoundKeyRow key) (runRow setting o (detailsUnder key details))
-  run-sound l =
-      run-each (SoundKeyRow key)
-      (λ o d e k h.
-      each-map (GoodRow d) (SoundKeyRow key) (λ row r. record { wide = r .wide; key-is = r .key ∙ k; sound = r .sound }) (next setting o d)
-      (next-good setting o d e l
-      (each-map (SoundKeyRow key) (GoodRow d) (λ row r. record { wide = r .wide; key = r .key-is ∙ sym k; sound = r .sound }) o h)))
-
-  run-none : (o : Option (List ℕ)) (ds : List (List ℕ)) → ds ≡ [] → runRow setting o ds ≡ o
-  unfolding runRow
-  run-none o ds e = rw e
-
-  -- a row stays
-  pub run-stays : (details : List (List ℕ)) (row : List ℕ) → (new : List ℕ) × (runRow setting (some row) details ≡ some new)
-  unfolding runRow
-  run-stays [] row = (row, refl)
-  run-stays (d ∷ details) row =
-      let s = row-stays setting row d in
-      let t = run-stays details (s .0) in
-      (t .0, ap (λ (o : Option (List ℕ)). runRow setting o details) (s .1) ∙ t .1)
-
-  -- under a key that is not an own one nothing changes
-  run-other : isOwnKey (setting .state) key ≡ false → (o : Option (List ℕ)) (details : List (List ℕ)) → All IsRecord details
-      → runRow setting o (detailsUnder key details) ≡ o
-  unfolding runRow detailsUnder
-  run-other f o [] a = refl
-  run-other f o (d ∷ details) a = go (isUnder key d) refl (run-other f o details (a .1))
-    where
-      go : (t : Bool) → isUnder key d ≡ t → runRow setting o (detailsUnder key details) ≡ o
-          → runRow setting o (cond t (d ∷ detailsUnder key details) (detailsUnder key details)) ≡ o
-      go true t ih =
-          let k : recordKey d ≡ key = same-eq (recordKey d) key t in
-          ap (λ (s : Option (List ℕ)). runRow setting s (detailsUnder key details))
-          (kept-alone setting d (a .0) (ap (isOwnKey (setting .state)) k ∙ f) o)
-          ∙ ih
-      go false t ih = ih
 
 -- ---- one key worked
 

@@ -24,14 +24,15 @@ use Rattle.judging.specs.Setting.{Setting, settingOf}
 use Rattle.turns.specs.Turns.{finalRows}
 use Rattle.keywalk.specs.Walk.{distinct, keyRow, workedKeys}
 use Rattle.text.proofs.WidthLaws.{blocks-wide}
-use Rattle.keywalk.proofs.KeyOrderLaws.{verdict-under}
+use Rattle.turns.proofs.IndexLaws.{verdict-under}
+use Rattle.turns.proofs.RunLaws.{run-stays}
 use Rattle.keywalk.specs.Walking.{isRowOf, rowOfKey, rowsFrom, oneOrNone, OrderReady, Fixed, Stand, keyNow, hasRow, rowNow, settingNow, verdictAt, KeyWorked, KeyWalked, WalkReady, Walked}
 use Rattle.keywalk.proofs.GroupLaws.{detailsFrom, IsStart, Group, after-run}
 use Rattle.keywalk.proofs.KeysLaws as Keys
 use Rattle.keywalk.proofs.KeysLaws.{SameFrom, same-self}
 use Rattle.keywalk.proofs.PassLaws.{AllBelow, FirstNotBelow, isKeyOf, firstOf, behindKey, below-append, below-more, parted-find, parted-stored}
 use Rattle.keywalk.proofs.StandLaws.{from-split, below-pass, none-back, first-is, behind-is}
-use Rattle.keywalk.proofs.WalkLaws.{worked-low, worked-length, worked-final, worked-fit, worked-other, keyRow-key, length-own, run-stays}
+use Rattle.keywalk.proofs.WalkLaws.{worked-low, worked-length, worked-final, worked-fit, worked-other, keyRow-key, length-own}
 use Rattle.turns.specs.Under.{detailsUnder, runRow}
 use Rattle.turns.specs.Settings.{settingUnder}
 use Rattle.casemaster.specs.Search.{KeysRise}

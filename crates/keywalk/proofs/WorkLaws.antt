@@ -14,7 +14,6 @@ use lib.Seq.{getD-drop, ext-getD}
 use Rattle.text.specs.Blocks.{blocks}
 use Rattle.casemaster.specs.Rows.{rowWith}
 use Rattle.layout.specs.Locals.{isLocalList}
-use Rattle.casemaster.specs.Master.{areSoundRows}
 use Rattle.text.proofs.BlocksLaws.{length-blocks, blocks-get}
 use Rattle.layout.specs.Record.{recordKey}
 use Rattle.onecase.specs.Verdict.{Judgement, judgement, noJudgement}
@@ -26,35 +25,22 @@ use Rattle.keyorder.proofs.TaggedLaws.{tag-at, tagged-known}
 use Rattle.keyorder.proofs.RankLaws.{own-below}
 use Rattle.keywork.specs.Packed.{placeIn, Packed, SoundOrNone, IsJudged, HoldsVerdicts}
 use Rattle.keywork.specs.Worked.{AllPlaces, PutBack, UnderAlone, AloneWorked}
-use Rattle.turns.specs.Turns.{afterDetail, verdictOn, finalRows, verdictsOn}
+use Rattle.turns.specs.Turns.{verdictOn, finalRows, verdictsOn}
 use Rattle.keywalk.specs.Walk.{distinct, newKeys}
 use Rattle.text.proofs.WidthLaws.{All}
-use Rattle.turns.proofs.UnderLaws.{IsRecord, final-fit, length-verdicts}
-use Rattle.turns.proofs.TurnsLaws.{found-good, after-wide, after-sound, room-after}
-use Rattle.keywalk.proofs.KeyOrderLaws.{keyAt, verdict-at}
+use Rattle.turns.proofs.UnderLaws.{IsRecord, final-fit, final-few, length-verdicts}
+use Rattle.turns.proofs.TurnsLaws.{found-good}
+use Rattle.turns.proofs.IndexLaws.{keyAt, verdict-at}
 use Rattle.keywalk.specs.Walking.{OrderReady, AreThere}
 use Rattle.keywalk.proofs.KeysLaws as Keys
 use Rattle.keywalk.proofs.KeysLaws.{SameFrom, same-self}
 use Rattle.keywalk.proofs.WalkLaws.{worked-length, worked-final}
 use Rattle.turns.specs.Adds.{addsWithoutRow}
-use Rattle.casemaster.proofs.RowsLaws.{IsWide, Fit}
+use Rattle.casemaster.proofs.RowsLaws.{Fit}
 use Rattle.judging.specs.Setting.{settingOf}
 use Rattle.turns.specs.Settings.{Settings, settingUnder}
 use Rattle.layout.specs.Key.{isOwnKey}
 use Rattle.onecase.proofs.JudgementLaws.{judged-alone}
-
--- ---- how many rows there are at the end
-
-pub final-few : (settings : Settings) → isLocalList (settings .list) ≡ true → (rows details : List (List ℕ)) → All IsRecord details
-    → All IsWide rows → areSoundRows rows ≡ true → length (finalRows settings rows details) ≤ length rows + addsWithoutRow rows details
-unfolding finalRows addsWithoutRow
-final-few settings l rows [] a w s = omega arith
-final-few settings l rows (d ∷ details) a w s =
-    omega (
-      arith,
-      final-few settings l (afterDetail settings rows d) details (a .1) (after-wide settings rows d (a .0) w) (after-sound settings rows d (a .0) l w s),
-      room-after settings rows d (a .0) w s details,
-    )
 
 -- ---- the details in key order
 

@@ -25,8 +25,7 @@ use Rattle.turns.specs.Under.{detailsUnder, runRow}
 use Rattle.turns.specs.Settings.{Settings, settingUnder}
 use Rattle.turns.specs.Adds.{addsWithoutRow}
 use Rattle.turns.proofs.TurnsLaws.{none-stays}
-use Rattle.turns.proofs.UnderLaws.{found-final}
-use Rattle.keywalk.proofs.WorkLaws.{final-few}
+use Rattle.turns.proofs.UnderLaws.{found-final, final-few}
 use Rattle.journal.proofs.LengthLaws.{entryCount, count-stored, count-start}
 use Rattle.takeback.specs.Theorem.{AreWide, Follows, IsLeftBy}
 use Rattle.batch.specs.Call.{Call, callSettings}

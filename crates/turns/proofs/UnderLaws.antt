@@ -1,6 +1,6 @@
--- Laws of a key's details: the row that a batch leaves under a key, and its verdicts under it, are those of the machine's run; and only keys
--- of twelve bytes have details. Assumes nothing.
-use Prim.Native.Nat.{ℕ, suc}
+-- Laws of a key's details: the row that a batch leaves under a key, and its verdicts under it, are those of the machine's run; only keys of
+-- twelve bytes have details; and how many verdicts and rows there are at the end. Assumes nothing.
+use Prim.Native.Nat.{ℕ, suc, _+_, _≤_}
 use mathlib.Core.Path.{_≡_, refl, ap, _∙_, subst}
 use mathlib.Core.Logic.{_⊎_, inl, inr}
 use mathlib.Core.Bool.{Bool, true, false, cond}
@@ -9,6 +9,7 @@ use native.Mathlib.Omega.{arith}
 use lib.Dec.{lit≤}
 use lib.ListN.{length, length-append}
 use Rattle.layout.specs.Locals.{isLocalList}
+use Rattle.casemaster.specs.Master.{areSoundRows}
 use Rattle.casemaster.specs.Rows.{rowWith}
 use Rattle.text.proofs.FieldsLaws.{length-columns}
 use Rattle.text.proofs.SameLaws.{same-eq}
@@ -17,9 +18,10 @@ use Rattle.onecase.specs.Verdict.{Judgement, judgement}
 use Rattle.onecase.specs.Machine.{next}
 use Rattle.turns.specs.Turns.{afterDetail, verdictOn, finalRows, verdictsOn}
 use Rattle.text.proofs.WidthLaws.{All}
-use Rattle.turns.proofs.TurnsLaws.{after-here, after-other, after-fit, after-wide}
+use Rattle.turns.proofs.TurnsLaws.{after-here, after-other, after-fit, after-wide, after-sound, room-after}
 use Rattle.turns.specs.Under.{isUnder, detailsUnder, verdictsUnder, runRow, runVerdicts, IsKey}
 use Rattle.casemaster.proofs.RowsLaws.{IsWide, Fit}
+use Rattle.turns.specs.Adds.{addsWithoutRow}
 use Rattle.turns.specs.Settings.{Settings, settingUnder}
 
 -- a record is 245 bytes
@@ -106,3 +108,16 @@ module _ (settings : Settings) where
   unfolding verdictsOn
   length-verdicts rows [] = refl
   length-verdicts rows (d ∷ details) = ap suc (length-verdicts (afterDetail settings rows d) details)
+
+-- ---- how many rows there are at the end
+
+pub final-few : (settings : Settings) → isLocalList (settings .list) ≡ true → (rows details : List (List ℕ)) → All IsRecord details
+    → All IsWide rows → areSoundRows rows ≡ true → length (finalRows settings rows details) ≤ length rows + addsWithoutRow rows details
+unfolding finalRows addsWithoutRow
+final-few settings l rows [] a w s = omega arith
+final-few settings l rows (d ∷ details) a w s =
+    omega (
+      arith,
+      final-few settings l (afterDetail settings rows d) details (a .1) (after-wide settings rows d (a .0) w) (after-sound settings rows d (a .0) l w s),
+      room-after settings rows d (a .0) w s details,
+    )
