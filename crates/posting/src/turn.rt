@@ -21,10 +21,12 @@ pub fn post_row(row: [u8; 200], line: &[u8]) -> Turn
     ensures { λ r. ⌜ IsTurn (now (line .entry)) row r ⌝ }
 {
     let amounts = line::read_amounts(line);
-    if !amounts.right {
+    let right = amounts.right;
+    if !right {
         return Turn { posted: false, row };
     }
-    if !row::is_live(&row) {
+    let live = row::is_live(&row);
+    if !live {
         return Turn { posted: false, row };
     }
     let collection = amounts.collection;

@@ -12,9 +12,11 @@ read-amounts-requires c κs = search needs
 
 returns : tie.Need-returns
 returns c =
-    let line = c .before .before .before .before .args .line .now in
-    let row = c .before .before .before .before .args .t1 in
-    left-turn line row _ refl refl (not-right line row (sym (c .before .before .read-amounts .ensures .right-is) ∙ not-true _ (c .if1 .taken)))
+    let m = c .before in
+    let a = m .before .before .args in
+    let line = a .line .now in
+    let row = a .t1 in
+    left-turn line row _ refl refl (not-right line row (sym (m .read-amounts .ensures .right-is) ∙ not-true _ (c .if1 .taken)))
 
 slice-aggregate-is-live : tie.Need-slice-aggregate-is-live
 slice-aggregate-is-live c = search needs
@@ -24,10 +26,14 @@ is-live-requires c κs = search needs
 
 returns-2 : tie.Need-returns-2
 returns-2 c =
-    let line = c .before .before .before .before .before .before .before .args .line .now in
-    let row = c .before .before .before .before .before .before .before .args .t1 in
+    let l = c .before in
+    let i = l .before .before in
+    let m = i .before in
+    let a = m .before .before .args in
+    let line = a .line .now in
+    let row = a .t1 in
     left-turn line row _ refl refl
-    (not-live line row (sym (c .before .before .before .before .before .read-amounts .ensures .right-is) ∙ not-false _ (c .before .before .before .if1 .left)) (sym (c .before .is-live .ensures) ∙ not-true _ (c .if2 .taken)))
+    (not-live line row (sym (m .read-amounts .ensures .right-is) ∙ not-false _ (i .if1 .left)) (sym (l .is-live .ensures) ∙ not-true _ (c .if2 .taken)))
 
 slice-aggregate-balance-of : tie.Need-slice-aggregate-balance-of
 slice-aggregate-balance-of c = search needs
@@ -40,12 +46,17 @@ sub-if3 c = search needs
 
 returns-3 : tie.Need-returns-3
 returns-3 c =
-    let line = c .before .before .before .before .before .before .before .before .before .before .before .before .before .before .args .line .now in
-    let row = c .before .before .before .before .before .before .before .before .before .before .before .before .before .before .args .t1 in
+    let b = c .before .before .before in
+    let j = b .before .before .before .before in
+    let l = j .before in
+    let i = l .before .before in
+    let m = i .before in
+    let a = m .before .before .args in
+    let line = a .line .now in
+    let row = a .t1 in
     left-turn line row _ refl refl
-    (too-much line row (sym (c .before .before .before .before .before .before .before .before .before .before .before .before .read-amounts .ensures .right-is) ∙ not-false _ (c .before .before .before .before .before .before .before .before .before .before .if1 .left))
-    (sym (c .before .before .before .before .before .before .before .before .is-live .ensures) ∙ not-false _ (c .before .before .before .before .before .before .before .if2 .left))
-    (omega (arith, c .if3 .taken, c .before .before .before .balance-of .ensures .0, c .before .before .before .balance-of .ensures .1, c .before .before .before .before .before .before .before .before .before .before .before .before .read-amounts .ensures .adjustment-is)))
+    (too-much line row (sym (m .read-amounts .ensures .right-is) ∙ not-false _ (i .if1 .left)) (sym (l .is-live .ensures) ∙ not-false _ (j .if2 .left))
+    (omega (arith, c .if3 .taken, b .balance-of .ensures .0, b .balance-of .ensures .1, m .read-amounts .ensures .adjustment-is)))
 
 balance-after-requires : tie.Need-balance-after-requires
 balance-after-requires c κs = search needs
@@ -55,14 +66,21 @@ with-balance-requires c κs = search needs
 
 returns-4 : tie.Need-returns-4
 returns-4 c =
-    let line = c .before .before .before .before .before .before .before .before .before .before .before .before .before .before .before .before .args .line .now in
-    let row = c .before .before .before .before .before .before .before .before .before .before .before .before .before .before .before .before .args .t1 in
-    let m = c .before .before .before .before .before .before .before .before .before .before .before .before .before .before .read-amounts .ensures in
-    posted-turn line row _ (c .before .balance-after .result .0) refl (c .with-balance .ensures)
-    (c .before .balance-after .ensures ∙ rw (c .before .before .before .before .before .balance-of .ensures .0, m .adjustment-is, m .collection-is))
-    (is-posted line row (sym (m .right-is) ∙ not-false _ (c .before .before .before .before .before .before .before .before .before .before .before .before .if1 .left))
-    (sym (c .before .before .before .before .before .before .before .before .before .before .is-live .ensures) ∙ not-false _ (c .before .before .before .before .before .before .before .before .before .if2 .left))
-    (omega (arith, c .before .before .if3 .left, c .before .before .before .before .before .balance-of .ensures .0, c .before .before .before .before .before .balance-of .ensures .1, m .adjustment-is)))
+    let n = c .before in
+    let k = n .before in
+    let b = k .before .before .before in
+    let j = b .before .before .before .before in
+    let l = j .before in
+    let i = l .before .before in
+    let m = i .before in
+    let a = m .before .before .args in
+    let line = a .line .now in
+    let row = a .t1 in
+    let r = m .read-amounts .ensures in
+    posted-turn line row _ (n .balance-after .result .0) refl (c .with-balance .ensures)
+    (n .balance-after .ensures ∙ rw (b .balance-of .ensures .0, r .adjustment-is, r .collection-is))
+    (is-posted line row (sym (r .right-is) ∙ not-false _ (i .if1 .left)) (sym (l .is-live .ensures) ∙ not-false _ (j .if2 .left))
+    (omega (arith, k .if3 .left, b .balance-of .ensures .0, b .balance-of .ensures .1, r .adjustment-is)))
 
 pub post-row-spec : {M : Type 1} → statement M
 post-row-spec =
