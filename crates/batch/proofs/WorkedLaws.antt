@@ -77,7 +77,8 @@ module _ (c : Call) (k : Known c) (limit-is : c .limit ≡ maxRows) where
           let o = m .own-worked in
           let fit : Fit rows = record { wide = blocks-wide 200 (c .rows) (c .master) (k .rows-in); sound = k .sound } in
           let t = alone-there (settingsOf state (c .year) (c .locals) details) (o .ordered) fit (k .list) numbers₁ (o .width) (o .verdicts) (o .behind) in
-          record { own-in = t .0; slots = t .1; there = t .2; batch-in = k .batch-in; space = k .space }
+          let b = k .batch-passed in
+          record { own-in = t .0; slots = t .1; there = t .2; batch-in = k .batch-in; totals = b .totals; counts = b .counts; space = k .space }
 
       pub all-worked : state ≡ submittingState (c .batch) → (verdicts₂ rejects₂ : List ℕ) (p : Progress)
           → VerdictsNoted (fixedOf state (c .year) (c .locals) (c .batch) own end) numbers₁ (c .rejects) verdicts₂ rejects₂ p

@@ -9,7 +9,8 @@ use mathlib.Core.List.{List}
 use lib.ListN.{length, drop, getD}
 use Rattle.text.specs.Blocks.{blocks}
 use Rattle.layout.specs.Locals.{isLocalList}
-use Rattle.layout.specs.Batch.{detailCount}
+use Rattle.layout.specs.Batch.{detailCount, detailsOf, controlOf}
+use Rattle.batchfile.specs.Totals.{hasTotals, areCountsRight}
 use Rattle.casemaster.specs.Master.{rowsOf, areSoundRows}
 use Rattle.onecase.specs.Verdict.{noJudgement}
 use Rattle.keyorder.specs.Tagged.{indexPart, indexParts}
@@ -76,12 +77,14 @@ pub record RowsMoved (f : Fixed) (master : List ℕ) (n : ℕ) (numbers : List �
   pub own-worked : OwnWorked f master n numbers numbers′
   pub wrote : Wrote journal 0 (wholeJournal wanted (rowsOf n master) (rowsOf (f .end) master′)) journal′ written
 
--- what noting is given: records for the numbers behind those of own keys, and space
+-- what noting is given: records for the numbers behind those of own keys, a control record whose counts are right, and space
 pub record NoteReady (f : Fixed) (numbers rejects : List ℕ) : Type 0 where
   pub own-in : f .own ≤ f .count
   pub slots : f .count ≤ length numbers
   pub there : (q : ℕ) → f .own ≤ q → q < f .count → indexPart (getD numbers q 0) * 245 + 245 ≤ length (f .batch)
   pub batch-in : f .count * 245 + 245 ≤ length (f .batch)
+  pub totals : hasTotals (controlOf (f .batch)) ≡ true
+  pub counts : areCountsRight (controlOf (f .batch)) (detailsOf (f .batch)) ≡ true
   pub space : (f .count + 1) * 245 ≤ length rejects
 
 -- what it leaves, on whatever rows the details of own keys were worked: all verdicts written, from the numbers as they were in key order

@@ -1,5 +1,6 @@
 // All details of a batch worked, key by key, in three parts: the details arranged, the rows moved, the verdicts noted. Where a journal is wanted
 // it is written.
+use batchfile::stated;
 use casemaster::master;
 use journal::writing;
 use journalwalk::walk;
@@ -129,7 +130,16 @@ fn note_verdicts(
     let d = batch.len() / 245 - 1;
     worked::work_alone(batch, numbers, own, d, state, year, list);
     batch_order::put_back(numbers, d);
-    verdicts::write_verdicts(rows, batch, d, numbers, rejects)
+    let counts = stated::case_counts(batch);
+    verdicts::write_verdicts(
+        rows,
+        batch,
+        d,
+        counts.tanf,
+        counts.non_tanf,
+        numbers,
+        rejects,
+    )
 }
 
 // All details worked: what that leaves is what each in turn leaves.

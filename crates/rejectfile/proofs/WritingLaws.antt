@@ -2,7 +2,7 @@
 -- From the start, over one detail, to the end. Assumes nothing.
 use Prim.Native.Nat.{ℕ, _+_, _*_, _^_, _≤_, _<_}
 use mathlib.Core.Path.{_≡_, refl, sym, ap, _∙_, subst}
-use mathlib.Core.Bool.{Bool, not, _&&_, Bool·not-not}
+use mathlib.Core.Bool.{Bool, true, false, not, _&&_, Bool·not-not, and-true, and-false}
 use mathlib.Core.List.{List, [], _∷_, _++_, append-assoc, append-nil}
 use native.Mathlib.Nat.{add-zero}
 use native.Mathlib.Numerals.{add-one}
@@ -15,21 +15,25 @@ use Rattle.text.specs.Blocks.{blocks}
 use Rattle.layout.specs.Codes.{numberOfCodes}
 use Rattle.text.proofs.BlocksLaws.{length-blocks, blocks-next, kept-further}
 use Rattle.layout.proofs.CodesLaws.{number-codes}
+use Rattle.text.specs.Characters.{A, N}
+use Rattle.batchfile.specs.Totals.{countOf}
+use Rattle.batchfile.specs.TotalsParts.{countIn}
+use Rattle.batchfile.proofs.TotalsLaws.{count-sum}
 use Rattle.onecase.specs.Verdict.{Judgement, isEmpty, isRejected, isWarned, meaning, saysAccepted, noJudgement}
 use Rattle.onecase.specs.declared.verdict.Verdict.{Verdict}
 use Rattle.judging.proofs.CodeSums.{number-none}
-use Rattle.onecase.proofs.JudgedLaws.{Judged, judged}
+use Rattle.onecase.proofs.JudgedLaws.{Judged, judged, rejected-some}
 use Rattle.keywork.specs.Packed.{Packed, IsJudged, IsVerdictIn, HoldsVerdicts}
 use Rattle.rejectfile.specs.Rejects.{numberOf, numbers, rejectRecord, ifAny, rejectRecords}
 use Rattle.rejectfile.specs.Counts.{Counts, countsOf}
-use Rattle.rejectfile.specs.Tally.{countsIn, plus, oneDetail, AtMost}
+use Rattle.rejectfile.specs.Tally.{countsIn, plus, oneDetail, AtMost, addedBy, allAccepted, startTally, CodedAtMost}
 use Rattle.rejectfile.specs.Answers.{setIn}
 use Rattle.rejectfile.specs.Written.{VerdictsWritten}
 use Rattle.rejectfile.specs.declared.counts.Tally.{Tally}
 use Rattle.rejectfile.specs.declared.verdicts.Progress.{Progress}
 use Rattle.rejectfile.proofs.RejectsLaws.{codes-in}
-use Rattle.rejectfile.proofs.CountsLaws.{counts-cons, plus-assoc, counts-none, none-plus, plus-none}
-use Rattle.rejectfile.specs.Recorded.{Recorded, noTally}
+use Rattle.rejectfile.proofs.CountsLaws.{counts-cons, plus-comm, plus-cancel, counts-none, plus-none, start-accepted, types-few}
+use Rattle.rejectfile.specs.Recorded.{Recorded}
 
 -- the first number of what is kept is kept
 kept-first : (a b : List ℕ) (i : ℕ) → drop i a ≡ drop i b → getD a i 0 ≡ getD b i 0
@@ -51,9 +55,9 @@ module _ (v : Verdict) (j : Judgement) (e : meaning v ≡ j) (f : setIn v < 2 ^ 
   pub set-number : setIn v ≡ numberOf j
   set-number = sym (number-codes (setIn v) f) ∙ ap numberOfCodes (sym (codes-in v)) ∙ ap numberOf e
 
-  pub adds-verdict : (rec : List ℕ) → saysAccepted v ≡ not (isRejected j) → IsJudged j
+  adds-accepted : (rec : List ℕ) → saysAccepted v ≡ not (isRejected j) → IsJudged j
       → oneDetail rec (not (saysAccepted v)) (saysAccepted v && not (eqb (setIn v) 0)) ≡ oneDetail rec (isRejected j) (isWarned j)
-  adds-verdict rec a g =
+  adds-accepted rec a g =
       let r : not (saysAccepted v) ≡ isRejected j = ap not a ∙ Bool·not-not (isRejected j) in
       let w : (saysAccepted v && not (eqb (setIn v) 0)) ≡ isWarned j =
       ap (λ (b : Bool). b && not (eqb (setIn v) 0)) a
@@ -62,13 +66,48 @@ module _ (v : Verdict) (j : Judgement) (e : meaning v ≡ j) (f : setIn v < 2 ^ 
       ∙ sym (judged-warned j g) in
       ap (λ (b : Bool). oneDetail rec b (saysAccepted v && not (eqb (setIn v) 0))) r ∙ ap (oneDetail rec (isRejected j)) w
 
+  -- without a code there is no error
+  not-rejected : eqb (setIn v) 0 ≡ true → isRejected j ≡ false
+  not-rejected z =
+      let none : j .codes ≡ [] = go (j .codes) (sym (any-code (j .codes)) ∙ ap (λ (n : ℕ). eqb n 0) (sym set-number) ∙ z) in
+      by (isRejected j) refl none
+    where
+      go : (cs : List ℕ) → isEmpty cs ≡ true → cs ≡ []
+      go [] e = refl
+      go (c ∷ cs) e = cc
+
+      by : (b : Bool) → isRejected j ≡ b → j .codes ≡ [] → b ≡ false
+      by true t none = absurd (rejected-some j t none)
+      by false t none = refl
+
+  pub adds-verdict : (rec : List ℕ) → saysAccepted v ≡ not (isRejected j) → IsJudged j
+      → addedBy rec (saysAccepted v) (not (eqb (setIn v) 0)) ≡ oneDetail rec (isRejected j) (isWarned j)
+  adds-verdict rec a g = go (eqb (setIn v) 0) refl
+    where
+      go : (z : Bool) → eqb (setIn v) 0 ≡ z → addedBy rec (saysAccepted v) (not z) ≡ oneDetail rec (isRejected j) (isWarned j)
+      go true z =
+          let r = not-rejected z in
+          let w : isWarned j ≡ false = judged-warned j g ∙ rw (← any-code (j .codes), ← set-number, z, and-false (not (isRejected j))) in
+          rw (r, w)
+      go false z =
+          ap (oneDetail rec (not (saysAccepted v))) (sym (and-true (saysAccepted v)) ∙ rw z)
+          ∙ adds-accepted rec a g
+
 -- ---- the invariant
 
--- what stands in the buffers and what is left to write of the verdicts
+-- what stands in the buffers and what is left to write of the verdicts; the details left are counted as accepted
 pub record LeftOf (details : List (List ℕ)) (verdicts : List Judgement) (v rj : List ℕ) (k : ℕ) (t : Tally) (i : ℕ) : Type 0 where
   pub numbers-same : take i v ++ numbers (drop i verdicts) ≡ numbers verdicts
   pub rejects-same : blocks 245 k rj ++ rejectRecords (drop i details) (drop i verdicts) ≡ rejectRecords details verdicts
-  pub counts-same : plus (countsIn t) (countsOf (drop i details) (drop i verdicts)) ≡ countsOf details verdicts
+  pub counts-same : plus (countsIn t) (countsOf (drop i details) (drop i verdicts)) ≡ plus (countsOf details verdicts) (allAccepted (drop i details))
+
+-- those left stand among the accepted, and no count of these passes n
+pub record Holding (details : List (List ℕ)) (n : ℕ) (t : Tally) : Type 0 where
+  pub tanf : countOf A details ≤ t .«tanf_accepted»
+  pub non-tanf : countOf N details ≤ t .«non_tanf_accepted»
+  pub tanf-few : t .«tanf_accepted» ≤ n
+  pub non-tanf-few : t .«non_tanf_accepted» ≤ n
+  pub neither-few : t .neither ≤ n
 
 pub record Writing (rows : ℕ) (batch : List ℕ) (d : ℕ) (v₀ rj₀ v rj : List ℕ) (s : Progress) (i : ℕ) : Type 0 where
   pub turns : i ≤ d
@@ -76,7 +115,8 @@ pub record Writing (rows : ℕ) (batch : List ℕ) (d : ℕ) (v₀ rj₀ v rj : 
   pub len-v : length v ≡ length v₀
   pub len-r : length rj ≡ length rj₀
   pub used : s .rejects ≤ i
-  pub counted : AtMost i (s .tally)
+  pub coded : CodedAtMost i (s .tally)
+  pub accepted : Holding (drop i (blocks 245 d batch)) d (s .tally)
   pub kept-v : drop i v ≡ drop i v₀
   pub kept-r : drop (s .rejects * 245) rj ≡ drop (s .rejects * 245) rj₀
   pub left : (verdicts : List Judgement) → HoldsVerdicts d v₀ verdicts → LeftOf (blocks 245 d batch) verdicts v rj (s .rejects) (s .tally) i
@@ -85,40 +125,53 @@ module _ (rows : ℕ) (batch : List ℕ) (d : ℕ) (v₀ rj₀ : List ℕ) where
   abbrev ds : List (List ℕ)
   ds = blocks 245 d batch
 
-  left-start : (verdicts : List Judgement) → LeftOf ds verdicts v₀ rj₀ 0 noTally 0
+  count : length ds ≡ d
+  count = length-blocks 245 d batch
+
+  abbrev start : Tally
+  start = startTally (countOf A ds) (countOf N ds) d
+
+  -- no more of both case types than details
+  pub types-fit : (tanf nonTanf : ℕ) → tanf ≡ countOf A ds → nonTanf ≡ countOf N ds → tanf + nonTanf ≤ d
+  types-fit tanf nonTanf a n = omega (arith, types-few ds, count, a, n)
+
+  left-start : (verdicts : List Judgement) → LeftOf ds verdicts v₀ rj₀ 0 start 0
   unfolding blocks
   left-start verdicts =
+      let e : countsIn start ≡ allAccepted ds = ap (λ (z : ℕ). countsIn (startTally (countOf A ds) (countOf N ds) z)) (sym count) ∙ start-accepted ds in
       record {
         numbers-same = refl;
         rejects-same = refl;
-        counts-same = none-plus (countsOf ds verdicts);
+        counts-same = ap (λ (z : Counts). plus z (countsOf ds verdicts)) e ∙ plus-comm (allAccepted ds) (countsOf ds verdicts);
       }
 
-  none-counted : AtMost 0 noTally
-  none-counted =
+  start-holds : Holding ds d start
+  start-holds =
+      let f = types-few ds in
       record {
-        a = omega arith;
-        b = omega arith;
-        c = omega arith;
-        d = omega arith;
-        e = omega arith;
-        f = omega arith;
-        g = omega arith;
+        tanf = omega arith;
+        non-tanf = omega arith;
+        tanf-few = omega (arith, f, count);
+        non-tanf-few = omega (arith, f, count);
+        neither-few = omega arith;
       }
 
-  pub writing-start : (t : Tally) → t ≡ noTally → Writing rows batch d v₀ rj₀ v₀ rj₀ (record { rows = rows; rejects = 0; tally = t }) 0
-  writing-start t e =
-      record {
-        turns = omega arith;
-        rows-is = refl;
-        len-v = refl;
-        len-r = refl;
-        used = omega arith;
-        counted = subst (AtMost 0) (sym e) none-counted;
-        kept-v = refl;
-        kept-r = refl;
-        left = λ verdicts h. subst (λ (x : Tally). LeftOf ds verdicts v₀ rj₀ 0 x 0) (sym e) (left-start verdicts);
-      }
+  module _ (tanf nonTanf : ℕ) (ta : tanf ≡ countOf A ds) (na : nonTanf ≡ countOf N ds) where
+    pub writing-start : (t : Tally) → t ≡ startTally tanf nonTanf d → Writing rows batch d v₀ rj₀ v₀ rj₀ (record { rows = rows; rejects = 0; tally = t }) 0
+    writing-start t e =
+        let f : t ≡ start = e ∙ rw (ta, na) in
+        record {
+          turns = omega arith;
+          rows-is = refl;
+          len-v = refl;
+          len-r = refl;
+          used = omega arith;
+          coded = subst (CodedAtMost 0) (sym f) (record { a = omega arith; b = omega arith; c = omega arith; d = omega arith });
+          accepted = subst (Holding ds d) (sym f) start-holds;
+          kept-v = refl;
+          kept-r = refl;
+          left = λ verdicts h. subst (λ (x : Tally). LeftOf ds verdicts v₀ rj₀ 0 x 0) (sym f) (left-start verdicts);
+        }
 
   module _ (v rj : List ℕ) (s : Progress) (i : ℕ) (g : Writing rows batch d v₀ rj₀ v rj s i) (l : i < d) (in-v : d ≤ length v₀)
       (w : Verdict) (iv : IsVerdictIn (getD v i 0) w) (v′ rj′ : List ℕ) (r : Progress) where
@@ -127,6 +180,16 @@ module _ (rows : ℕ) (batch : List ℕ) (d : ℕ) (v₀ rj₀ : List ℕ) where
 
     rest-is : drop i ds ≡ rec ∷ drop (i + 1) ds
     rest-is = blocks-next 245 d batch i l
+
+    -- it stands among the accepted
+    type-there : (caseType : ℕ) → countOf caseType (drop i ds) ≡ countIn caseType rec + countOf caseType (drop (i + 1) ds)
+    type-there caseType = ap (countOf caseType) rest-is ∙ count-sum caseType .more rec (drop (i + 1) ds)
+
+    pub stands-tanf : countIn A rec ≤ s .tally .«tanf_accepted»
+    stands-tanf = omega (arith, type-there A, g .accepted .tanf)
+
+    pub stands-non-tanf : countIn N rec ≤ s .tally .«non_tanf_accepted»
+    stands-non-tanf = omega (arith, type-there N, g .accepted .non-tanf)
 
     module _ (u : Recorded rec w s i v rj r v′ rj′) where
       module _ (verdicts : List Judgement) (h : HoldsVerdicts d v₀ verdicts) where
@@ -163,18 +226,32 @@ module _ (rows : ℕ) (batch : List ℕ) (d : ℕ) (v₀ rj₀ : List ℕ) where
             let y : blocks 245 (s .rejects) rj ++ rejectRecords (rec ∷ drop (i + 1) ds) (vd ∷ later) ≡ rejectRecords ds verdicts = rw (verdicts-are, rest-is) at (g .left verdicts h .rejects-same) in
             rw b (append-assoc (blocks 245 (s .rejects) rj) (ifAny (vd .codes) (rejectRecord rec vd)) (rejectRecords (drop (i + 1) ds) later) ∙ y)
 
-        counts-go : plus (countsIn (r .tally)) (countsOf (drop (i + 1) ds) later) ≡ countsOf ds verdicts
+        counts-go : plus (countsIn (r .tally)) (countsOf (drop (i + 1) ds) later) ≡ plus (countsOf ds verdicts) (allAccepted (drop (i + 1) ds))
+        unfolding allAccepted
         counts-go =
-            let b : countsIn (r .tally) ≡ plus (countsIn (s .tally)) (oneDetail rec (isRejected vd) (isWarned vd)) =
-            u .counts-are ∙ ap (plus (countsIn (s .tally))) (adds-verdict w vd means (u .fits) rec says (h .judged i l)) in
-            let y : plus (countsIn (s .tally)) (countsOf (rec ∷ drop (i + 1) ds) (vd ∷ later)) ≡ countsOf ds verdicts = rw (verdicts-are, rest-is) at (g .left verdicts h .counts-same) in
-            ap (λ (z : Counts). plus z (countsOf (drop (i + 1) ds) later)) b
-            ∙ plus-assoc (countsIn (s .tally)) (oneDetail rec (isRejected vd) (isWarned vd)) (countsOf (drop (i + 1) ds) later)
-            ∙ ap (plus (countsIn (s .tally))) (sym (counts-cons rec (drop (i + 1) ds) vd later))
-            ∙ y
+            let clean : Counts = oneDetail rec false false in
+            let own : Counts = oneDetail rec (isRejected vd) (isWarned vd) in
+            let b : plus (countsIn (r .tally)) clean ≡ plus (countsIn (s .tally)) own =
+            u .counted .counts-are ∙ ap (plus (countsIn (s .tally))) (adds-verdict w vd means (u .fits) rec says (h .judged i l)) in
+            let y : plus (countsIn (s .tally)) (countsOf (rec ∷ drop (i + 1) ds) (vd ∷ later)) ≡ plus (countsOf ds verdicts) (allAccepted (rec ∷ drop (i + 1) ds)) =
+            rw (verdicts-are, rest-is) at (g .left verdicts h .counts-same) in
+            plus-cancel (countsIn (r .tally)) clean (countsIn (s .tally)) own (countsOf (drop (i + 1) ds) later) (countsOf ds verdicts) (allAccepted (drop (i + 1) ds)) b
+            (ap (plus (countsIn (s .tally))) (sym (counts-cons rec (drop (i + 1) ds) vd later)) ∙ y)
 
         left-next : LeftOf ds verdicts v′ rj′ (r .rejects) (r .tally) (i + 1)
         left-next = record { numbers-same = numbers-go; rejects-same = rejects-go; counts-same = counts-go }
+
+      holding-next : Holding (drop (i + 1) ds) d (r .tally)
+      holding-next =
+          let k = u .counted in
+          let a = g .accepted in
+          record {
+            tanf = omega (arith, type-there A, a .tanf, k .tanf-low);
+            non-tanf = omega (arith, type-there N, a .non-tanf, k .non-tanf-low);
+            tanf-few = omega (arith, a .tanf-few, k .tanf-high);
+            non-tanf-few = omega (arith, a .non-tanf-few, k .non-tanf-high);
+            neither-few = omega (arith, a .neither-few, k .neither-is);
+          }
 
       pub writing-next : length v′ ≡ length v → length rj′ ≡ length rj → Writing rows batch d v₀ rj₀ v′ rj′ r (i + 1)
       writing-next lv lr =
@@ -184,7 +261,8 @@ module _ (rows : ℕ) (batch : List ℕ) (d : ℕ) (v₀ rj₀ : List ℕ) where
             len-v = lv ∙ g .len-v;
             len-r = lr ∙ g .len-r;
             used = omega (arith, u .rejects-high, g .used);
-            counted = u .counted;
+            coded = u .counted .coded-few;
+            accepted = holding-next;
             kept-v = ap (drop (i + 1)) (u .number-is) ∙ drop-set-lt (i + 1) v i (setIn w) (omega arith) ∙ kept-further v v₀ i (i + 1) (omega arith) (g .kept-v);
             kept-r = u .rejects-are .rest-kept ∙ kept-further rj rj₀ (s .rejects * 245) (r .rejects * 245) (omega (arith, u .rejects-low)) (g .kept-r);
             left = left-next;
@@ -200,7 +278,16 @@ module _ (rows : ℕ) (batch : List ℕ) (d : ℕ) (v₀ rj₀ : List ℕ) where
     writing-few = omega (arith, g .used, g .turns)
 
     pub writing-counted : AtMost d (s .tally)
-    writing-counted = subst (λ (z : ℕ). AtMost z (s .tally)) all (g .counted)
+    writing-counted =
+        record {
+          a = g .accepted .tanf-few;
+          b = omega (arith, all, g .coded .a);
+          c = g .accepted .non-tanf-few;
+          d = omega (arith, all, g .coded .b);
+          e = omega (arith, all, g .coded .c);
+          f = omega (arith, all, g .coded .d);
+          g = g .accepted .neither-few;
+        }
 
     none-left : drop i ds ≡ []
     none-left = drop-of-length-le ds {i = i} (rw (length-blocks 245 d batch) l)
@@ -218,9 +305,11 @@ module _ (rows : ℕ) (batch : List ℕ) (d : ℕ) (v₀ rj₀ : List ℕ) where
       done-rejects = sym (append-nil (blocks 245 (s .rejects) rj)) ∙ (rw none-left at (g .left verdicts h .rejects-same))
 
       done-counts : countsIn (s .tally) ≡ countsOf ds verdicts
+      unfolding allAccepted
       done-counts =
-          let y : plus (countsIn (s .tally)) (countsOf [] (drop i verdicts)) ≡ countsOf ds verdicts = rw none-left at (g .left verdicts h .counts-same) in
-          sym (plus-none (countsIn (s .tally))) ∙ ap (plus (countsIn (s .tally))) (sym (counts-none (drop i verdicts))) ∙ y
+          let y : plus (countsIn (s .tally)) (countsOf [] (drop i verdicts)) ≡ plus (countsOf ds verdicts) (allAccepted []) =
+          rw none-left at (g .left verdicts h .counts-same) in
+          sym (plus-none (countsIn (s .tally))) ∙ ap (plus (countsIn (s .tally))) (sym (counts-none (drop i verdicts))) ∙ y ∙ plus-none (countsOf ds verdicts)
 
       pub writing-done : VerdictsWritten ds verdicts v₀ rj₀ v rj (s .rejects) (s .tally)
       writing-done =
@@ -233,5 +322,5 @@ module _ (rows : ℕ) (batch : List ℕ) (d : ℕ) (v₀ rj₀ : List ℕ) where
             rejects-few = omega (arith, writing-few);
             rejects-kept = g .kept-r;
             counts-are = done-counts;
-            counted = subst (λ (z : ℕ). AtMost z (s .tally)) e (g .counted);
+            counted = subst (λ (z : ℕ). AtMost z (s .tally)) (sym n) writing-counted;
           }

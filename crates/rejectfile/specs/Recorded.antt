@@ -3,16 +3,15 @@
 use Prim.Native.Nat.{ℕ, _+_, _≤_, _<_, _^_}
 use mathlib.Core.Path.{_≡_}
 use mathlib.Core.List.{List, _++_}
-use mathlib.Core.Bool.{not, _&&_}
+use mathlib.Core.Bool.{not}
 use lib.Dec.{eqb}
 use lib.ListN.{set}
 use Rattle.text.specs.Blocks.{blocks, Holds}
 use Rattle.onecase.specs.Verdict.{meaning, saysAccepted}
 use Rattle.onecase.specs.declared.verdict.Verdict.{Verdict}
 use Rattle.rejectfile.specs.Rejects.{rejectRecord, ifAny}
-use Rattle.rejectfile.specs.Tally.{countsIn, plus, oneDetail, AtMost}
+use Rattle.rejectfile.specs.Tally.{Counted}
 use Rattle.rejectfile.specs.Answers.{setIn}
-use Rattle.rejectfile.specs.declared.counts.Tally.{Tally}
 use Rattle.rejectfile.specs.declared.verdicts.Progress.{Progress}
 
 -- a verdict written: its number, its reject record if it has a code, and the counts
@@ -23,19 +22,4 @@ pub record Recorded (rec : List ℕ) (verdict : Verdict) (s : Progress) (i : ℕ
   pub rejects-are : Holds 245 rejects rejects′ (r .rejects) (blocks 245 (s .rejects) rejects ++ ifAny (meaning verdict .codes) (rejectRecord rec (meaning verdict)))
   pub rejects-low : s .rejects ≤ r .rejects
   pub rejects-high : r .rejects ≤ s .rejects + 1
-  pub counts-are : countsIn (r .tally)
-      ≡ plus (countsIn (s .tally)) (oneDetail rec (not (saysAccepted verdict)) (saysAccepted verdict && not (eqb (setIn verdict) 0)))
-  pub counted : AtMost (i + 1) (r .tally)
-
--- no counts yet
-abbrev pub noTally : Tally
-noTally =
-    record {
-      «tanf_accepted» = 0;
-      «tanf_rejected» = 0;
-      «non_tanf_accepted» = 0;
-      «non_tanf_rejected» = 0;
-      «tanf_warned» = 0;
-      «non_tanf_warned» = 0;
-      neither = 0;
-    }
+  pub counted : Counted rec i (saysAccepted verdict) (not (eqb (setIn verdict) 0)) (s .tally) (r .tally)

@@ -2,11 +2,13 @@
 use layout::chart_02;
 use text::fields;
 ghost use mathlib.Core.Path.{_≡_};
-ghost use mathlib.Core.Bool.{not, cond};
+ghost use mathlib.Core.Bool.{true, cond};
 ghost use Prim.Native.Nat.{_+_, _<_, _≤_};
 ghost use lib.ListN.{length};
+ghost use Rattle.text.specs.Characters;
+ghost use Rattle.batchfile.specs.TotalsParts.{countIn};
 ghost use Rattle.rejectfile.specs.Counts.{controlRecord};
-ghost use Rattle.rejectfile.specs.Tally.{countsIn, plus, oneDetail, AtMost};
+ghost use Rattle.rejectfile.specs.Tally.{countsIn, startTally, CodedAtMost, Counted};
 
 // The counts so far.
 pub struct Tally {
@@ -26,22 +28,50 @@ fn one_if(holds: bool) -> u64
     if holds { 1 } else { 0 }
 }
 
-// The counts with one detail more; no count passes n so far.
-pub fn counted(t: Tally, n: u64, rec: &[u8], accepted: bool, warned: bool) -> Tally
-    requires { ⌜ (length (now rec) ≡ 245) × (AtMost n t) × (n < 18446744073709551615) ⌝ }
-    ensures { λ r. ⌜ (countsIn r ≡ plus (countsIn t) (oneDetail (now (rec .entry)) (not accepted) warned)) × (AtMost (n + 1) r) ⌝ }
+// The counts before any code is seen: so many of each case type, all accepted, and the rest of n details of neither.
+pub fn start_tally(tanf: u64, non_tanf: u64, n: u64) -> Tally
+    requires { ⌜ tanf + «non_tanf» ≤ n ⌝ }
+    ensures { λ r. ⌜ r ≡ startTally tanf «non_tanf» n ⌝ }
+{
+    Tally {
+        tanf_accepted: tanf,
+        tanf_rejected: 0,
+        non_tanf_accepted: non_tanf,
+        non_tanf_rejected: 0,
+        tanf_warned: 0,
+        non_tanf_warned: 0,
+        neither: n - tanf - non_tanf,
+    }
+}
+
+// The counts with a detail moved that has codes and stood among the accepted: to the rejected, or it is warned. At most n were before.
+fn moved(t: Tally, n: u64, rec: &[u8], accepted: bool) -> Tally
+    requires { ⌜ (length (now rec) ≡ 245) × CodedAtMost n t × (n < 18446744073709551615)
+        × (countIn Characters.A (now rec) ≤ t .«tanf_accepted») × (countIn Characters.N (now rec) ≤ t .«non_tanf_accepted») ⌝ }
+    ensures { λ r. ⌜ Counted (now (rec .entry)) n accepted true t r ⌝ }
 {
     let tanf = rec[73] == 0xC1;
     let non_tanf = rec[73] == 0xD5;
+    let tanf_out = one_if(tanf & !accepted);
+    let non_tanf_out = one_if(non_tanf & !accepted);
     Tally {
-        tanf_accepted: t.tanf_accepted + one_if(tanf & accepted),
-        tanf_rejected: t.tanf_rejected + one_if(tanf & !accepted),
-        non_tanf_accepted: t.non_tanf_accepted + one_if(non_tanf & accepted),
-        non_tanf_rejected: t.non_tanf_rejected + one_if(non_tanf & !accepted),
-        tanf_warned: t.tanf_warned + one_if(tanf & warned),
-        non_tanf_warned: t.non_tanf_warned + one_if(non_tanf & warned),
-        neither: t.neither + one_if(!(tanf | non_tanf)),
+        tanf_accepted: t.tanf_accepted - tanf_out,
+        tanf_rejected: t.tanf_rejected + tanf_out,
+        non_tanf_accepted: t.non_tanf_accepted - non_tanf_out,
+        non_tanf_rejected: t.non_tanf_rejected + non_tanf_out,
+        tanf_warned: t.tanf_warned + one_if(tanf & accepted),
+        non_tanf_warned: t.non_tanf_warned + one_if(non_tanf & accepted),
+        neither: t.neither,
     }
+}
+
+// The counts with a detail's codes seen, of which at most n had some before; without a code it stays among the accepted, and isn't read.
+pub fn counted(t: Tally, n: u64, rec: &[u8], accepted: bool, coded: bool) -> Tally
+    requires { ⌜ (length (now rec) ≡ 245) × CodedAtMost n t × (n < 18446744073709551615)
+        × (countIn Characters.A (now rec) ≤ t .«tanf_accepted») × (countIn Characters.N (now rec) ≤ t .«non_tanf_accepted») ⌝ }
+    ensures { λ r. ⌜ Counted (now (rec .entry)) n accepted coded t r ⌝ }
+{
+    if coded { moved(t, n, rec, accepted) } else { t }
 }
 
 // The control record of Chart 0-2.

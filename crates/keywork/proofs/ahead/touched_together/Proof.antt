@@ -14,6 +14,9 @@ abbrev μ-loop : tie.MeasureT-loop
 loop-holds : tie.Need-loop-holds Inv-loop μ-loop
 loop-holds c = search needs
 
+add-ahead : tie.Need-add-ahead Inv-loop μ-loop
+add-ahead c = search needs
+
 sub-if1 : tie.Need-sub-if1 Inv-loop μ-loop
 sub-if1 c = search needs
 
@@ -51,6 +54,7 @@ touched-together-spec =
     Inv-loop
     μ-loop
     loop-holds
+    add-ahead
     sub-if1
     returns
     add-touched

@@ -1,6 +1,6 @@
 -- `verdicts::record_verdict`: number, reject record and counts are each written by one call, whose promises are the parts of `Recorded`.
 -- Assumes nothing.
-use mathlib.Core.Path.{refl, ap, _∙_, subst}
+use mathlib.Core.Path.{refl, ap, subst}
 use Prim.Native.Nat.{ℕ, _<_, _^_}
 use lib.ListN.{set}
 use borrow.Author.Needs.{needs}
@@ -43,8 +43,7 @@ returns c =
       rejects-are = c .before .before .put-reject .ensures .0;
       rejects-low = c .before .before .put-reject .ensures .1;
       rejects-high = c .before .before .put-reject .ensures .2;
-      counts-are = c .before .before .before .before .counted .ensures .0 ∙ rw (c .before .before .before .before .before .before .is-accepted .ensures, c .before .before .before .before .before .before .before .set-of .ensures);
-      counted = c .before .before .before .before .counted .ensures .1;
+      counted = rw (← c .before .before .before .before .before .before .is-accepted .ensures, ← c .before .before .before .before .before .before .before .set-of .ensures) (c .before .before .before .before .counted .ensures);
     }
 
 pub record-verdict-spec : {M : Type 1} → statement M
