@@ -73,7 +73,8 @@ fn with_year_text(
 ) -> Applied
     requires { ⌜ (n ≤ 40000) × (40000 ≤ length (now master)) ⌝ }
     ensures { λ r. ⌜ appliedAs r (now (master .exit)) (now (verdicts .exit)) (now (rejects .exit))
-        ≡ byYear (yearIn (now (year .entry))) (now (master .entry)) n (now (batch .entry)) (now (locals .entry)) (now (verdicts .entry)) (now (rejects .entry)) ⌝ }
+        ≡ byYear (yearIn (now (year .entry))) (now (master .entry)) n (now (batch .entry)) (now (locals .entry))
+        (now (verdicts .entry)) (now (rejects .entry)) ⌝ }
 {
     match year::year_of(year) {
         Year::Wrong => Applied::Refused(1),
@@ -96,7 +97,8 @@ pub fn outcome_of(
     rejects: &mut [u8; 24745],
 ) -> Applied
     ensures { λ r. ⌜ appliedAs r (now (master .exit)) (now (verdicts .exit)) (now (rejects .exit))
-        ≡ runOutcome m b l y (now (master .entry)) (now (batch .entry)) (now (locals .entry)) (now (year .entry)) (now (verdicts .entry)) (now (rejects .entry)) ⌝ }
+        ≡ runOutcome m b l y (now (master .entry)) (now (batch .entry)) (now (locals .entry)) (now (year .entry))
+        (now (verdicts .entry)) (now (rejects .entry)) ⌝ }
 {
     if limits::are_refused(m, b, l, y) {
         return Applied::Refused(0);

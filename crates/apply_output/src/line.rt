@@ -66,7 +66,8 @@ fn append_number(out: &mut [u8], at: usize, n: u64) -> usize
 // Writes a word and its number.
 fn append_item(out: &mut [u8], at: usize, word: &[u8], n: u64) -> usize
     requires { ⌜ at + length (now word) + 20 ≤ length (now out) ⌝ }
-    ensures { λ r. ⌜ (Appended (now (out .entry)) at (now (word .entry) ++ decimal n) (now (out .exit)) r) × (r ≤ at + length (now (word .entry)) + 20) ⌝ }
+    ensures { λ r. ⌜ (Appended (now (out .entry)) at (now (word .entry) ++ decimal n) (now (out .exit)) r)
+        × (r ≤ at + length (now (word .entry)) + 20) ⌝ }
 {
     let end = append(out, at, word);
     append_number(out, end, n)

@@ -17,7 +17,8 @@ pub fn order_details(
     numbers: &mut [u64],
 ) -> usize
     requires { ⌜ (d * 245 ≤ length (now batch)) × (d ≤ length (now numbers)) × (d ≤ 2 ^ 24) ⌝ }
-    ensures { λ r. ⌜ DetailsOrdered (now (state .entry)) year (now (list .entry)) (blocks 245 d (now (batch .entry))) d (now (numbers .entry)) (now (numbers .exit)) r ⌝ }
+    ensures { λ r. ⌜ DetailsOrdered (now (state .entry)) year (now (list .entry)) (blocks 245 d (now (batch .entry))) d
+        (now (numbers .entry)) (now (numbers .exit)) r ⌝ }
 {
     tagged::order_tagged(batch, d, state, year, list, numbers);
     runs::own_end(numbers, d)

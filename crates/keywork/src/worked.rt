@@ -93,7 +93,8 @@ pub fn work_run(
     year: u64,
     list: &[u8],
 ) -> Case
-    requires { ⌜ (p ≤ e) × (e ≤ length (now numbers)) × ((q : ℕ) → p ≤ q → q < e → indexPart (getD (now numbers) q 0) * 245 + 245 ≤ length (now batch)) ⌝ }
+    requires { ⌜ (p ≤ e) × (e ≤ length (now numbers))
+        × ((q : ℕ) → p ≤ q → q < e → indexPart (getD (now numbers) q 0) * 245 + 245 ≤ length (now batch)) ⌝ }
     ensures { λ r. ⌜ UnderTags (now (state .entry)) year (now (list .entry)) (now (batch .entry)) (now (numbers .entry)) p e (λ setting.
         RunWorked setting (now (batch .entry)) p e (rowOf case) (rowOf r) (now (numbers .entry)) (now (numbers .exit))) ⌝ }
 {
@@ -120,7 +121,8 @@ pub fn work_alone(
     year: u64,
     list: &[u8],
 )
-    requires { ⌜ (p ≤ e) × (e ≤ length (now numbers)) × ((q : ℕ) → p ≤ q → q < e → indexPart (getD (now numbers) q 0) * 245 + 245 ≤ length (now batch)) ⌝ }
+    requires { ⌜ (p ≤ e) × (e ≤ length (now numbers))
+        × ((q : ℕ) → p ≤ q → q < e → indexPart (getD (now numbers) q 0) * 245 + 245 ≤ length (now batch)) ⌝ }
     ensures { λ _. ⌜ UnderAlone (now (state .entry)) year (now (list .entry)) (now (batch .entry)) (now (numbers .entry)) p e (λ setting.
         AloneWorked setting (now (batch .entry)) p e (now (numbers .entry)) (now (numbers .exit))) ⌝ }
 {

@@ -48,7 +48,8 @@ pub fn is_case_type(b: u8) -> bool
 // four.
 fn is_sound_behind_in(front: u64, back: u64) -> bool
     requires { ⌜ back < 4294967296 ⌝ }
-    ensures { λ r. ⌜ ((key : List ℕ) → length key ≡ 12 → AreBytes key → front ≡ bytesNumber (take 8 key) → back ≡ bytesNumber (take 4 (drop 8 key))
+    ensures { λ r. ⌜ ((key : List ℕ) → length key ≡ 12 → AreBytes key
+        → front ≡ bytesNumber (take 8 key) → back ≡ bytesNumber (take 4 (drop 8 key))
         → r ≡ (not (wrongSsn (columns 3 11 key)) && isCaseType (getD key 11 0))) ⌝ }
 {
     let eight = front % 0x1000000000000 * 0x10000 + back / 0x10000;
@@ -80,7 +81,8 @@ pub fn is_sound_key(key: &[u8]) -> bool
 // Whether a key is sound, given as these two numbers; a state of the table whose number is known already is not looked up again.
 pub fn is_sound_key_in(known: u16, front: u64, back: u64) -> bool
     requires { ⌜ (isStateCode known ≡ true) × (back < 4294967296) ⌝ }
-    ensures { λ r. ⌜ ((key : List ℕ) → length key ≡ 12 → AreBytes key → front ≡ bytesNumber (take 8 key) → back ≡ bytesNumber (take 4 (drop 8 key))
+    ensures { λ r. ⌜ ((key : List ℕ) → length key ≡ 12 → AreBytes key
+        → front ≡ bytesNumber (take 8 key) → back ≡ bytesNumber (take 4 (drop 8 key))
         → r ≡ isSoundKey key) ⌝ }
 {
     if states::is_code_after(known, state_in(front)) {

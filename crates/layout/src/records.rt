@@ -34,7 +34,8 @@ pub fn key_at(batch: &[u8], i: usize) -> [u8; 12]
 // Whether the records at places i and j have one key.
 pub fn same_key_at(batch: &[u8], i: usize, j: usize) -> bool
     requires { ⌜ (i * 245 + 245 ≤ length (now batch)) × (j * 245 + 245 ≤ length (now batch)) ⌝ }
-    ensures { λ r. ⌜ r ≡ sameBytes (recordKey (take 245 (drop (i * 245) (now (batch .entry))))) (recordKey (take 245 (drop (j * 245) (now (batch .entry))))) ⌝ }
+    ensures { λ r. ⌜ r ≡ sameBytes (recordKey (take 245 (drop (i * 245) (now (batch .entry)))))
+        (recordKey (take 245 (drop (j * 245) (now (batch .entry))))) ⌝ }
 {
     let first = i * RECORD_WIDTH;
     let first_end = first + RECORD_WIDTH;

@@ -25,7 +25,8 @@ fn is_unissued(eight: u64, last: u64) -> bool
 
 // Whether error 02 holds of an SSN, given as the number of its first eight bytes and its last byte.
 pub fn wrong_ssn_in(eight: u64, last: u64) -> bool
-    ensures { λ r. ⌜ ((s : List ℕ) → length s ≡ 9 → AreBytes s → eight ≡ bytesNumber (take 8 s) → last ≡ getD s 8 0 → r ≡ wrongSsn s) ⌝ }
+    ensures { λ r. ⌜ ((s : List ℕ) → length s ≡ 9 → AreBytes s → eight ≡ bytesNumber (take 8 s) → last ≡ getD s 8 0
+        → r ≡ wrongSsn s) ⌝ }
 {
     if words::are_eight_digits(eight) & (0xF0 <= last) & (last <= 0xF9) {
         is_unissued(eight, last)

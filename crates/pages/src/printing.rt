@@ -84,7 +84,8 @@ fn close_page(out: &mut [u8], k: usize, rows: usize, ends: bool) -> usize
 
 // Writes the line of a live row, with the heading before it and the foot behind it at a page's borders.
 fn print_row(out: &mut [u8], k: usize, page: u64, rows: usize, row: &[u8]) -> Standing
-    requires { ⌜ (length (now row) ≡ 200) × (rows < 58) × (page < 2 ^ 63) × ((k + length (rowLines page rows (now row))) * 132 ≤ length (now out)) ⌝ }
+    requires { ⌜ (length (now row) ≡ 200) × (rows < 58) × (page < 2 ^ 63)
+        × ((k + length (rowLines page rows (now row))) * 132 ≤ length (now out)) ⌝ }
     ensures { λ r. ⌜ RowPrinted (now (out .entry)) k page rows (now (row .entry)) (now (out .exit)) (r .written) (r .page) (r .rows) ⌝ }
 {
     if !row::is_live(row) {

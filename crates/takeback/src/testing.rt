@@ -44,7 +44,8 @@ fn failed(s: Tested) -> Tested
 
 // Whether a key stands behind the last one, if there is one.
 fn is_after(held: bool, front1: u64, back1: u64, front2: u64, back2: u64) -> bool
-    ensures { λ r. ⌜ ((last : Option (List ℕ)) (key : List ℕ) → IsLastIn held front1 back1 last → IsKeyNumbers key front2 back2 → r ≡ isAfter last key) ⌝ }
+    ensures { λ r. ⌜ ((last : Option (List ℕ)) (key : List ℕ) → IsLastIn held front1 back1 last → IsKeyNumbers key front2 back2
+        → r ≡ isAfter last key) ⌝ }
 {
     if held {
         byte_order::is_twelve_below_in(front1, back1, front2, back2)
