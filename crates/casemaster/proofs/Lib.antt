@@ -1,4 +1,5 @@
 pub mod HalvingLaws
+pub mod KeyRowLaws
 pub mod MovedLaws
 pub mod PassLaws
 pub mod RefusalsLaws

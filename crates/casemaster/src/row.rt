@@ -15,14 +15,12 @@ ghost use Rattle.layout.specs.StateCodes.{isStateCode};
 ghost use Rattle.casemaster.specs.Row.{isLive, isDeletedAt, areFieldsSound, isEndSound, isOldEndSound};
 ghost use Rattle.casemaster.specs.Forms.{isEndSoundIn, isSoundIn};
 
-pub const STATE: Columns = Columns { first: 1, last: 2 };
+// The key's columns are the first of a row.
+pub const STATE: Columns = key::STATE;
 
-pub const SSN: Columns = Columns { first: 3, last: 11 };
+pub const SSN: Columns = key::SSN;
 
-pub const CASE_TYPE: Columns = Columns {
-    first: 12,
-    last: 12,
-};
+pub const CASE_TYPE: Columns = key::CASE_TYPE;
 
 pub const KEY: Columns = Columns { first: 1, last: 12 };
 

@@ -1,6 +1,6 @@
 -- A key is one of a table's exactly where its number is marked; so the unmarked records of a file are those whose key the table lacks.
 -- Assumes nothing.
-use Rattle.text.specs.Options.{oneOrNone}
+use Rattle.text.specs.Options.{oneOrNone, isSome}
 use Rattle.contactrecord.proofs.ContactLaws.{same-soundness}
 use mathlib.Core.Path.{_≡_, refl, sym, ap, _∙_}
 use mathlib.Core.Bool.{Bool, true, false, _||_, cond}
@@ -33,10 +33,6 @@ same-place rec s t u = same-order (contactKey rec) (contactKey s) ∙ go (keys-s
     go (below k o) = ap isEqual o ∙ sym (ne-eqb (keyNumber s) (keyNumber rec) (λ e. omega arith))
     go (level k o) = ap isEqual o ∙ sym (eq-eqb (keyNumber s) (keyNumber rec) (sym k))
     go (above k o) = ap isEqual o ∙ sym (ne-eqb (keyNumber s) (keyNumber rec) (λ e. omega arith))
-
-abbrev isSome : Option (List ℕ) → Bool
-isSome none = false
-isSome (some r) = true
 
 has-key : (k : ℕ) (rows : List (List ℕ)) (rec : List ℕ) → Risen k rows → isContactKey rec ≡ true
     → isOneOf (contactKey rec) (map contactKey rows) ≡ isSome (heldIn rows (keyNumber rec))

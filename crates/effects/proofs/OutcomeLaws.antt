@@ -9,6 +9,7 @@ use lib.ListN.{length, take, drop, length-map}
 use lib.Seq.{take-at, drop-at}
 use borrow.Author.Tests.{ne-eqb}
 use Rattle.answers.specs.Answer.{isCarriedOut}
+use Rattle.text.specs.Options.{isSome}
 use Rattle.text.specs.Fields.{columns}
 use Rattle.layout.specs.Codes.{numberOfCodes, RisingCodes}
 use Rattle.text.specs.Blocks.{joined, over}
@@ -20,7 +21,7 @@ use Rattle.layout.specs.Batch.{detailCount, detailsOf, submittingState}
 use Rattle.onecase.specs.Verdict.{Judgement, judgement, hasCode}
 use Rattle.judging.proofs.CodeSums.{number-none}
 use Rattle.onecase.proofs.JudgementLaws.{name-width}
-use Rattle.onecase.proofs.JudgedLaws.{Judged, isSome, judged}
+use Rattle.onecase.proofs.JudgedLaws.{Judged, judged}
 use Rattle.turns.specs.Turns.{afterDetail, verdictOn, verdictsOn}
 use Rattle.rejectfile.specs.Rejects.{numberOf, numbers, fourColumns, rejectRecord, ifAny, rejectRecords}
 use Rattle.rejectfile.specs.Counts.{countsOf, controlRecord}

@@ -98,11 +98,11 @@ module _ (old : List (List ℕ)) where
 
 -- ---- how many bytes
 
-one-bytes : (e : Entry) → entriesBytes (e ∷ []) ≡ entryBytes e
+pub one-bytes : (e : Entry) → entriesBytes (e ∷ []) ≡ entryBytes e
 unfolding entriesBytes
 one-bytes e = append-nil (entryBytes e)
 
-no-bytes : entriesBytes [] ≡ []
+pub no-bytes : entriesBytes [] ≡ []
 unfolding entriesBytes
 no-bytes = refl
 

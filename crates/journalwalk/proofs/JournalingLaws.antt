@@ -7,6 +7,7 @@ use mathlib.Core.Option.{Option, none, some}
 use native.Mathlib.Nat.{mul-le-mul-left, mul-add, mul-one}
 use native.Mathlib.Omega.{arith}
 use lib.ListN.{length, drop, length-append, length-drop}
+use Rattle.text.specs.Options.{oneOrNone}
 use Rattle.text.specs.Blocks.{blocks}
 use Rattle.text.specs.ByteOrder.{rising}
 use Rattle.text.proofs.BlocksLaws.{length-blocks, blocks-split, kept-further}
@@ -16,7 +17,7 @@ use Rattle.casemaster.specs.Row.{rowKey}
 use Rattle.casemaster.specs.Master.{rowsOf, keysOf}
 use Rattle.casemaster.specs.Rows.{rowWith}
 use Rattle.casemaster.proofs.RowsLaws.{IsWide, found-all, rows-rise}
-use Rattle.keywalk.specs.Walking.{rowsFrom, oneOrNone, Fixed, Stand, rowNow, KeyWorked, WalkReady}
+use Rattle.keywalk.specs.Walking.{rowsFrom, Fixed, Stand, rowNow, KeyWorked, WalkReady}
 use Rattle.keywalk.proofs.StandLaws.{from-split}
 use Rattle.keywalk.proofs.WalkingLaws.{Walking, under-key, walking-met, walking-done}
 use Rattle.journal.specs.Journal.{Entry, entriesFrom, entriesBytes}

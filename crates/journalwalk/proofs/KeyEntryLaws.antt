@@ -1,8 +1,8 @@
 -- Laws of one key's entry: which bytes it has, and how many at most. Assumes nothing.
 use Prim.Native.Nat.{ℕ, suc, _+_, _^_, _≤_, _<_}
-use mathlib.Core.Path.{_≡_, refl}
+use mathlib.Core.Path.{_≡_}
 use mathlib.Core.Bool.{Bool, true, false, not, cond}
-use mathlib.Core.List.{List, [], _∷_, append-nil}
+use mathlib.Core.List.{List, [], _∷_}
 use mathlib.Core.Option.{Option, none, some}
 use native.Mathlib.Omega.{arith}
 use lib.ListN.{length}
@@ -11,18 +11,11 @@ use Rattle.text.specs.Fields.{sameBytes}
 use Rattle.text.proofs.SplicedLaws.{spliced-none}
 use Rattle.casemaster.proofs.RowsLaws.{Each, IsWide}
 use Rattle.judging.specs.State.{rowIf}
-use Rattle.journal.specs.Journal.{Entry, entry, entryBytes, entriesBytes}
+use Rattle.journal.proofs.LengthLaws.{one-bytes, no-bytes}
+use Rattle.journal.specs.Journal.{entry, entryBytes, entriesBytes}
 use Rattle.journal.specs.Writing.{Wrote, keyBytes}
 use Rattle.journal.proofs.NumberLaws.{number-length}
 use Rattle.journal.proofs.WritingLaws.{length-new, length-old}
-
-one-bytes : (e : Entry) → entriesBytes (e ∷ []) ≡ entryBytes e
-unfolding entriesBytes
-one-bytes e = append-nil (entryBytes e)
-
-no-bytes : entriesBytes [] ≡ []
-unfolding entriesBytes
-no-bytes = refl
 
 -- nothing is written
 pub wrote-none : (d : List ℕ) (at : ℕ) (bytes : List ℕ) → bytes ≡ [] → Wrote d at bytes d at

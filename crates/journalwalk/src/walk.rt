@@ -10,16 +10,17 @@ use keywork::key_work;
 use layout::records;
 use onecase::case;
 use onecase::case::Case;
-use turns::adds;
+use text::counting::one_if;
 ghost use mathlib.Core.Path.{_≡_};
 ghost use mathlib.Core.Bool.{true};
 ghost use Prim.Native.Nat.{_+_, _*_, _≤_, _<_};
 ghost use lib.ListN.{length};
+ghost use Rattle.text.specs.Options.{oneOrNone};
 ghost use Rattle.casemaster.specs.Search.{KeysRise};
 ghost use Rattle.judging.specs.State.{rowIf};
 ghost use Rattle.onecase.specs.Machine.{rowOf};
 ghost use Rattle.keyorder.specs.Runs.{SortedFrom};
-ghost use Rattle.keywalk.specs.Walking.{rowIn, oneOrNone, RowOfPut, fixedOf, startOf, StaysBefore, WalkReady};
+ghost use Rattle.keywalk.specs.Walking.{rowIn, RowOfPut, fixedOf, startOf, StaysBefore, WalkReady};
 ghost use Rattle.journalwalk.specs.JournalWalk.{standOf, KeyRoom, KeyJournaled, JournalRoom, WalkJournaled};
 
 // How far the walk has come: the position in the key order, the first row not yet passed, the place that the next row goes to, and the
@@ -96,7 +97,7 @@ fn walk_key(
     let placed = put_row_of(m, to + passed, next);
     Cursor {
         position: e,
-        from: at + adds::one_if(held),
+        from: at + one_if(held),
         to: placed,
         written,
     }
@@ -122,7 +123,8 @@ pub fn walk_keys(
     requires { ⌜ WalkReady (fixedOf (now state) year (now list) (now batch) own end) (startOf from (now m) (now numbers)) ⌝ }
     requires { ⌜ JournalRoom wanted own end at (now journal) ⌝ }
     ensures { λ r. ⌜ WalkJournaled (fixedOf (now (state .entry)) year (now (list .entry)) (now (batch .entry)) own end)
-        (startOf from (now (m .entry)) (now (numbers .entry))) wanted (now (journal .entry)) at (now (m .exit)) (now (numbers .exit)) (now (journal .exit)) r ⌝ }
+        (startOf from (now (m .entry)) (now (numbers .entry))) wanted (now (journal .entry)) at
+        (now (m .exit)) (now (numbers .exit)) (now (journal .exit)) r ⌝ }
 {
     let mut s = Cursor {
         position: 0,

@@ -7,6 +7,7 @@ use native.Mathlib.Nat.{pow-suc}
 use native.Mathlib.Omega.{arith}
 use lib.Dec.{lit<}
 use Rattle.layout.specs.Codes.{numberOfCodes, RisingCodes}
+use Rattle.layout.proofs.CodesLaws.{rising-from}
 use Rattle.judging.specs.Errors.{code}
 
 two-pos : (c : ℕ) → 0 < 2 ^ c
@@ -19,11 +20,6 @@ number-code c false rest = omega arith
 
 pub sum-code : (c : ℕ) (holds : Bool) (rest : List ℕ) (m n : ℕ) → m ≡ numberOfCodes (code c holds) → n ≡ numberOfCodes rest → m + n ≡ numberOfCodes (code c holds ++ rest)
 sum-code c holds rest m n e d = rw (e, d) (sym (number-code c holds rest))
-
--- codes from a lower one on
-pub rising-from : (a b e : ℕ) (cs : List ℕ) → a ≤ b → RisingCodes b e cs → RisingCodes a e cs
-rising-from a b e [] h r = tt
-rising-from a b e (c ∷ cs) h r = (omega (arith, r .0), r .1, r .2)
 
 -- rising codes, as a type that shows its list
 pub record Rises (a e : ℕ) (cs : List ℕ) : Type 0 where
@@ -47,16 +43,3 @@ rising-last holds a e c h l = record { rises = go holds }
 pub number-none : (cs : List ℕ) → numberOfCodes cs ≡ 0 → cs ≡ []
 number-none [] e = refl
 number-none (c ∷ cs) e = absurd (omega (arith, two-pos c))
-
--- the codes in the order of the paper, and in the parts in which they are judged
-pub parts : (e1 e2 e3 e4 e5 e6 e7 e8 e9 e10 e11 e12 e13 e14 e15 e16 e17 e18 : Bool)
-    → numberOfCodes
-    (code 1 e1 ++ (code 2 e2 ++ (code 3 e3 ++ (code 4 e4 ++ (code 5 e5 ++ (code 6 e6 ++ (code 7 e7 ++ (code 8 e8 ++ (code 9 e9
-    ++ (code 10 e10 ++ (code 11 e11 ++ (code 12 e12 ++ (code 13 e13 ++ (code 14 e14 ++ (code 15 e15 ++ (code 16 e16
-    ++ (code 17 e17 ++ code 18 e18)))))))))))))))))
-    ≡ numberOfCodes (code 1 e1 ++ (code 2 e2 ++ (code 3 e3 ++ (code 4 e4 ++ code 5 e5))))
-    + numberOfCodes (code 6 e6 ++ (code 7 e7 ++ code 8 e8))
-    + numberOfCodes (code 10 e10 ++ (code 11 e11 ++ (code 12 e12 ++ code 13 e13)))
-    + numberOfCodes (code 14 e14 ++ (code 15 e15 ++ code 16 e16))
-    + numberOfCodes (code 9 e9 ++ (code 17 e17 ++ code 18 e18))
-parts e1 e2 e3 e4 e5 e6 e7 e8 e9 e10 e11 e12 e13 e14 e15 e16 e17 e18 = simp number-code (omega arith)

@@ -12,55 +12,24 @@ use Rattle.text.specs.Characters.{A, B}
 use Rattle.layout.specs.Codes.{numberOfCodes}
 use Rattle.layout.specs.Key.{isOwnKey}
 use Rattle.layout.specs.Record.{isType, recordKey}
-use Rattle.judging.specs.Errors.{error01, error02, error03, error04, error05, error06, error07, error08, error09, error10, error11, error12, error13, error14, error15, error16, error17, error18, ifKnown, isWrongKey, judged09, judged17, code, errors}
+use Rattle.judging.specs.Errors.{error01, error02, error03, error04, error05, error06, error07, error08, error09, error10, error11, error12, error13, error14, error15, error16, error17, error18, isWrongKey, judged09, judged17, code, errors}
 use Rattle.judging.specs.Names.{givesName}
 use Rattle.judging.specs.Parts.{IsFirst, firstCodes, codes06to08, codes10to13, codes14to16}
 use Rattle.judging.specs.Front.{frontErrors, rowErrors, IsFront}
 use Rattle.judging.specs.Setting.{Setting, settingOf}
-use Rattle.judging.specs.declared.judge.FirstErrors.{FirstErrors}
+use Rattle.judging.specs.declared.parts.FirstErrors.{FirstErrors}
 use Rattle.judging.specs.declared.front.FrontErrors.{FrontErrors}
 use Rattle.judging.proofs.CodeSums.{number-code, number-none}
 use Rattle.judging.proofs.OwnKeyLaws.{own-wrong}
 
 -- ---- both parts together
 
-two-parts : (e1 e2 e3 e4 e5 e6 e7 e8 e9 e10 e11 e12 e13 e14 e15 e16 e17 e18 : Bool)
-    → numberOfCodes
-    (code 1 e1 ++ (code 2 e2 ++ (code 3 e3 ++ (code 4 e4 ++ (code 5 e5 ++ (code 6 e6 ++ (code 7 e7 ++ (code 8 e8 ++ (code 9 e9
-    ++ (code 10 e10 ++ (code 11 e11 ++ (code 12 e12 ++ (code 13 e13 ++ (code 14 e14 ++ (code 15 e15 ++ (code 16 e16
-    ++ (code 17 e17 ++ code 18 e18)))))))))))))))))
-    ≡ numberOfCodes
-    (code 1 e1 ++ (code 2 e2 ++ (code 3 e3 ++ (code 4 e4 ++ (code 5 e5 ++ (code 6 e6 ++ (code 7 e7 ++ (code 8 e8
-    ++ (code 10 e10 ++ (code 11 e11 ++ (code 12 e12 ++ (code 13 e13 ++ (code 14 e14 ++ (code 15 e15 ++ (code 16 e16
-    ++ code 18 e18)))))))))))))))
-    + numberOfCodes (code 9 e9 ++ code 17 e17)
-two-parts e1 e2 e3 e4 e5 e6 e7 e8 e9 e10 e11 e12 e13 e14 e15 e16 e17 e18 = simp number-code (omega arith)
-
 module _ (setting : Setting) (row : Option (List ℕ)) (rec : List ℕ) where
   -- the errors of a record on a row are both parts
   pub front-and-row : numberOfCodes (errors setting row rec)
       ≡ numberOfCodes (frontErrors (setting .state) (setting .year) (setting .list) rec) + numberOfCodes (rowErrors setting row rec)
   unfolding errors frontErrors rowErrors
-  front-and-row =
-      two-parts
-      (error01 (setting .state) rec)
-      (error02 rec)
-      (error03 rec)
-      (error04 rec)
-      (error05 rec)
-      (ifKnown rec (error06 rec))
-      (ifKnown rec (error07 rec))
-      (ifKnown rec (error08 rec))
-      (judged09 setting row rec)
-      (ifKnown rec (error10 (setting .list) rec))
-      (ifKnown rec (error11 rec))
-      (ifKnown rec (error12 rec))
-      (ifKnown rec (error13 (setting .year) rec))
-      (ifKnown rec (error14 rec))
-      (ifKnown rec (error15 rec))
-      (ifKnown rec (error16 rec))
-      (judged17 setting row rec)
-      (error18 rec)
+  front-and-row = simp number-code (omega arith)
 
   -- where neither 09 nor 17 holds, the first part is all
   pub front-alone : judged09 setting row rec ≡ false → judged17 setting row rec ≡ false
@@ -87,18 +56,6 @@ module _ (setting : Setting) (row : Option (List ℕ)) (rec : List ℕ) where
 
 -- ---- the first part, from the parts in which the code judges it
 
-front-parts : (e1 e2 e3 e4 e5 e6 e7 e8 e10 e11 e12 e13 e14 e15 e16 e18 : Bool)
-    → numberOfCodes
-    (code 1 e1 ++ (code 2 e2 ++ (code 3 e3 ++ (code 4 e4 ++ (code 5 e5 ++ (code 6 e6 ++ (code 7 e7 ++ (code 8 e8
-    ++ (code 10 e10 ++ (code 11 e11 ++ (code 12 e12 ++ (code 13 e13 ++ (code 14 e14 ++ (code 15 e15 ++ (code 16 e16
-    ++ code 18 e18)))))))))))))))
-    ≡ numberOfCodes (code 1 e1 ++ (code 2 e2 ++ (code 3 e3 ++ (code 4 e4 ++ code 5 e5))))
-    + numberOfCodes (code 6 e6 ++ (code 7 e7 ++ code 8 e8))
-    + numberOfCodes (code 10 e10 ++ (code 11 e11 ++ (code 12 e12 ++ code 13 e13)))
-    + numberOfCodes (code 14 e14 ++ (code 15 e15 ++ code 16 e16))
-    + numberOfCodes (code 18 e18)
-front-parts e1 e2 e3 e4 e5 e6 e7 e8 e10 e11 e12 e13 e14 e15 e16 e18 = simp number-code (omega arith)
-
 module _ (state : List ℕ) (year : ℕ) (list rec : List ℕ) where
   module _ (f : FirstErrors) (i : IsFirst state rec f) where
     pub front-set : (m n o p q : ℕ)
@@ -110,25 +67,7 @@ module _ (state : List ℕ) (year : ℕ) (list rec : List ℕ) where
         → m + n + o + p + q ≡ numberOfCodes (frontErrors state year list rec)
     unfolding frontErrors
     front-set m n o p q em en eo ep eq =
-        rw (em, en, eo, ep, eq, i .has01, i .has02, i .has03, i .has04, i .has05)
-        (sym
-        (front-parts
-        (error01 state rec)
-        (error02 rec)
-        (error03 rec)
-        (error04 rec)
-        (error05 rec)
-        (ifKnown rec (error06 rec))
-        (ifKnown rec (error07 rec))
-        (ifKnown rec (error08 rec))
-        (ifKnown rec (error10 list rec))
-        (ifKnown rec (error11 rec))
-        (ifKnown rec (error12 rec))
-        (ifKnown rec (error13 year rec))
-        (ifKnown rec (error14 rec))
-        (ifKnown rec (error15 rec))
-        (ifKnown rec (error16 rec))
-        (error18 rec)))
+        rw (em, en, eo, ep, eq, i .has01, i .has02, i .has03, i .has04, i .has05) (simp number-code (omega arith))
 
   -- ---- 09 and 17, from the first part
 

@@ -3,14 +3,13 @@
 use Prim.Native.Nat.{ℕ}
 use mathlib.Core.Path.{_≡_}
 use mathlib.Core.List.{List, _++_}
-use mathlib.Core.Bool.{Bool, not, _&&_, _||_}
+use mathlib.Core.Bool.{Bool, _&&_}
 use mathlib.Core.Option.{Option}
 use Rattle.layout.specs.Codes.{numberOfCodes}
-use Rattle.judging.specs.Errors.{error01, error02, error03, error04, error05, error06, error07, error08, error09, error10, error11, error12, error13, error14, error15, error16, isGiven, error17, error18, judged17, code, errors}
+use Rattle.judging.specs.Errors.{error01, error02, error03, error04, error05, error06, error07, error08, error10, error11, error12, error13, error14, error15, error16, isGiven, judged17, code, errors}
 use Rattle.judging.specs.Setting.{Setting}
-use Rattle.judging.specs.declared.judge.FirstErrors.{FirstErrors}
-use Rattle.judging.specs.declared.judge.LastErrors.{LastErrors}
-use Rattle.judging.specs.declared.judge.Judged.{Judged}
+use Rattle.judging.specs.declared.parts.FirstErrors.{FirstErrors}
+use Rattle.judging.specs.declared.front.Judged.{Judged}
 
 -- it holds under every set of names that has the record's own exactly where it is given
 abbrev pub UnderNames : Bool → List ℕ → (List (List ℕ) → Type 0) → Type 0
@@ -23,13 +22,6 @@ pub record IsFirst (state rec : List ℕ) (f : FirstErrors) : Type 0 where
   pub has03 : f .kind ≡ error03 rec
   pub has04 : f .«case_type» ≡ error04 rec
   pub has05 : f .name ≡ error05 rec
-
--- errors 09, 17 and 18; 09 and 17 depend on 01 to 05
-pub record IsLast (f : FirstErrors) (names : List (List ℕ)) (row : Option (List ℕ)) (rec : List ℕ) (b : LastErrors) : Type 0 where
-  pub has09 : b .missing ≡ (not (f .kind) && not (f .state || f .ssn || f .«case_type») && error09 row rec)
-  pub has17 : b .named
-      ≡ (not (f .kind) && not (f .state || f .ssn || f .«case_type») && (not (f .name) && (not (error09 row rec) && error17 names row rec)))
-  pub has18 : b .filler ≡ error18 rec
 
 -- the codes of each part
 abbrev pub firstCodes : FirstErrors → List ℕ
@@ -45,9 +37,6 @@ codes10to13 known year list rec =
 
 abbrev pub codes14to16 : Bool → List ℕ → List ℕ
 codes14to16 known rec = code 14 (known && error14 rec) ++ (code 15 (known && error15 rec) ++ code 16 (known && error16 rec))
-
-abbrev pub lastCodes : LastErrors → List ℕ
-lastCodes b = code 9 (b .missing) ++ (code 17 (b .named) ++ code 18 (b .filler))
 
 -- the set of a record's errors, and whether 17 is among them
 abbrev pub IsJudged : Setting → Option (List ℕ) → List ℕ → Judged → Type 0

@@ -23,7 +23,8 @@ ghost use Rattle.text.specs.Characters;
 ghost use Rattle.text.specs.Fields.{columns, areDigits, number};
 ghost use Rattle.exclusionsets.specs.Exclusions.{exclusionsOf};
 ghost use Rattle.layout.specs.Record.{isType};
-ghost use Rattle.judging.specs.Errors.{error01, error02, error03, error04, error05, error06, error07, error08, error09, isLocalCode, error10, error11, error12, error13, error14, wrongAddress, wrongPart, error15, isNone, error16, error17, error18};
+ghost use Rattle.text.specs.Options.{isNone};
+ghost use Rattle.judging.specs.Errors.{error01, error02, error03, error04, error05, error06, error07, error08, error09, isLocalCode, error10, error11, error12, error13, error14, wrongAddress, wrongPart, error15, error16, error17, error18};
 ghost use Rattle.judging.specs.Parts.{UnderNames};
 ghost use Rattle.judging.specs.State.{rowIf};
 
@@ -53,14 +54,14 @@ pub fn has_03(rec: &[u8; 245]) -> bool
 pub fn has_04(rec: &[u8; 245]) -> bool
     ensures { λ r. ⌜ r ≡ error04 (now (rec .entry)) ⌝ }
 {
-    !key::is_case_type(rec[73])
+    !key::is_case_type(rec[chart_a1::CASE_TYPE_AT])
 }
 
 // Error 05: the first four columns of the last name.
 pub fn has_05(rec: &[u8; 245]) -> bool
     ensures { λ r. ⌜ r ≡ error05 (now (rec .entry)) ⌝ }
 {
-    let t = rec[72];
+    let t = rec[chart_a1::TYPE_AT];
     let front = fields::field(rec, chart_a1::NAME_FRONT);
     !name::is_name(front)
         | (((t == record::ADD) | (t == record::RENAME)) & !name::has_letter(front))
@@ -70,7 +71,7 @@ pub fn has_05(rec: &[u8; 245]) -> bool
 pub fn has_06(rec: &[u8; 245]) -> bool
     ensures { λ r. ⌜ r ≡ error06 (now (rec .entry)) ⌝ }
 {
-    let t = rec[72];
+    let t = rec[chart_a1::TYPE_AT];
     ((t == record::ADD) | (t == record::RENAME)) & !characters::is_letter(rec[49])
 }
 
@@ -78,7 +79,7 @@ pub fn has_06(rec: &[u8; 245]) -> bool
 pub fn has_07(rec: &[u8; 245]) -> bool
     ensures { λ r. ⌜ r ≡ error07 (now (rec .entry)) ⌝ }
 {
-    let t = rec[72];
+    let t = rec[chart_a1::TYPE_AT];
     let digits = fields::are_digits(fields::field(rec, chart_a1::ARREARAGE), 8);
     ((t == record::ADD) | (t == record::MODIFY) | (t == record::PAYMENT)) & !digits
 }
@@ -98,7 +99,7 @@ fn is_below_25(amount: &[u8]) -> bool
 pub fn has_08(rec: &[u8; 245]) -> bool
     ensures { λ r. ⌜ r ≡ error08 (now (rec .entry)) ⌝ }
 {
-    let t = rec[72];
+    let t = rec[chart_a1::TYPE_AT];
     if t == record::ADD {
         is_below_25(fields::field(rec, chart_a1::ARREARAGE))
     } else {
@@ -111,7 +112,7 @@ pub fn has_09(rec: &[u8; 245], held: bool, row: &[u8]) -> bool
     requires { ⌜ length (now row) ≡ 200 ⌝ }
     ensures { λ r. ⌜ r ≡ error09 (rowIf held (now (row .entry))) (now (rec .entry)) ⌝ }
 {
-    !(rec[72] == record::ADD) & !(held & row::is_live(row))
+    !(rec[chart_a1::TYPE_AT] == record::ADD) & !(held & row::is_live(row))
 }
 
 // Whether the local code is spaces, 000 or listed.
@@ -126,7 +127,7 @@ pub fn is_local_code(rec: &[u8; 245], list: &[u8]) -> bool
 pub fn has_10(rec: &[u8; 245], list: &[u8]) -> bool
     ensures { λ r. ⌜ r ≡ error10 (now (list .entry)) (now (rec .entry)) ⌝ }
 {
-    let t = rec[72];
+    let t = rec[chart_a1::TYPE_AT];
     if t == record::LOCAL_CODE {
         !is_local_code(rec, list)
     } else {
@@ -138,7 +139,7 @@ pub fn has_10(rec: &[u8; 245], list: &[u8]) -> bool
 pub fn has_11(rec: &[u8; 245]) -> bool
     ensures { λ r. ⌜ r ≡ error11 (now (rec .entry)) ⌝ }
 {
-    let t = rec[72];
+    let t = rec[chart_a1::TYPE_AT];
     if t == record::CASE_ID {
         fields::is_blank(fields::field(rec, chart_a1::CASE_ID))
     } else {
@@ -150,7 +151,7 @@ pub fn has_11(rec: &[u8; 245]) -> bool
 pub fn has_12(rec: &[u8; 245]) -> bool
     ensures { λ r. ⌜ r ≡ error12 (now (rec .entry)) ⌝ }
 {
-    let t = rec[72];
+    let t = rec[chart_a1::TYPE_AT];
     if t == record::TRANSFER {
         !states::is_state(fields::field(rec, chart_a1::TRANSFER_STATE))
     } else {
@@ -162,7 +163,7 @@ pub fn has_12(rec: &[u8; 245]) -> bool
 pub fn has_13(rec: &[u8; 245], year: u64) -> bool
     ensures { λ r. ⌜ r ≡ error13 year (now (rec .entry)) ⌝ }
 {
-    let t = rec[72];
+    let t = rec[chart_a1::TYPE_AT];
     if t == record::PAYMENT {
         !process_year::in_window(year, fields::field(rec, chart_a1::PROCESS_YEAR))
     } else {
@@ -196,7 +197,7 @@ fn wrong_part(rec: &[u8; 245]) -> bool
 fn has_14_in_z(rec: &[u8; 245]) -> bool
     ensures { λ r. ⌜ r ≡ (isType Characters.Z (now (rec .entry)) && wrongAddress (now (rec .entry))) ⌝ }
 {
-    let t = rec[72];
+    let t = rec[chart_a1::TYPE_AT];
     if t == record::ADDRESS {
         wrong_address(rec)
     } else {
@@ -208,7 +209,7 @@ fn has_14_in_z(rec: &[u8; 245]) -> bool
 fn has_14_in_a(rec: &[u8; 245]) -> bool
     ensures { λ r. ⌜ r ≡ (isType Characters.A (now (rec .entry)) && wrongPart (now (rec .entry))) ⌝ }
 {
-    let t = rec[72];
+    let t = rec[chart_a1::TYPE_AT];
     if t == record::ADD {
         wrong_part(rec)
     } else {
@@ -227,7 +228,7 @@ pub fn has_14(rec: &[u8; 245]) -> bool
 pub fn has_15(rec: &[u8; 245]) -> bool
     ensures { λ r. ⌜ r ≡ error15 (now (rec .entry)) ⌝ }
 {
-    let t = rec[72];
+    let t = rec[chart_a1::TYPE_AT];
     if t == record::ADD {
         let date = fields::field(rec, chart_a1::DATE_ISSUED);
         !(fields::is_blank(date) | calendar::is_date(date))
@@ -250,7 +251,7 @@ fn has_wrong_word(rec: &[u8; 245]) -> bool
 pub fn has_16(rec: &[u8; 245]) -> bool
     ensures { λ r. ⌜ r ≡ error16 (now (rec .entry)) ⌝ }
 {
-    let t = rec[72];
+    let t = rec[chart_a1::TYPE_AT];
     if (t == record::ADD) | (t == record::EXCLUDE) {
         has_wrong_word(rec)
     } else {
@@ -263,7 +264,7 @@ pub fn has_17(rec: &[u8; 245], held: bool, row: &[u8], given: bool) -> bool
     requires { ⌜ length (now row) ≡ 200 ⌝ }
     ensures { λ r. ⌜ UnderNames given (now (rec .entry)) (λ names. r ≡ error17 names (rowIf held (now (row .entry))) (now (rec .entry))) ⌝ }
 {
-    let t = rec[72];
+    let t = rec[chart_a1::TYPE_AT];
     let same = fields::same(
         fields::field(rec, chart_a1::NAME_FRONT),
         fields::field(row, row::NAME_FRONT),

@@ -1,110 +1,11 @@
-// The set of a record's errors, as a number: the sum of 2 to the power of each code that holds.
-use crate::errors;
+// The set of a record's errors, from its two parts.
+use crate::front;
+use crate::front::Judged;
 ghost use mathlib.Core.Path.{_≡_};
-ghost use Prim.Native.Nat.{_≤_, _<_, _^_};
 ghost use lib.ListN.{length};
-ghost use Rattle.layout.specs.Codes.{numberOfCodes};
-ghost use Rattle.judging.specs.Errors.{code};
-ghost use Rattle.judging.specs.Parts.{UnderNames, IsFirst, IsLast, IsJudged, firstCodes, codes06to08, codes10to13, codes14to16, lastCodes};
+ghost use Rattle.judging.specs.Parts.{UnderNames, IsJudged};
 ghost use Rattle.judging.specs.State.{rowIf};
 ghost use Rattle.judging.specs.Setting.{settingOf};
-
-// Errors 01 to 05, which are judged first: those of the key, the type and the name.
-pub struct FirstErrors {
-    pub state: bool,
-    pub ssn: bool,
-    pub kind: bool,
-    pub case_type: bool,
-    pub name: bool,
-}
-
-// A record's set of errors, and whether 17 is among them.
-pub struct Judged {
-    pub set: u64,
-    pub named: bool,
-}
-
-// The number of one code where it holds, else 0.
-pub fn flag(holds: bool, number: u32) -> u64
-    requires { ⌜ number < 64 ⌝ }
-    ensures { λ r. ⌜ (r ≡ numberOfCodes (code number holds)) × (r ≤ 2 ^ number) ⌝ }
-{
-    if holds { 1u64 << number } else { 0 }
-}
-
-// Errors 01 to 05.
-pub fn judge_first(rec: &[u8; 245], state: &[u8]) -> FirstErrors
-    ensures { λ r. ⌜ IsFirst (now (state .entry)) (now (rec .entry)) r ⌝ }
-{
-    FirstErrors {
-        state: errors::has_01(rec, state),
-        ssn: errors::has_02(rec),
-        kind: errors::has_03(rec),
-        case_type: errors::has_04(rec),
-        name: errors::has_05(rec),
-    }
-}
-
-// The set of errors 01 to 05.
-pub fn set_first(f: FirstErrors) -> u64
-    ensures { λ r. ⌜ (r ≡ numberOfCodes (firstCodes f)) × (r ≤ 62) ⌝ }
-{
-    flag(f.state, 1)
-        + (flag(f.ssn, 2) + (flag(f.kind, 3) + (flag(f.case_type, 4) + flag(f.name, 5))))
-}
-
-// The set of errors 06 to 08.
-pub fn set_06_to_08(rec: &[u8; 245], known: bool) -> u64
-    ensures { λ r. ⌜ (r ≡ numberOfCodes (codes06to08 known (now (rec .entry)))) × (r ≤ 448) ⌝ }
-{
-    flag(known & errors::has_06(rec), 6)
-        + (flag(known & errors::has_07(rec), 7) + flag(known & errors::has_08(rec), 8))
-}
-
-// The set of errors 10 to 13.
-pub fn set_10_to_13(rec: &[u8; 245], year: u64, list: &[u8], known: bool) -> u64
-    ensures { λ r. ⌜ (r ≡ numberOfCodes (codes10to13 known year (now (list .entry)) (now (rec .entry)))) × (r ≤ 15360) ⌝ }
-{
-    flag(known & errors::has_10(rec, list), 10)
-        + (flag(known & errors::has_11(rec), 11)
-            + (flag(known & errors::has_12(rec), 12) + flag(known & errors::has_13(rec, year), 13)))
-}
-
-// The set of errors 14 to 16.
-pub fn set_14_to_16(rec: &[u8; 245], known: bool) -> u64
-    ensures { λ r. ⌜ (r ≡ numberOfCodes (codes14to16 known (now (rec .entry)))) × (r ≤ 114688) ⌝ }
-{
-    flag(known & errors::has_14(rec), 14)
-        + (flag(known & errors::has_15(rec), 15) + flag(known & errors::has_16(rec), 16))
-}
-
-// Errors 09 and 17, which look at the row and depend on 01 to 05; and 18.
-pub struct LastErrors {
-    pub missing: bool,
-    pub named: bool,
-    pub filler: bool,
-}
-
-fn judge_last(f: FirstErrors, rec: &[u8; 245], held: bool, row: &[u8], given: bool) -> LastErrors
-    requires { ⌜ length (now row) ≡ 200 ⌝ }
-    ensures { λ r. ⌜ UnderNames given (now (rec .entry)) (λ names. IsLast f names (rowIf held (now (row .entry))) (now (rec .entry)) r) ⌝ }
-{
-    let judged = !f.kind & !(f.state | f.ssn | f.case_type);
-    let missing = errors::has_09(rec, held, row);
-    let other = errors::has_17(rec, held, row, given);
-    LastErrors {
-        missing: judged & missing,
-        named: judged & (!f.name & (!missing & other)),
-        filler: errors::has_18(rec),
-    }
-}
-
-// The set of errors 09, 17 and 18.
-fn set_last(b: LastErrors) -> u64
-    ensures { λ r. ⌜ (r ≡ numberOfCodes (lastCodes b)) × (r ≤ 393728) ⌝ }
-{
-    flag(b.missing, 9) + (flag(b.named, 17) + flag(b.filler, 18))
-}
 
 // The set of a record's errors, under every set of names that has the record's own exactly where it is `given`.
 pub fn judge(
@@ -120,16 +21,12 @@ pub fn judge(
     ensures { λ r. ⌜ UnderNames given (now (rec .entry)) (λ names.
         IsJudged (settingOf (now (state .entry)) year (now (list .entry)) names) (rowIf held (now (row .entry))) (now (rec .entry)) r) ⌝ }
 {
-    let f = judge_first(rec, state);
-    let known = !f.kind;
-    let alone = set_first(f)
-        + set_06_to_08(rec, known)
-        + set_10_to_13(rec, year, list, known)
-        + set_14_to_16(rec, known);
-    let b = judge_last(f, rec, held, row, given);
-    let set = alone + set_last(b);
+    let f = front::judge_front(rec, state, year, list);
+    let alone = f.set;
+    let on_row = front::judge_on_row(f, rec, held, row, given);
+    let set = alone + on_row.set;
     Judged {
         set,
-        named: b.named,
+        named: on_row.named,
     }
 }

@@ -2,4 +2,5 @@
 pub mod errors;
 pub mod front;
 pub mod judge;
+pub mod parts;
 pub mod warnings;

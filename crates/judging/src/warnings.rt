@@ -1,12 +1,14 @@
 // The warnings 51 and 52, which come only without errors.
 use crate::errors;
-use crate::judge;
+use crate::parts;
 use casemaster::row;
 use layout::chart_a1;
 use layout::record;
 use text::fields;
 ghost use mathlib.Core.Path.{_≡_};
 ghost use mathlib.Core.Option.{some};
+ghost use mathlib.Core.List.{List};
+ghost use Prim.Native.Nat.{ℕ};
 ghost use lib.ListN.{length};
 ghost use Rattle.layout.specs.Codes.{numberOfCodes};
 ghost use Rattle.judging.specs.Warnings.{warning51, isRenamed, warning52, warnings};
@@ -16,7 +18,7 @@ ghost use Rattle.judging.specs.State.{rowIf};
 pub fn has_51(rec: &[u8; 245], list: &[u8]) -> bool
     ensures { λ r. ⌜ r ≡ warning51 (now (list .entry)) (now (rec .entry)) ⌝ }
 {
-    let t = rec[72];
+    let t = rec[chart_a1::TYPE_AT];
     if t == record::ADD {
         !errors::is_local_code(rec, list)
     } else {
@@ -45,7 +47,7 @@ pub fn has_52(rec: &[u8; 245], held: bool, row: &[u8]) -> bool
     requires { ⌜ length (now row) ≡ 200 ⌝ }
     ensures { λ r. ⌜ r ≡ warning52 (rowIf held (now (row .entry))) (now (rec .entry)) ⌝ }
 {
-    let t = rec[72];
+    let t = rec[chart_a1::TYPE_AT];
     if t == record::ADD {
         held & is_renamed(rec, row)
     } else {
@@ -53,10 +55,19 @@ pub fn has_52(rec: &[u8; 245], held: bool, row: &[u8]) -> bool
     }
 }
 
+// The set of a record's warnings, where it is known whether 51 is among them.
+pub fn warned_on_row(local: bool, rec: &[u8; 245], held: bool, row: &[u8]) -> u64
+    requires { ⌜ length (now row) ≡ 200 ⌝ }
+    ensures { λ r. ⌜ ((list : List ℕ) → local ≡ warning51 list (now (rec .entry))
+        → r ≡ numberOfCodes (warnings list (rowIf held (now (row .entry))) (now (rec .entry)))) ⌝ }
+{
+    parts::flag(local, 51) + parts::flag(has_52(rec, held, row), 52)
+}
+
 // The set of a record's warnings.
 pub fn warned(rec: &[u8; 245], held: bool, row: &[u8], list: &[u8]) -> u64
     requires { ⌜ length (now row) ≡ 200 ⌝ }
     ensures { λ r. ⌜ r ≡ numberOfCodes (warnings (now (list .entry)) (rowIf held (now (row .entry))) (now (rec .entry))) ⌝ }
 {
-    judge::flag(has_51(rec, list), 51) + judge::flag(has_52(rec, held, row), 52)
+    warned_on_row(has_51(rec, list), rec, held, row)
 }

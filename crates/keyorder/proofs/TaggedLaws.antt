@@ -13,13 +13,13 @@ use lib.ListN.{length, take, drop, getD, set, length-append, length-drop, length
 use lib.Seq.{getD-take, length-take-le, take-at, drop-at}
 use Rattle.sorting.specs.Sorting.{sorted}
 use Rattle.sorting.proofs.SortingLaws.{Different, length-sorted}
+use Rattle.text.specs.Options.{isSome}
 use Rattle.text.specs.Characters.{A, B, C, D, L, M, R, S, letterT, Z}
 use Rattle.layout.specs.Codes.{numberOfCodes}
 use Rattle.layout.specs.Record.{recordKey, typeOf}
 use Rattle.judging.specs.Front.{frontErrors}
 use Rattle.judging.specs.Warnings.{warning51}
 use Rattle.judging.specs.Setting.{settingOf}
-use Rattle.judging.specs.State.{isHeld}
 use Rattle.judging.proofs.FrontLaws.{gives-front}
 use Rattle.onecase.specs.Machine.{next}
 use Rattle.onecase.proofs.KnownLaws.{front-makes}
@@ -125,7 +125,7 @@ tagged-of state year list i rec rank kind set local n er ek es el t =
 
 module _ (state : List ℕ) (year : ℕ) (list : List ℕ) (i : ℕ) (rec : List ℕ) (n : ℕ) (t : Tagged state year list i rec n) where
   -- it says whether the detail makes a row from none, whatever names are given
-  pub tagged-makes : (names : List (List ℕ)) → makesFrom n ≡ isHeld (next (settingOf state year list names) none rec)
+  pub tagged-makes : (names : List (List ℕ)) → makesFrom n ≡ isSome (next (settingOf state year list names) none rec)
   tagged-makes names =
       rw (t .kind-is, t .wrong-is, Bool·not-not (eqb (numberOfCodes (frontErrors state year list rec)) 0), kind-add (typeOf rec))
       (sym (front-makes (settingOf state year list names) rec))

@@ -9,8 +9,8 @@ use judging::warnings;
 use layout::record;
 use layout::records;
 use sorting::sorting::sort;
+use text::counting;
 ghost use mathlib.Core.Path.{_≡_};
-ghost use mathlib.Core.Bool.{cond};
 ghost use Prim.Native.Nat.{_+_, _*_, _^_, _≤_, _<_};
 ghost use lib.ListN.{length};
 ghost use Rattle.text.specs.Blocks.{blocks};
@@ -36,21 +36,14 @@ fn kind_of(t: u8) -> u64
     }
 }
 
-// One where it holds, else none.
-fn bit(holds: bool) -> u64
-    ensures { λ r. ⌜ (r ≡ cond holds 1 0) × (r ≤ 1) ⌝ }
-{
-    if holds { 1 } else { 0 }
-}
-
 // The parts in one number.
 fn tag(rank: u64, i: u64, kind: u64, gives: bool, local: bool, wrong: bool) -> u64
     requires { ⌜ (rank ≤ 2 ^ 31) × (i < 2 ^ 24) × (kind < 16) ⌝ }
     ensures { λ r. ⌜ IsTag rank i kind gives local wrong r ⌝ }
 {
-    let g = bit(gives);
-    let l = bit(local);
-    let w = bit(wrong);
+    let g = counting::one_if(gives) as u64;
+    let l = counting::one_if(local) as u64;
+    let w = counting::one_if(wrong) as u64;
     rank * RANK_PLACE + (i * INDEX_PLACE + (kind * 16 + (g * 8 + (l * 4 + w * 2))))
 }
 
@@ -119,7 +112,8 @@ fn tag_detail(batch: &[u8], i: usize, state: &[u8], year: u64, list: &[u8]) -> u
 // Writes the numbers of the first d details.
 fn tag_details(batch: &[u8], d: usize, state: &[u8], year: u64, list: &[u8], numbers: &mut [u64])
     requires { ⌜ (d * 245 ≤ length (now batch)) × (d ≤ length (now numbers)) × (d ≤ 2 ^ 24) ⌝ }
-    ensures { λ _. ⌜ TaggedAll (now (state .entry)) year (now (list .entry)) (blocks 245 d (now (batch .entry))) d (now (numbers .entry)) (now (numbers .exit)) ⌝ }
+    ensures { λ _. ⌜ TaggedAll (now (state .entry)) year (now (list .entry)) (blocks 245 d (now (batch .entry))) d
+        (now (numbers .entry)) (now (numbers .exit)) ⌝ }
 {
     let mut i: usize = 0;
     while i < d {
@@ -138,7 +132,8 @@ pub fn order_tagged(
     numbers: &mut [u64],
 )
     requires { ⌜ (d * 245 ≤ length (now batch)) × (d ≤ length (now numbers)) × (d ≤ 2 ^ 24) ⌝ }
-    ensures { λ _. ⌜ TaggedOrder (now (state .entry)) year (now (list .entry)) (blocks 245 d (now (batch .entry))) d (now (numbers .entry)) (now (numbers .exit)) ⌝ }
+    ensures { λ _. ⌜ TaggedOrder (now (state .entry)) year (now (list .entry)) (blocks 245 d (now (batch .entry))) d
+        (now (numbers .entry)) (now (numbers .exit)) ⌝ }
 {
     tag_details(batch, d, state, year, list, numbers);
     sort(&mut numbers[0..d]);

@@ -7,11 +7,11 @@ use mathlib.Core.List.{List, [], _∷_, _++_, append-assoc}
 use mathlib.Core.Option.{Option, none, some}
 use native.Mathlib.Omega.{arith}
 use lib.ListN.{take, drop, drop-of-length-le}
+use Rattle.text.specs.Options.{isSome, isNone}
 use Rattle.text.specs.Blocks.{blocks}
 use Rattle.casemaster.specs.Rows.{rowWith}
 use Rattle.casemaster.specs.Master.{rowsOf, keysOf}
 use Rattle.casemaster.specs.Search.{AreBelow}
-use Rattle.judging.specs.State.{isHeld}
 use Rattle.onecase.specs.Machine.{next}
 use Rattle.keyorder.specs.Tagged.{keyIn}
 use Rattle.keyorder.proofs.TaggedLaws.{tagged-makes}
@@ -23,10 +23,9 @@ use Rattle.keywalk.proofs.PassLaws.{AllBelow, FirstNotBelow, isKeyOf, f
 use Rattle.keywalk.proofs.StandLaws.{from-split, below-pass, none-back, is-row}
 use Rattle.keywalk.proofs.WalkLaws.{length-own}
 use Rattle.keywalk.proofs.KeysLaws as Keys
-use Rattle.keywalk.proofs.KeysLaws.{same-self}
+use Rattle.keywalk.proofs.KeysLaws.{same-from-self}
 use Rattle.text.proofs.BlocksLaws.{blocks-split}
 use Rattle.turns.specs.Under.{detailsUnder, runRow}
-use Rattle.turns.specs.Adds.{hasNoRow}
 use Rattle.turns.specs.Settings.{settingUnder}
 use Rattle.text.specs.ByteOrder.{orderOf, isLess, rising}
 
@@ -87,26 +86,26 @@ module _ (f : Fixed) (m numbers : List ℕ) (o : OrderReady (f .settings .state)
     in-count = omega (arith, Keys.own-in o)
 
     key-is : keyIn (f .batch) numbers p ≡ k
-    key-is = Keys.in-key o (same-self p numbers) p (omega arith) in-count
+    key-is = Keys.in-key o (same-from-self p numbers) p (omega arith) in-count
 
     abbrev makes : Bool
     makes = runMakes numbers p e
 
     -- one of the details makes a row: the machine's run from none ends with one
-    made : makes ≡ not (hasNoRow (runRow (settingUnder (f .settings) k) none (detailsUnder k details)))
+    made : makes ≡ not (isNone (runRow (settingUnder (f .settings) k) none (detailsUnder k details)))
     made =
         makes-run (settingUnder (f .settings) k) numbers details (Keys.order o) p (e - p)
         (λ j b.
         let c : p + j < f .count = omega (arith, kc .ended .within, kc .ended .later, Keys.own-in o) in
         tagged-makes _ _ _ _ _ _ (o .tags (p + j) c) (f .settings .names k)
-        ∙ ap (λ (r : List ℕ). isHeld (next (settingUnder (f .settings) k) none r)) (Keys.detail-is o (p + j) c))
+        ∙ ap (λ (r : List ℕ). isSome (next (settingUnder (f .settings) k) none r)) (Keys.detail-is o (p + j) c))
         ∙ rw (Keys.all-under o l (kc .ended) (g .start l))
 
     -- no detail makes a row: the key isn't new
     idle-is : makes ≡ false → isNewKey (f .settings) details rows k ≡ false
     idle-is t = go (rowWith k rows)
       where
-        go : (r : Option (List ℕ)) → (hasNoRow r && not (hasNoRow (runRow (settingUnder (f .settings) k) r (detailsUnder k details)))) ≡ false
+        go : (r : Option (List ℕ)) → (isNone r && not (isNone (runRow (settingUnder (f .settings) k) r (detailsUnder k details)))) ≡ false
         go none = sym made ∙ t
         go (some row) = refl
 
@@ -159,7 +158,7 @@ module _ (f : Fixed) (m numbers : List ℕ) (o : OrderReady (f .settings .state)
           missing [] f = refl
           missing (row ∷ bs) f = rw f
 
-          present : (bs : List (List ℕ)) → isKeyOf k bs ≡ true → hasNoRow (firstOf k bs) ≡ false
+          present : (bs : List (List ℕ)) → isKeyOf k bs ≡ true → isNone (firstOf k bs) ≡ false
           present [] f = sym f
           present (row ∷ bs) f = rw f
 

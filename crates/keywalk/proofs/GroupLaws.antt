@@ -8,6 +8,7 @@ use mathlib.Core.Option.{Option, none}
 use native.Mathlib.Nat.{eq-or-lt-of-le}
 use native.Mathlib.Omega.{arith}
 use lib.ListN.{length, take, getD}
+use Rattle.text.specs.Options.{isSome, isNone}
 use Rattle.text.specs.Fields.{sameBytes}
 use Rattle.text.proofs.SameLaws.{eq-same, same-eq}
 use Rattle.onecase.specs.Machine.{next}
@@ -21,8 +22,6 @@ use Rattle.turns.proofs.IndexLaws.{keyAt}
 use Rattle.turns.proofs.RunLaws.{run-more, held-more, held-is}
 use Rattle.keywalk.proofs.KeyOrderLaws.{under-first, under-next, under-last}
 use Rattle.turns.specs.Under.{detailsUnder, runRow}
-use Rattle.turns.specs.Adds.{hasNoRow}
-use Rattle.judging.specs.State.{isHeld}
 use Rattle.judging.specs.Setting.{Setting}
 
 -- the details at n positions from p on
@@ -113,8 +112,8 @@ module _ (setting : Setting) where
   module _ (numbers : List ℕ) (details : List (List ℕ)) (order : List ℕ) where
     -- one of the details makes a row: the run from none ends with one
     pub makes-run : (p n : ℕ)
-        → ((j : ℕ) → j < n → makesFrom (getD numbers (p + j) 0) ≡ isHeld (next setting none (detailAt details (getD order (p + j) 0))))
-        → anyFrom makesFrom numbers p n ≡ not (hasNoRow (runRow setting none (detailsFrom details order p n)))
+        → ((j : ℕ) → j < n → makesFrom (getD numbers (p + j) 0) ≡ isSome (next setting none (detailAt details (getD order (p + j) 0))))
+        → anyFrom makesFrom numbers p n ≡ not (isNone (runRow setting none (detailsFrom details order p n)))
     unfolding runRow
     makes-run p zero h = any-nil makesFrom numbers p
     makes-run p (suc n) h =

@@ -8,6 +8,7 @@ use native.Mathlib.Nat.{eq-or-lt-of-le}
 use native.Mathlib.Omega.{arith}
 use lib.ListN.{length, take, drop, getD, length-drop}
 use lib.Seq.{take-suc, getD-drop}
+use Rattle.casemaster.proofs.RowsLaws.{below-other}
 use Rattle.text.specs.Fields.{sameBytes}
 use Rattle.text.specs.Blocks.{blocks}
 use Rattle.text.proofs.BlocksLaws.{map-snoc, length-blocks, blocks-get}
@@ -26,7 +27,6 @@ use Rattle.turns.proofs.UnderLaws.{IsRecord}
 use Rattle.turns.proofs.IndexLaws.{keyAt}
 use Rattle.keywalk.specs.Walking.{OrderReady}
 use Rattle.keywalk.proofs.GroupLaws.{detailsFrom, IsStart, Group, group-part, group-whole}
-use Rattle.keywalk.proofs.PassLaws.{below-other}
 use Rattle.keywalk.proofs.WalkLaws.{distinct-group, keys-rise, length-own, own-key}
 use Rattle.turns.specs.Under.{detailsUnder}
 use Rattle.text.specs.ByteOrder.{orderOf, isLess, rising}
@@ -36,8 +36,8 @@ pub record SameFrom (p : ℕ) (numbers₀ numbers : List ℕ) : Type 0 where
   pub len : length numbers ≡ length numbers₀
   pub same : (q : ℕ) → p ≤ q → getD numbers q 0 ≡ getD numbers₀ q 0
 
-pub same-self : (p : ℕ) (numbers : List ℕ) → SameFrom p numbers numbers
-same-self p numbers = record { len = refl; same = λ q l. refl }
+pub same-from-self : (p : ℕ) (numbers : List ℕ) → SameFrom p numbers numbers
+same-from-self p numbers = record { len = refl; same = λ q l. refl }
 
 module _ {state : List ℕ} {year : ℕ} {list batch : List ℕ} {d own : ℕ} {numbers₀ : List ℕ} (o : OrderReady state year list batch d own numbers₀) where
   abbrev pub details : List (List ℕ)

@@ -4,16 +4,17 @@ use mathlib.Core.Path.{_≡_, refl, sym, ap, _∙_}
 use mathlib.Core.Bool.{Bool, true, false, cond}
 use mathlib.Core.List.{List, [], _∷_, _++_}
 use mathlib.Core.Option.{Option, none, some}
+use Rattle.text.specs.Options.{oneOrNone}
 use Rattle.text.specs.Fields.{sameBytes}
+use Rattle.casemaster.proofs.HalvingLaws.{rows-behind}
 use Rattle.casemaster.specs.Row.{rowKey}
 use Rattle.casemaster.specs.Rows.{rowWith, withRow, withStored}
 use Rattle.casemaster.specs.Master.{keysOf}
-use Rattle.casemaster.proofs.SearchLaws.{with-above, with-level, with-below, rows-tail}
+use Rattle.casemaster.proofs.SearchLaws.{with-above, with-level, with-below}
 use Rattle.text.proofs.SameLaws.{same-eq}
-use Rattle.keywalk.specs.Walking.{oneOrNone}
 use Rattle.text.proofs.WidthLaws.{All}
-use Rattle.casemaster.proofs.RowsLaws.{found-here, found-behind, below-none}
-use Rattle.text.specs.ByteOrder.{orderOf, isLess, isEqual, belowFirst, rising}
+use Rattle.casemaster.proofs.RowsLaws.{found-here, found-behind, below-none, below-other}
+use Rattle.text.specs.ByteOrder.{orderOf, isLess, belowFirst, rising}
 use Rattle.text.proofs.ByteOrderLaws.{less-sides, not-less-flip, same-order, less-trans}
 
 -- each row's key is below a key
@@ -27,11 +28,6 @@ below-append key (x ∷ xs) ys a b = (a .0, below-append key xs ys (a .1) b)
 pub below-more : (key above : List ℕ) (xs : List (List ℕ)) → isLess (orderOf key above) ≡ true → AllBelow key xs → AllBelow above xs
 below-more key above [] l a = tt
 below-more key above (x ∷ xs) l a = (less-trans (rowKey x) key above (a .0) l, below-more key above xs l (a .1))
-
--- a key below isn't the same
-pub below-other : (a b : List ℕ) → isLess (orderOf a b) ≡ true → sameBytes a b ≡ false
-unfolding isEqual
-below-other a b h = rw (same-order a b, less-sides a b h .0)
 
 -- the first of some rows isn't below a key
 abbrev pub FirstNotBelow : List ℕ → List (List ℕ) → Type 0
@@ -83,15 +79,11 @@ abbrev pub behindKey : List ℕ → List (List ℕ) → List (List ℕ)
 behindKey key [] = []
 behindKey key (row ∷ rows) = cond (sameBytes (rowKey row) key) rows (row ∷ rows)
 
-pub rising-back : (front back : List (List ℕ)) → rising (keysOf (front ++ back)) ≡ true → rising (keysOf back) ≡ true
-rising-back [] back r = r
-rising-back (row ∷ front) back r = rising-back front back (rows-tail row (front ++ back) r)
-
 module _ (key : List ℕ) (front back : List (List ℕ)) (a : AllBelow key front) (n : FirstNotBelow key back)
     (r : rising (keysOf (front ++ back)) ≡ true) where
   pub parted-find : rowWith key (front ++ back) ≡ firstOf key back
   unfolding rowWith
-  parted-find = find-front key front back a ∙ go back n (rising-back front back r)
+  parted-find = find-front key front back a ∙ go back n (rows-behind front back r)
     where
       go : (bs : List (List ℕ)) → FirstNotBelow key bs → rising (keysOf bs) ≡ true → rowWith key bs ≡ firstOf key bs
       go [] m s = refl

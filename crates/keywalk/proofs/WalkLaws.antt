@@ -12,26 +12,27 @@ use borrow.Author.Tests.{ltb-true, ltb-false}
 use lib.Dec.{ltb}
 use lib.ListN.{length, take, drop, getD, drop-of-length-le}
 use lib.Seq.{length-take-le, drop-cons, getD-take}
+use Rattle.text.specs.Options.{isNone}
 use Rattle.text.specs.Fields.{sameBytes}
 use Rattle.layout.specs.Locals.{isLocalList}
 use Rattle.layout.specs.Key.{isOwnKey}
-use Rattle.casemaster.specs.Row.{rowKey, isSoundRow}
+use Rattle.casemaster.proofs.KeyRowLaws.{KeyRow, SoundKeyRow, found-keyed, found-sound, stored-wide, stored-fit, stored-here, stored-other}
+use Rattle.casemaster.specs.Row.{rowKey}
 use Rattle.casemaster.specs.Master.{areSoundRows}
 use Rattle.casemaster.specs.Rows.{rowWith, withStored}
 use Rattle.text.proofs.FieldsLaws.{and-left, and-right}
 use Rattle.text.proofs.SameLaws.{eq-same, same-eq}
-use Rattle.casemaster.proofs.SearchLaws.{row-key, with-sound, length-replaced, length-added, row-with-same, row-with-other}
+use Rattle.casemaster.proofs.SearchLaws.{length-replaced, length-added}
 use Rattle.keyorder.specs.Order.{noRank, rankOf, rankAt, Before, InKeyOrder}
 use Rattle.keyorder.proofs.RankLaws.{own-below, below-own, rank-same, rank-less}
 use Rattle.turns.specs.Turns.{finalRows}
 use Rattle.keywalk.specs.Walk.{keysAt, isFirst, distinct, keyRow, workedKeys, isNewKey, newKeys}
-use Rattle.text.proofs.WidthLaws.{All, every-all}
-use Rattle.casemaster.proofs.RowsLaws.{found-all, all-put, same-rows, Each, IsWide, each-some, Fit, each-sound, rows-rise}
+use Rattle.text.proofs.WidthLaws.{All}
+use Rattle.casemaster.proofs.RowsLaws.{same-rows, Each, IsWide, each-some, Fit, rows-rise}
 use Rattle.turns.proofs.UnderLaws.{IsRecord, final-fit, found-final}
 use Rattle.turns.proofs.IndexLaws.{keyAt, under-none}
-use Rattle.turns.proofs.RunLaws.{KeyRow, SoundKeyRow, run-keyed, run-sound, run-none, run-stays, run-other}
+use Rattle.turns.proofs.RunLaws.{run-keyed, run-sound, run-none, run-stays, run-other}
 use Rattle.turns.specs.Under.{detailsUnder, runRow}
-use Rattle.turns.specs.Adds.{hasNoRow}
 use Rattle.turns.specs.Settings.{Settings, settingUnder}
 use Rattle.text.specs.ByteOrder.{less, orderOf, isLess, isEqual, belowFirst, rising}
 use Rattle.text.proofs.ByteOrderLaws.{less-trans, less-sides, same-order}
@@ -193,11 +194,7 @@ module _ (settings : Settings) (details : List (List ℕ)) (a : All IsRecord det
     row = keyRow settings details k rows
 
     row-keyed : Each (KeyRow k) row
-    row-keyed = run-keyed (settingUnder settings k) k (rowWith k rows) details a (go (rowWith k rows) refl (found-all IsWide k rows w))
-      where
-        go : (o : Option (List ℕ)) → rowWith k rows ≡ o → Each IsWide o → Each (KeyRow k) o
-        go none e h = tt
-        go (some r) e h = record { wide = h; key-is = row-key k rows r e }
+    row-keyed = run-keyed (settingUnder settings k) k (rowWith k rows) details a (found-keyed k rows w)
 
     -- a row that it leaves has the key
     pub keyRow-key : (r : List ℕ) → keyRow settings details k rows ≡ some r → rowKey r ≡ k
@@ -209,30 +206,18 @@ module _ (settings : Settings) (details : List (List ℕ)) (a : All IsRecord det
     -- under any other key nothing changes
     pub worked-other : (x : List ℕ) → sameBytes k x ≡ false
         → rowWith x (withStored (keyRow settings details k rows) rows) ≡ rowWith x rows
-    worked-other x n = go row row-keyed
-      where
-        go : (o : Option (List ℕ)) → Each (KeyRow k) o → rowWith x (withStored o rows) ≡ rowWith x rows
-        go none h = refl
-        go (some r) h = row-with-other x r rows (rw (h .key-is) n)
+    worked-other x n = stored-other k rows x row row-keyed n
 
     -- under the key stands what the machine left
     pub worked-here : rowWith k (withStored (keyRow settings details k rows) rows) ≡ keyRow settings details k rows
-    worked-here = go row refl row-keyed
+    worked-here = stored-here k rows row row-keyed (missing (rowWith k rows))
       where
         missing : (o : Option (List ℕ)) → runRow (settingUnder settings k) o (detailsUnder k details) ≡ none → o ≡ none
         missing none e = refl
         missing (some r) e = let s = run-stays (settingUnder settings k) k (detailsUnder k details) r in cc (s .1)
 
-        go : (o : Option (List ℕ)) → row ≡ o → Each (KeyRow k) o → rowWith k (withStored o rows) ≡ o
-        go none e h = missing (rowWith k rows) e
-        go (some r) e h = row-with-same k r rows (h .key-is)
-
     pub worked-wide : All IsWide (withStored (keyRow settings details k rows) rows)
-    worked-wide = go row row-keyed
-      where
-        go : (o : Option (List ℕ)) → Each (KeyRow k) o → All IsWide (withStored o rows)
-        go none h = w
-        go (some r) h = all-put IsWide r rows (h .wide) w
+    worked-wide = stored-wide k rows row row-keyed w
 
   -- the rows after a key
   abbrev worked : List ℕ → List (List ℕ) → List (List ℕ)
@@ -242,21 +227,8 @@ module _ (settings : Settings) (details : List (List ℕ)) (a : All IsRecord det
     -- rows stay sound, wide and in order
     pub worked-fit : Fit rows → Fit (withStored (keyRow settings details k rows) rows)
     worked-fit f =
-        put (keyRow settings details k rows)
-        (run-sound (settingUnder settings k) k l (rowWith k rows) details a
-        (go (rowWith k rows) refl (found-all IsWide k rows (f .wide))
-        (found-all Sound k rows (every-all isSoundRow rows (each-sound rows (f .sound))))))
-      where
-        Sound : List ℕ → Type 0
-        Sound r = isSoundRow r ≡ true
-
-        go : (o : Option (List ℕ)) → rowWith k rows ≡ o → Each IsWide o → Each Sound o → Each (SoundKeyRow k) o
-        go none e h s = tt
-        go (some r) e h s = record { wide = h; key-is = row-key k rows r e; sound = s }
-
-        put : (o : Option (List ℕ)) → Each (SoundKeyRow k) o → Fit (withStored o rows)
-        put none h = f
-        put (some r) h = record { wide = all-put IsWide r rows (h .wide) (f .wide); sound = with-sound r rows (f .sound) (h .sound) }
+        stored-fit k rows (keyRow settings details k rows)
+        (run-sound (settingUnder settings k) k l (rowWith k rows) details a (found-sound k rows f)) f
 
     pub worked-sound : All IsWide rows → areSoundRows rows ≡ true
         → areSoundRows (withStored (keyRow settings details k rows) rows) ≡ true
@@ -268,7 +240,7 @@ module _ (settings : Settings) (details : List (List ℕ)) (a : All IsRecord det
   worked-one k rows w s = go (keyRow settings details k rows) (row-keyed k rows w) (rowWith k rows) refl
     where
       go : (o : Option (List ℕ)) → Each (KeyRow k) o → (q : Option (List ℕ)) → rowWith k rows ≡ q
-          → length (withStored o rows) ≡ length rows + cond (hasNoRow q && not (hasNoRow o)) 1 0
+          → length (withStored o rows) ≡ length rows + cond (isNone q && not (isNone o)) 1 0
       go none h none e = omega arith
       go none h (some old) e = omega arith
       go (some r) h none e = length-added r rows (rw (h .key-is) e) ∙ omega arith
@@ -278,7 +250,7 @@ module _ (settings : Settings) (details : List (List ℕ)) (a : All IsRecord det
   pub new-other : (k x : List ℕ) (rows : List (List ℕ)) → All IsWide rows → sameBytes k x ≡ false
       → isNewKey settings details (withStored (keyRow settings details k rows) rows) x ≡ isNewKey settings details rows x
   new-other k x rows w n =
-      ap (λ (o : Option (List ℕ)). hasNoRow o && not (hasNoRow (runRow (settingUnder settings x) o (detailsUnder x details)))) (worked-other k rows w x n)
+      ap (λ (o : Option (List ℕ)). isNone o && not (isNone (runRow (settingUnder settings x) o (detailsUnder x details)))) (worked-other k rows w x n)
 
   pub new-others : (k : List ℕ) (ks rows : List (List ℕ)) → All IsWide rows → All (λ (x : List ℕ). sameBytes k x ≡ false) ks
       → newKeys settings details ks (withStored (keyRow settings details k rows) rows) ≡ newKeys settings details ks rows

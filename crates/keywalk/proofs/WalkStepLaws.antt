@@ -8,6 +8,7 @@ use native.Mathlib.Omega.{arith}
 use borrow.Author.Tests.{ltb-true}
 use lib.Dec.{ltb}
 use lib.ListN.{length, take}
+use Rattle.text.specs.Options.{oneOrNone}
 use Rattle.text.specs.Fields.{sameBytes}
 use Rattle.casemaster.specs.Master.{rowsOf}
 use Rattle.casemaster.specs.Search.{AreBelow, RowPut, Pulled}
@@ -16,7 +17,7 @@ use Rattle.keyorder.specs.Tagged.{keyIn}
 use Rattle.keyorder.specs.Runs.{IsRun, RunFound}
 use Rattle.keyorder.specs.declared.runs.Run.{Run}
 use Rattle.keywork.specs.Worked.{RunWorked}
-use Rattle.keywalk.specs.Walking.{rowIn, isRowOf, oneOrNone, RowOfPut, Fixed, Stand, keyNow, hasRow, rowNow, settingNow, runMakes, KeyCounted, KeyWorked, KeyWalked, StaysBefore}
+use Rattle.keywalk.specs.Walking.{rowIn, isRowOf, RowOfPut, Fixed, Stand, keyNow, hasRow, rowNow, settingNow, runMakes, KeyCounted, KeyWorked, KeyWalked, StaysBefore}
 use Rattle.keywalk.specs.declared.counting.Count.{Count}
 use Rattle.text.proofs.BlocksLaws.{kept-further}
 use Rattle.judging.specs.State.{rowIf}
@@ -35,48 +36,54 @@ module _ (m : List ℕ) (p : ℕ) (row m′ : List ℕ) where
 
 -- ---- one key
 
-module _ (f : Fixed) (s : Stand) (stays : StaysBefore f s) (e passed : ℕ) (key m₁ : List ℕ)
-    (ke : IsRun (s .numbers) (s .position) (f .own) e) (ki : key ≡ keyNow f s)
-    (ab : AreBelow (s .master) (s .from) (f .end) key passed) (pulled : Pulled (s .master) (s .from) (s .to) passed m₁)
-    (held : Bool) (hi : held ≡ isRowOf m₁ (s .from + passed) (f .end) key)
-    (start row : Option (List ℕ)) (si : start ≡ rowIf held (rowIn m₁ (s .from + passed))) (numbers′ : List ℕ)
-    (run : RunWorked (settingNow f s e) (f .batch) (s .position) e start row (s .numbers) numbers′)
-  where
-    -- the rows to come are as before
-    pub held-is : held ≡ hasRow f s passed
-    held-is =
-        hi ∙ ap (λ (x : List ℕ). ltb (s .from + passed) (f .end) && sameBytes (take 12 x) key) (pulled .rest-kept)
-        ∙ ap (isRowOf (s .master) (s .from + passed) (f .end)) ki
+-- the steps of one key: its details end at e, the rows below it are passed and pulled down, and its details are worked from the row there
+pub record KeySteps (f : Fixed) (s : Stand) (e passed : ℕ) (key m₁ : List ℕ) (held : Bool) (start row : Option (List ℕ)) (numbers′ : List ℕ) : Type 0 where
+  pub ended : IsRun (s .numbers) (s .position) (f .own) e
+  pub key-is : key ≡ keyNow f s
+  pub below : AreBelow (s .master) (s .from) (f .end) key passed
+  pub pulled : Pulled (s .master) (s .from) (s .to) passed m₁
+  pub looked : held ≡ isRowOf m₁ (s .from + passed) (f .end) key
+  pub started : start ≡ rowIf held (rowIn m₁ (s .from + passed))
+  pub run : RunWorked (settingNow f s e) (f .batch) (s .position) e start row (s .numbers) numbers′
 
-    pub start-is : start ≡ rowNow f s passed
-    start-is =
-        si ∙ ap (λ (t : Bool). rowIf t (rowIn m₁ (s .from + passed))) held-is
-        ∙ ap (λ (x : List ℕ). rowIf (hasRow f s passed) (take 200 x)) (pulled .rest-kept)
+module _ (f : Fixed) (s : Stand) (e passed : ℕ) (key m₁ : List ℕ) (held : Bool) (start row : Option (List ℕ)) (numbers′ : List ℕ)
+    (k : KeySteps f s e passed key m₁ held start row numbers′) where
+  -- the rows to come are as before
+  pub held-is : held ≡ hasRow f s passed
+  held-is =
+      k .looked ∙ ap (λ (x : List ℕ). ltb (s .from + passed) (f .end) && sameBytes (take 12 x) key) (k .pulled .rest-kept)
+      ∙ ap (isRowOf (s .master) (s .from + passed) (f .end)) (k .key-is)
 
-    pub key-worked : KeyWorked f s e passed row numbers′
-    key-worked =
-        record {
-          ended = ke;
-          below = subst (λ (x : List ℕ). AreBelow (s .master) (s .from) (f .end) x passed) ki ab;
-          run = subst (λ (x : Option (List ℕ)). RunWorked (settingNow f s e) (f .batch) (s .position) e x row (s .numbers) numbers′) start-is run;
-        }
+  pub start-is : start ≡ rowNow f s passed
+  start-is =
+      k .started ∙ ap (λ (t : Bool). rowIf t (rowIn m₁ (s .from + passed))) held-is
+      ∙ ap (λ (x : List ℕ). rowIf (hasRow f s passed) (take 200 x)) (k .pulled .rest-kept)
 
+  pub key-worked : KeyWorked f s e passed row numbers′
+  key-worked =
+      record {
+        ended = k .ended;
+        below = subst (λ (x : List ℕ). AreBelow (s .master) (s .from) (f .end) x passed) (k .key-is) (k .below);
+        run = subst (λ (x : Option (List ℕ)). RunWorked (settingNow f s e) (f .batch) (s .position) e x row (s .numbers) numbers′) start-is (k .run);
+      }
+
+  module _ (stays : StaysBefore f s) where
     pub stays-before : s .to + length (oneOrNone row) ≤ s .from + cond held 1 0
     stays-before =
         subst (λ (t : Bool). s .to + length (oneOrNone row) ≤ s .from + cond t 1 0) (sym held-is) (stays e passed row numbers′ key-worked)
 
     held-in : s .from + passed + cond held 1 0 ≤ f .end
-    held-in = go held hi
+    held-in = go held (k .looked)
       where
         go : (t : Bool) → t ≡ isRowOf m₁ (s .from + passed) (f .end) key → s .from + passed + cond t 1 0 ≤ f .end
-        go false x = omega (arith, ab .within)
+        go false x = omega (arith, k .below .within)
         go true x =
             let a = ltb-true (s .from + passed) (f .end) (and-left (ltb (s .from + passed) (f .end)) _ (sym x)) in
             omega (arith, a)
 
     -- the key's row has room in the buffer
     pub put-room : f .end * 200 ≤ length (s .master) → (s .to + passed + length (oneOrNone row)) * 200 ≤ length m₁
-    put-room l = omega (arith, stays-before, held-in, pulled .same-length)
+    put-room l = omega (arith, stays-before, held-in, k .pulled .same-length)
 
     unfoldable pub key-walked : (m₂ : List ℕ) (next : ℕ) → RowOfPut m₁ (s .to + passed) row m₂ next → (one : ℕ) → one ≡ cond held 1 0
         → KeyWalked f s (record { position = e; from = s .from + passed + one; to = next; master = m₂; numbers = numbers′ })
@@ -87,10 +94,10 @@ module _ (f : Fixed) (s : Stand) (stays : StaysBefore f s) (e passed : ℕ) (key
           worked = key-worked;
           from-is = ap (λ (x : ℕ). s .from + passed + x) (oi ∙ ap (λ (t : Bool). cond t 1 0) held-is);
           to-is = put .next-is;
-          rows-are = put .rows-are ∙ ap (λ (x : List (List ℕ)). x ++ oneOrNone row) (pulled .rows-are);
+          rows-are = put .rows-are ∙ ap (λ (x : List (List ℕ)). x ++ oneOrNone row) (k .pulled .rows-are);
           rest-kept =
               kept-further m₂ m₁ (next * 200) ((s .from + passed + one) * 200) (omega (arith, put .next-is, stays-before, oi)) (put .rest-kept)
-              ∙ kept-further m₁ (s .master) ((s .from + passed) * 200) ((s .from + passed + one) * 200) (omega arith) (pulled .rest-kept);
+              ∙ kept-further m₁ (s .master) ((s .from + passed) * 200) ((s .from + passed + one) * 200) (omega arith) (k .pulled .rest-kept);
         }
 
 -- ---- one key counted

@@ -9,6 +9,7 @@ use native.Mathlib.Omega.{arith}
 use borrow.Author.Tests.{ltb-true, ltb-false}
 use lib.Dec.{ltb}
 use lib.ListN.{length, take, drop, getD, length-append, length-drop, drop-of-length-le}
+use Rattle.text.specs.Options.{oneOrNone}
 use Rattle.text.specs.Blocks.{blocks}
 use Rattle.casemaster.specs.Row.{rowKey}
 use Rattle.casemaster.specs.Rows.{rowWith, withStored}
@@ -26,13 +27,14 @@ use Rattle.keywalk.specs.Walk.{distinct, keyRow, workedKeys}
 use Rattle.text.proofs.WidthLaws.{blocks-wide}
 use Rattle.turns.proofs.IndexLaws.{verdict-under}
 use Rattle.turns.proofs.RunLaws.{run-stays}
-use Rattle.keywalk.specs.Walking.{isRowOf, rowOfKey, rowsFrom, oneOrNone, OrderReady, Fixed, Stand, keyNow, hasRow, rowNow, settingNow, verdictAt, KeyWorked, KeyWalked, WalkReady, Walked}
+use Rattle.keywalk.specs.Walking.{isRowOf, rowOfKey, rowsFrom, OrderReady, Fixed, Stand, keyNow, hasRow, rowNow, settingNow, verdictAt, KeyWorked, KeyWalked, WalkReady, Walked}
 use Rattle.keywalk.proofs.GroupLaws.{detailsFrom, IsStart, Group, after-run}
 use Rattle.keywalk.proofs.KeysLaws as Keys
-use Rattle.keywalk.proofs.KeysLaws.{SameFrom, same-self}
+use Rattle.keywalk.proofs.KeysLaws.{SameFrom, same-from-self}
 use Rattle.keywalk.proofs.PassLaws.{AllBelow, FirstNotBelow, isKeyOf, firstOf, behindKey, below-append, below-more, parted-find, parted-stored}
 use Rattle.keywalk.proofs.StandLaws.{from-split, below-pass, none-back, first-is, behind-is}
-use Rattle.keywalk.proofs.WalkLaws.{worked-low, worked-length, worked-final, worked-fit, worked-other, keyRow-key, length-own}
+use Rattle.keywalk.proofs.WorkLaws.{new-final}
+use Rattle.keywalk.proofs.WalkLaws.{worked-low, worked-final, worked-fit, worked-other, keyRow-key, length-own}
 use Rattle.turns.specs.Under.{detailsUnder, runRow}
 use Rattle.turns.specs.Settings.{settingUnder}
 use Rattle.casemaster.specs.Search.{KeysRise}
@@ -83,9 +85,8 @@ module _ (f : Fixed) (s₀ : Stand) (w : WalkReady f s₀) where
 
   final-length : length (finalRows (f .settings) rows₀ details) ≡ f .end
   final-length =
-      let a = worked-length (f .settings) details (Keys.records o) (w .listed) (distinct keys) rows₀ (Keys.rises o 0) (fit₀ .wide) (fit₀ .sound) in
       let b : length rows₀ ≡ f .end - s₀ .from = length-blocks 200 (f .end - s₀ .from) (drop (s₀ .from * 200) (s₀ .master)) in
-      ap length (sym final-is) ∙ a ∙ omega (arith, b, w .room, w .within)
+      sym (new-final (f .settings) o fit₀ (w .listed)) ∙ omega (arith, b, w .room, w .within)
 
   -- ---- the invariant
 
@@ -119,7 +120,7 @@ module _ (f : Fixed) (s₀ : Stand) (w : WalkReady f s₀) where
         within = w .within;
         len = refl;
         rows-kept = refl;
-        same = same-self (s₀ .position) (s₀ .numbers);
+        same = same-from-self (s₀ .position) (s₀ .numbers);
         fit = rw te fit₀;
         whole = rw (pe, te) final-is;
         untouched = λ q a b. rw te;

@@ -12,12 +12,12 @@ use lib.Dec.{ltb}
 use lib.ListN.{length, take, drop, getD, length-drop}
 use lib.Seq.{getD-drop, ext-getD}
 use Rattle.text.specs.Blocks.{blocks}
+use Rattle.casemaster.proofs.KeyRowLaws.{SoundKeyRow, found-sound}
 use Rattle.casemaster.specs.Rows.{rowWith}
 use Rattle.layout.specs.Locals.{isLocalList}
 use Rattle.text.proofs.BlocksLaws.{length-blocks, blocks-get}
 use Rattle.layout.specs.Record.{recordKey}
 use Rattle.onecase.specs.Verdict.{Judgement, judgement, noJudgement}
-use Rattle.onecase.proofs.MachineLaws.{Good}
 use Rattle.keyorder.specs.Order.{detailAt}
 use Rattle.keyorder.specs.Tagged.{indexPart, indexParts, TaggedOrder}
 use Rattle.keyorder.specs.Runs.{IsOwnEnd}
@@ -29,14 +29,13 @@ use Rattle.turns.specs.Turns.{verdictOn, finalRows, verdictsOn}
 use Rattle.keywalk.specs.Walk.{distinct, newKeys}
 use Rattle.text.proofs.WidthLaws.{All}
 use Rattle.turns.proofs.UnderLaws.{IsRecord, final-fit, final-few, length-verdicts}
-use Rattle.turns.proofs.TurnsLaws.{found-good}
 use Rattle.turns.proofs.IndexLaws.{keyAt, verdict-at}
 use Rattle.keywalk.specs.Walking.{OrderReady, AreThere}
 use Rattle.keywalk.proofs.KeysLaws as Keys
-use Rattle.keywalk.proofs.KeysLaws.{SameFrom, same-self}
+use Rattle.keywalk.proofs.KeysLaws.{SameFrom, same-from-self}
 use Rattle.keywalk.proofs.WalkLaws.{worked-length, worked-final}
 use Rattle.turns.specs.Adds.{addsWithoutRow}
-use Rattle.casemaster.proofs.RowsLaws.{Fit}
+use Rattle.casemaster.proofs.RowsLaws.{Each, Fit}
 use Rattle.judging.specs.Setting.{settingOf}
 use Rattle.turns.specs.Settings.{Settings, settingUnder}
 use Rattle.layout.specs.Key.{isOwnKey}
@@ -64,7 +63,7 @@ module _ (state : List ℕ) (year : ℕ) (list batch : List ℕ) (d : ℕ) (numb
 -- the records of own keys are there
 pub own-there : {state : List ℕ} {year : ℕ} {list batch : List ℕ} {d own : ℕ} {numbers : List ℕ} → OrderReady state year list batch d own numbers → AreThere batch numbers own
 own-there {own = own} {numbers = numbers} o =
-    let s = Keys.sorted-from o (same-self 0 numbers) in
+    let s = Keys.sorted-from o (same-from-self 0 numbers) in
     record { within = s .within; there = λ q l. s .there q (omega arith) l }
 
 module _ (settings : Settings) {batch : List ℕ} {d own : ℕ} {rows : List (List ℕ)} {numbers : List ℕ}
@@ -111,7 +110,7 @@ module _ (settings : Settings) {batch : List ℕ} {d own : ℕ} {rows : List (Li
         setting = settingUnder settings (recordKey rec);
         row = rowWith (recordKey rec) (finalRows settings rows (take i details));
         rec = rec;
-        row-sound = sound (rowWith (recordKey rec) (finalRows settings rows (take i details))) (found-good (finalRows settings rows (take i details)) rec f);
+        row-sound = sound (rowWith (recordKey rec) (finalRows settings rows (take i details))) (found-sound (recordKey rec) (finalRows settings rows (take i details)) f);
         judged = sym (verdict-at settings rows details i noJudgement ii ∙ opened (finalRows settings rows (take i details)) rec);
       }
     where
@@ -120,9 +119,9 @@ module _ (settings : Settings) {batch : List ℕ} {d own : ℕ} {rows : List (Li
       taken (suc i) [] a = tt
       taken (suc i) (x ∷ ds) a = (a .0, taken i ds (a .1))
 
-      sound : (row : Option (List ℕ)) → Good (detailAt details i) row → SoundOrNone row
+      sound : (row : Option (List ℕ)) → Each (SoundKeyRow (recordKey (detailAt details i))) row → SoundOrNone row
       sound none g = tt
-      sound (some row) g = (g .wide, g .sound)
+      sound (some row) g = (g .keyed .wide, g .sound)
 
   -- a detail whose key isn't an own one goes by no row
   alone : (q : ℕ) → own ≤ q → q < d

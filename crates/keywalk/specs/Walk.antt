@@ -4,12 +4,12 @@ use Prim.Native.Nat.{ℕ, _+_}
 use mathlib.Core.List.{List, [], _∷_}
 use mathlib.Core.Bool.{Bool, false, cond, _&&_, not}
 use mathlib.Core.Option.{Option}
+use Rattle.text.specs.Options.{isNone}
 use Rattle.text.specs.Fields.{sameBytes}
 use Rattle.casemaster.specs.Rows.{rowWith, withStored}
 use Rattle.layout.specs.Record.{recordKey}
 use Rattle.keyorder.specs.Order.{detailAt}
 use Rattle.turns.specs.Under.{detailsUnder, runRow}
-use Rattle.turns.specs.Adds.{hasNoRow}
 use Rattle.turns.specs.Settings.{Settings, settingUnder}
 
 -- the keys of the details at some indexes
@@ -39,7 +39,7 @@ module _ (settings : Settings) (details : List (List ℕ)) where
 
   -- a key without a row that gets one
   abbrev pub isNewKey : List (List ℕ) → List ℕ → Bool
-  isNewKey rows key = hasNoRow (rowWith key rows) && not (hasNoRow (keyRow key rows))
+  isNewKey rows key = isNone (rowWith key rows) && not (isNone (keyRow key rows))
 
   -- how many of some keys are such
   unfoldable pub newKeys : List (List ℕ) → List (List ℕ) → ℕ

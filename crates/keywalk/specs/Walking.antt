@@ -3,11 +3,12 @@
 -- Assumes nothing.
 use Prim.Native.Nat.{ℕ, _+_, _-_, _*_, _≤_, _<_}
 use mathlib.Core.Path.{_≡_}
-use mathlib.Core.List.{List, [], _∷_, _++_}
+use mathlib.Core.List.{List, _++_}
 use mathlib.Core.Bool.{Bool, true, false, not, cond, _&&_}
-use mathlib.Core.Option.{Option, none, some}
+use mathlib.Core.Option.{Option}
 use lib.Dec.{ltb}
 use lib.ListN.{length, take, drop, getD}
+use Rattle.text.specs.Options.{oneOrNone}
 use Rattle.text.specs.Fields.{sameBytes}
 use Rattle.text.specs.Blocks.{blocks}
 use Rattle.layout.specs.Locals.{isLocalList}
@@ -45,11 +46,6 @@ rowOfKey m p end key = rowIf (isRowOf m p end key) (rowIn m p)
 -- the rows from a place up to the end
 abbrev pub rowsFrom : ℕ → ℕ → List ℕ → List (List ℕ)
 rowsFrom from end m = rowsOf (end - from) (drop (from * 200) m)
-
--- one row or none, as a list
-abbrev pub oneOrNone : Option (List ℕ) → List (List ℕ)
-oneOrNone none = []
-oneOrNone (some row) = row ∷ []
 
 -- the row of a state, if it holds one, at place p; the rows before it and the bytes from place next on are kept
 pub record RowOfPut (before : List ℕ) (p : ℕ) (row : Option (List ℕ)) (after : List ℕ) (next : ℕ) : Type 0 where

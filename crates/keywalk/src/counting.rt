@@ -4,8 +4,8 @@ use casemaster::search;
 use keyorder::runs;
 use keyorder::tagged;
 use layout::records;
+use text::counting::one_if;
 use text::fields;
-use turns::adds;
 ghost use mathlib.Core.Path.{_≡_};
 ghost use mathlib.Core.Bool.{true};
 ghost use Prim.Native.Nat.{_*_, _≤_, _<_};
@@ -57,7 +57,7 @@ fn count_key(m: &[u8], n: usize, s: Count, batch: &[u8], numbers: &[u64], own: u
     }
     let key = records::key_at(batch, tagged::index_part(numbers[p]));
     let at = from + search::rows_below(m, from, n, &key);
-    let one = adds::one_if(!is_row_of(m, at, n, &key));
+    let one = one_if(!is_row_of(m, at, n, &key));
     Count {
         position: e,
         from: at,

@@ -11,6 +11,7 @@ use native.Mathlib.Omega.{arith}
 use borrow.Author.Tests.{leb-true, eqb-true, eq-eqb, ne-eqb}
 use lib.Dec.{eqb, leb, lit≤, lit<}
 use lib.ListN.{length}
+use Rattle.text.specs.Options.{isSome}
 use Rattle.text.specs.Characters.{within, isByte, isLetter, space, hyphen}
 use Rattle.text.specs.Fields.{columns, every, isBlank}
 use Rattle.layout.specs.Name.{isNameByte, isNameRest, isName}
@@ -20,7 +21,7 @@ use Rattle.text.proofs.FieldsLaws.{and-left, and-right}
 use Rattle.onecase.specs.Verdict.{Judgement, hasCode, isError, isWarning, isRejected}
 use Rattle.judging.proofs.CodeSums.{number-none}
 use Rattle.onecase.proofs.JudgementLaws.{has-front, name-width}
-use Rattle.onecase.proofs.JudgedLaws.{Judged, isSome, judged, rejected-some}
+use Rattle.onecase.proofs.JudgedLaws.{Judged, judged, rejected-some}
 use Rattle.casemaster.proofs.SoundLaws.{sound-columns}
 use Rattle.keywork.specs.Packed.{characterCode, characterOf, nameNumber, nameIn, SoundOrNone, IsJudged}
 
@@ -232,40 +233,31 @@ pub record JudgedSet (j : Judgement) : Type 0 where
   pub named : eqb (setNumber j / 2 ^ 17 % 2) 1 ≡ isSome (j .name)
   pub name-again : (bytes : List ℕ) → j .name ≡ some bytes → nameIn (nameNumber bytes) ≡ bytes
 
-module _ (row : Option (List ℕ)) (j : Judgement) (h : Judged row j) where
-  low-of : isRejected j ≡ true → LowAlone (setNumber j)
-  low-of t =
-      let r = errors-room 0 (j .codes) (h .rises) (h .errors t) (lit≤ tt) in
-      record { some-code = pos (setNumber j) refl; low = omega arith; even = even-codes (j .codes) (h .positive) }
-    where
-      pos : (n : ℕ) → setNumber j ≡ n → 0 < n
-      pos zero z = absurd (rejected-some j t (number-none (j .codes) z))
-      pos (suc n) z = zero-lt-suc n
+-- a rejection's set isn't empty
+some-set : (j : Judgement) → isRejected j ≡ true → (n : ℕ) → setNumber j ≡ n → 0 < n
+some-set j t zero z = absurd (rejected-some j t (number-none (j .codes) z))
+some-set j t (suc n) z = zero-lt-suc n
 
-  high-of : isRejected j ≡ false → HighAlone (setNumber j)
-  high-of t = let k = high-codes (j .codes) (h .warnings t) in high-alone (setNumber j) (k .0) (k .1)
-
-  codes-of : codesOfNumber (setNumber j) ≡ j .codes
-  codes-of = codes-number (j .codes) (h .rises)
-
-  named-of : eqb (setNumber j / 2 ^ 17 % 2) 1 ≡ isSome (j .name)
-  named-of = sym (bit-17 (setNumber j)) ∙ ap (hasCode 17) codes-of ∙ h .named
-
-  again-of : SoundOrNone row → (bytes : List ℕ) → j .name ≡ some bytes → nameIn (nameNumber bytes) ≡ bytes
-  again-of s bytes e =
-      let n = h .name-is bytes e in
-      let k : SoundOrNone (some (n .0)) = subst SoundOrNone (n .1) s in
-      let f : nameIn (nameNumber (columns 31 34 (n .0))) ≡ columns 31 34 (n .0) =
-      four-back (columns 31 34 (n .0)) (name-width (n .0) (k .0)) (name-back (columns 31 34 (n .0)) (sound-columns (n .0) (k .1) .name-right)) in
-      subst (λ (z : List ℕ). nameIn (nameNumber z) ≡ z) (sym (n .2)) f
+-- a name of a sound row's is read again
+name-read : (row : Option (List ℕ)) (j : Judgement) → Judged row j → SoundOrNone row → (bytes : List ℕ) → j .name ≡ some bytes
+    → nameIn (nameNumber bytes) ≡ bytes
+name-read row j h s bytes e =
+    let n = h .name-is bytes e in
+    let k : SoundOrNone (some (n .0)) = subst SoundOrNone (n .1) s in
+    let f : nameIn (nameNumber (columns 31 34 (n .0))) ≡ columns 31 34 (n .0) =
+    four-back (columns 31 34 (n .0)) (name-width (n .0) (k .0)) (name-back (columns 31 34 (n .0)) (sound-columns (n .0) (k .1) .name-right)) in
+    subst (λ (z : List ℕ). nameIn (nameNumber z) ≡ z) (sym (n .2)) f
 
 pub judged-set : (j : Judgement) → IsJudged j → JudgedSet j
 judged-set j i =
     let h : Judged (i .row) j = subst (Judged (i .row)) (i .judged) (judged (i .setting) (i .row) (i .rec)) in
+    let c : codesOfNumber (setNumber j) ≡ j .codes = codes-number (j .codes) (h .rises) in
     record {
-      codes-are = codes-of (i .row) j h;
-      errors-low = low-of (i .row) j h;
-      warnings-high = high-of (i .row) j h;
-      named = named-of (i .row) j h;
-      name-again = again-of (i .row) j h (i .row-sound);
+      codes-are = c;
+      errors-low = λ t.
+          let r = errors-room 0 (j .codes) (h .rises) (h .errors t) (lit≤ tt) in
+          record { some-code = some-set j t (setNumber j) refl; low = omega arith; even = even-codes (j .codes) (h .positive) };
+      warnings-high = λ t. let k = high-codes (j .codes) (h .warnings t) in high-alone (setNumber j) (k .0) (k .1);
+      named = sym (bit-17 (setNumber j)) ∙ ap (hasCode 17) c ∙ h .named;
+      name-again = name-read (i .row) j h (i .row-sound);
     }

@@ -133,7 +133,8 @@ length-text (suc m) (c ∷ cs) = let e = length-text m cs in omega arith
 
 -- ---- rising codes, and their number
 
-rising-from : (a b e : ℕ) (cs : List ℕ) → a ≤ b → RisingCodes b e cs → RisingCodes a e cs
+-- codes from a lower one on
+pub rising-from : (a b e : ℕ) (cs : List ℕ) → a ≤ b → RisingCodes b e cs → RisingCodes a e cs
 rising-from a b e [] l h = tt
 rising-from a b e (c ∷ cs) l h = (omega arith, h .1, h .2)
 

@@ -37,10 +37,16 @@ pub const TRANSACTION_TYPE: Columns = Columns {
     last: 73,
 };
 
+// Where the type's byte stands in a record.
+pub const TYPE_AT: usize = 72;
+
 pub const CASE_TYPE: Columns = Columns {
     first: 74,
     last: 74,
 };
+
+// Where the case type's byte stands.
+pub const CASE_TYPE_AT: usize = 73;
 
 pub const TRANSFER_STATE: Columns = Columns {
     first: 75,

@@ -64,7 +64,7 @@ pub fn have_one_key(a: &[u8], b: &[u8]) -> bool
 pub fn is_known_type(rec: &[u8; 245]) -> bool
     ensures { λ r. ⌜ r ≡ isKnownType (now (rec .entry)) ⌝ }
 {
-    let t = rec[72];
+    let t = rec[chart_a1::TYPE_AT];
     let first = (t == ADD) | (t == RENAME) | (t == CASE_ID) | (t == DELETE) | (t == LOCAL_CODE);
     first | (t == MODIFY) | (t == EXCLUDE) | (t == PAYMENT) | (t == TRANSFER) | (t == ADDRESS)
 }

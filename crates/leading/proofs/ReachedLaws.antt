@@ -9,6 +9,7 @@ use native.Mathlib.Omega.{arith}
 use lib.Dec.{lit≤}
 use lib.ListN.{length, getD}
 use lib.Seq.{take-all}
+use Rattle.text.specs.Options.{isNone}
 use Rattle.text.specs.Characters.{zeroDigit, C, L, M, R}
 use Rattle.text.specs.Fields.{columns, isBlank, isZero}
 use Rattle.text.proofs.FieldsLaws.{and-left, and-right}
@@ -18,7 +19,7 @@ use Rattle.layout.specs.ChartA1.{localCode, caseId, exclusions}
 use Rattle.layout.specs.Record.{isType}
 use Rattle.layout.proofs.RecordLaws.{length-sent}
 use Rattle.judging.specs.Setting.{Setting}
-use Rattle.judging.specs.Errors.{isLocalCode, isNone, zeroLocalCode}
+use Rattle.judging.specs.Errors.{isLocalCode, zeroLocalCode}
 use Rattle.onecase.specs.Changes.{exclusionByte, reidentified, relocated, amended, excluded}
 use Rattle.onecase.specs.Machine.{changed}
 use Rattle.onecase.proofs.JudgementLaws.{NoError}

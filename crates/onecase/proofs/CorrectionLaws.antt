@@ -6,6 +6,7 @@ use mathlib.Core.Bool.{Bool, true, false, not, cond, _||_}
 use mathlib.Core.Option.{Option, some}
 use borrow.Author.Tests.{eqb-true, not-false}
 use lib.ListN.{length}
+use Rattle.text.specs.Options.{isNone}
 use Rattle.text.specs.Characters.{A, C, L, M, R}
 use Rattle.text.specs.Fields.{isBlank, sameBytes}
 use Rattle.exclusionsets.specs.Exclusions.{exclusionsOf}
@@ -16,7 +17,7 @@ use Rattle.casemaster.specs.Row.{isLive}
 use Rattle.text.proofs.BoolLaws.{and-second}
 use Rattle.text.proofs.SameLaws.{same-self}
 use Rattle.judging.specs.Setting.{Setting}
-use Rattle.judging.specs.Errors.{error10, error11, error16, isLocalCode, isNone, isLiveRow, zeroLocalCode, code}
+use Rattle.judging.specs.Errors.{error10, error11, error16, isLocalCode, isLiveRow, zeroLocalCode, code}
 use Rattle.onecase.specs.Verdict.{isAccepted}
 use Rattle.onecase.specs.Changes.{exclusionByte, reidentified, relocated, amended, excluded}
 use Rattle.onecase.specs.Machine.{changed, applied, next}

@@ -4,9 +4,10 @@ use Prim.Native.Nat.{ℕ}
 use mathlib.Core.Path.{_≡_, refl, sym, ap, _∙_}
 use mathlib.Core.List.{List, [], _∷_, _++_}
 use mathlib.Core.Bool.{Bool, true, false, not, cond, _&&_, _||_, and-true, and-false, or-true, or-false, false≢true, Bool·not-not}
-use mathlib.Core.Option.{Option, none, some}
+use mathlib.Core.Option.{Option, some}
 use borrow.Author.Tests.{not-true, not-false}
 use lib.Dec.{leb}
+use Rattle.text.specs.Options.{isSome}
 use Rattle.text.specs.Fields.{every, atLeastOne, columns}
 use Rattle.layout.specs.Codes.{RisingCodes}
 use Rattle.text.proofs.FieldsLaws.{and-left}
@@ -38,11 +39,6 @@ any-only f c false = sym (and-false (f c))
 any-of-every : (f : ℕ → Bool) (cs : List ℕ) → every f cs ≡ true → atLeastOne f cs ≡ not (isEmpty cs)
 any-of-every f [] t = refl
 any-of-every f (c ∷ cs) t = rw (and-left (f c) (every f cs) t)
-
--- a name, or none
-abbrev pub isSome : Option (List ℕ) → Bool
-isSome none = false
-isSome (some bytes) = true
 
 module _ (setting : Setting) (row : Option (List ℕ)) (rec : List ℕ) where
   errors-errors : every isError (errors setting row rec) ≡ true

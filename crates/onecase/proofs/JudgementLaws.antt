@@ -14,6 +14,7 @@ use Rattle.text.proofs.FieldsLaws.{and-left, and-right, length-columns}
 use borrow.Author.Tests.{not-true, not-false}
 use Rattle.layout.specs.Key.{isOwnKey}
 use Rattle.layout.specs.Record.{recordKey, isType}
+use Rattle.judging.proofs.FrontLaws.{add-front}
 use Rattle.judging.proofs.OwnKeyLaws.{other-wrong}
 use Rattle.judging.specs.Errors.{error01, error02, error03, error04, error05, error06, error07, error08, error09, error10, error11, error12, error13, error14, error15, error16, error17, error18, isWrongKey, isLiveRow, isOtherName, isGiven, judged09, judged17, code, errors}
 use Rattle.judging.specs.Warnings.{warning52, isRenamed, warnings}
@@ -184,10 +185,6 @@ module _ (setting : Setting) (rec : List ℕ) (w : isWrongKey setting rec ≡ tr
   wrong-key-same r1 r2 =
       judgement-same setting r1 r2 rec (wrong-codes r1 r2) (wrong-17 setting rec w r1) (wrong-17 setting rec w r2)
 
-  -- and it changes none
-  pub wrong-key-keeps : (row : Option (List ℕ)) → next setting row rec ≡ row
-  wrong-key-keeps row = error-changes-nothing setting row rec (wrong-rejected setting row rec w)
-
 -- ---- a key that is not a sound one of the control record's state
 
 module _ (setting : Setting) (rec : List ℕ) (e : length rec ≡ 245) (f : isOwnKey (setting .state) (recordKey rec) ≡ false) where
@@ -197,7 +194,7 @@ module _ (setting : Setting) (rec : List ℕ) (e : length rec ≡ 245) (f : isOw
 
   -- and changes none
   pub kept-alone : (row : Option (List ℕ)) → next setting row rec ≡ row
-  kept-alone row = wrong-key-keeps setting rec (other-wrong setting rec e f) row
+  kept-alone row = error-changes-nothing setting row rec (wrong-rejected setting row rec (other-wrong setting rec e f))
 
 -- ---- 17 is judged of a live row alone
 
@@ -302,17 +299,9 @@ module _ (setting : Setting) (r : List ℕ) (rec : List ℕ) (d : isLive r ≡ f
 -- ---- type A
 
 module _ (setting : Setting) (rec : List ℕ) (a : isType A rec ≡ true) where
-  added-09 : (row : Option (List ℕ)) → judged09 setting row rec ≡ false
-  unfolding judged09 error09
-  added-09 row = rw (a, and-false, and-false)
-
-  added-17 : (row : Option (List ℕ)) → judged17 setting row rec ≡ false
-  unfolding judged17 error17
-  added-17 row = rw (a, and-false, and-false, and-false, and-false)
-
   -- no row makes an error of type A
   pub added-errors-same : (r1 r2 : Option (List ℕ)) → errors setting r1 rec ≡ errors setting r2 rec
-  added-errors-same r1 r2 = errors-same setting r1 r2 rec (added-09 r1 ∙ sym (added-09 r2)) (added-17 r1 ∙ sym (added-17 r2))
+  added-errors-same r1 r2 = add-front setting r1 rec a ∙ sym (add-front setting r2 rec a)
 
   pub added-accepted-same : (r1 r2 : Option (List ℕ)) → isAccepted setting r1 rec ≡ isAccepted setting r2 rec
   unfolding isAccepted

@@ -9,6 +9,7 @@ use lib.ListN.{length}
 use Rattle.text.specs.Characters.{A, B, C, D, L, M, R, S, letterT}
 use Rattle.text.specs.Fields.{columns}
 use Rattle.layout.specs.Locals.{isLocalList}
+use Rattle.casemaster.proofs.KeyRowLaws.{KeyRow, SoundKeyRow}
 use Rattle.casemaster.specs.Row.{isLive, isSoundRow}
 use Rattle.layout.specs.Record.{recordKey, isType}
 use Rattle.judging.specs.Errors.{isLiveRow}
@@ -106,21 +107,6 @@ each-step P setting (some r) rec h s = go (isAccepted setting (some r) rec) (isT
 
 -- ---- width, key and soundness
 
--- 200 bytes with the record's key
-pub record Keyed (rec r : List ℕ) : Type 0 where
-  pub wide : length r ≡ 200
-  pub key : columns 1 12 r ≡ recordKey rec
-
--- and sound
-pub record GoodRow (rec r : List ℕ) : Type 0 where
-  pub wide : length r ≡ 200
-  pub key : columns 1 12 r ≡ recordKey rec
-  pub sound : isSoundRow r ≡ true
-
--- none is good
-abbrev pub Good : List ℕ → Option (List ℕ) → Type 0
-Good rec row = Each (GoodRow rec) row
-
 module _ (rec row : List ℕ) (e : length rec ≡ 245) (w : length row ≡ 200) where
   changed-kept : Kept row (changed rec row)
   changed-kept =
@@ -164,45 +150,48 @@ module _ (setting : Setting) (row : Option (List ℕ)) (rec : List ℕ) (e : len
         of-changed = λ r g n v. changed-kept rec r e (each-some IsWide row r h g) .wide;
       }
 
-  -- width and key from the row before
-  keyed : (r new : List ℕ) → Keyed rec r → Kept r new → Keyed rec new
-  keyed r new h k = record { wide = k .wide; key = k .key ∙ h .key }
+  -- a row of the record's key stays one
+  module _ (key : List ℕ) (i : recordKey rec ≡ key) where
+    keyed : (r new : List ℕ) → KeyRow key r → Kept r new → KeyRow key new
+    keyed r new h k = record { wide = k .wide; key-is = k .key ∙ h .key-is }
 
-  pub next-keyed : Each (Keyed rec) row → Each (Keyed rec) (next setting row rec)
-  next-keyed h =
-      each-step (Keyed rec) setting row rec h
-      record {
-        of-fresh = λ n a. record { wide = ChangesLaws.fresh-wide rec e (setting .list); key = ChangesLaws.fresh-key rec e (setting .list) };
-        of-recertified = λ r g n a v.
-            let k = each-some (Keyed rec) row r h g in
-            keyed r (recertified (setting .list) rec r) k (ChangesLaws.recertified-kept rec e r (k .wide) (setting .list));
-        of-changed = λ r g n v.
-            let k = each-some (Keyed rec) row r h g in
-            keyed r (changed rec r) k (changed-kept rec r e (k .wide));
-      }
+    fresh : KeyRow key (freshRow (setting .list) rec)
+    fresh = record { wide = ChangesLaws.fresh-wide rec e (setting .list); key-is = ChangesLaws.fresh-key rec e (setting .list) ∙ i }
 
-  -- width, key and soundness from the row before
-  good : (r new : List ℕ) → GoodRow rec r → Kept r new → isSoundRow new ≡ true → GoodRow rec new
-  good r new h k t = record { wide = k .wide; key = k .key ∙ h .key; sound = t }
+    pub next-keyed : Each (KeyRow key) row → Each (KeyRow key) (next setting row rec)
+    next-keyed h =
+        each-step (KeyRow key) setting row rec h
+        record {
+          of-fresh = λ n a. fresh;
+          of-recertified = λ r g n a v.
+              let k = each-some (KeyRow key) row r h g in
+              keyed r (recertified (setting .list) rec r) k (ChangesLaws.recertified-kept rec e r (k .wide) (setting .list));
+          of-changed = λ r g n v.
+              let k = each-some (KeyRow key) row r h g in
+              keyed r (changed rec r) k (changed-kept rec r e (k .wide));
+        }
 
-  pub next-good : isLocalList (setting .list) ≡ true → Good rec row → Good rec (next setting row rec)
-  next-good l h =
-      each-step (GoodRow rec) setting row rec h
-      record {
-        of-fresh = λ n a.
-            record {
-              wide = ChangesLaws.fresh-wide rec e (setting .list);
-              key = ChangesLaws.fresh-key rec e (setting .list);
-              sound = SoundChangesLaws.fresh-sound n e l a;
-            };
-        of-recertified = λ r g n a v.
-            let k = each-some (GoodRow rec) row r h g in
-            good r (recertified (setting .list) rec r) k (ChangesLaws.recertified-kept rec e r (k .wide) (setting .list))
-            (SoundChangesLaws.recertified-sound n e r (k .wide) (sound-columns r (k .sound)) v l a);
-        of-changed = λ r g n v.
-            let k = each-some (GoodRow rec) row r h g in
-            good r (changed rec r) k (changed-kept rec r e (k .wide)) (changed-sound rec r e (k .wide) n l v (k .sound));
-      }
+    -- and sound
+    pub next-sound : isLocalList (setting .list) ≡ true → Each (SoundKeyRow key) row → Each (SoundKeyRow key) (next setting row rec)
+    next-sound l h =
+        each-step (SoundKeyRow key) setting row rec h
+        record {
+          of-fresh = λ n a. record { keyed = fresh; sound = SoundChangesLaws.fresh-sound n e l a };
+          of-recertified = λ r g n a v.
+              let s = each-some (SoundKeyRow key) row r h g in
+              let w = s .keyed .wide in
+              record {
+                keyed = keyed r (recertified (setting .list) rec r) (s .keyed) (ChangesLaws.recertified-kept rec e r w (setting .list));
+                sound = SoundChangesLaws.recertified-sound n e r w (sound-columns r (s .sound)) v l a;
+              };
+          of-changed = λ r g n v.
+              let s = each-some (SoundKeyRow key) row r h g in
+              let w = s .keyed .wide in
+              record {
+                keyed = keyed r (changed rec r) (s .keyed) (changed-kept rec r e w);
+                sound = changed-sound rec r e w n l v (s .sound);
+              };
+        }
 
 -- the same of the two rows named
 module _ (setting : Setting) (r rec new : List ℕ) (e : length rec ≡ 245) (g : next setting (some r) rec ≡ some new)
@@ -212,20 +201,21 @@ module _ (setting : Setting) (r rec new : List ℕ) (e : length rec ≡ 245) (g 
 
   pub key-kept : columns 1 12 r ≡ recordKey rec → columns 1 12 new ≡ recordKey rec
   key-kept k =
-      each-some (Keyed rec) (next setting (some r) rec) new
-      (next-keyed setting (some r) rec e (record { wide = w; key = k })) g .key
+      each-some (KeyRow (recordKey rec)) (next setting (some r) rec) new
+      (next-keyed setting (some r) rec e (recordKey rec) refl (record { wide = w; key-is = k })) g .key-is
 
   pub sound-kept : isLocalList (setting .list) ≡ true → columns 1 12 r ≡ recordKey rec → isSoundRow r ≡ true → isSoundRow new ≡ true
   sound-kept l k s =
-      each-some (GoodRow rec) (next setting (some r) rec) new
-      (next-good setting (some r) rec e l (record { wide = w; key = k; sound = s })) g .sound
+      each-some (SoundKeyRow (recordKey rec)) (next setting (some r) rec) new
+      (next-sound setting (some r) rec e (recordKey rec) refl l (record { keyed = record { wide = w; key-is = k }; sound = s })) g .sound
 
 module _ (setting : Setting) (rec new : List ℕ) (e : length rec ≡ 245) (g : next setting none rec ≡ some new) where
   pub width-made : length new ≡ 200
   width-made = each-some IsWide (next setting none rec) new (next-wide setting none rec e tt) g
 
   pub key-made : columns 1 12 new ≡ recordKey rec
-  key-made = each-some (Keyed rec) (next setting none rec) new (next-keyed setting none rec e tt) g .key
+  key-made = each-some (KeyRow (recordKey rec)) (next setting none rec) new (next-keyed setting none rec e (recordKey rec) refl tt) g .key-is
 
   pub sound-made : isLocalList (setting .list) ≡ true → isSoundRow new ≡ true
-  sound-made l = each-some (GoodRow rec) (next setting none rec) new (next-good setting none rec e l tt) g .sound
+  sound-made l =
+      each-some (SoundKeyRow (recordKey rec)) (next setting none rec) new (next-sound setting none rec e (recordKey rec) refl l tt) g .sound

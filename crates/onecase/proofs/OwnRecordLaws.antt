@@ -7,6 +7,7 @@ use mathlib.Core.Option.{some}
 use borrow.Author.Tests.{not-true}
 use lib.Dec.{eqb, lit≤}
 use lib.ListN.{length}
+use Rattle.text.specs.Options.{isNone}
 use Rattle.text.specs.Characters.{A, B, C, D, L, M, R, S, letterT, Z}
 use Rattle.text.specs.Fields.{columns, isBlank, areDigits}
 use Rattle.text.proofs.BoolLaws.{or-left, or-right}
@@ -20,7 +21,7 @@ use Rattle.layout.specs.Record.{recordKey, typeOf}
 use Rattle.layout.proofs.RecordLaws.{known-type}
 use Rattle.casemaster.specs.Row.{rowKey, rowState, isLive}
 use Rattle.judging.specs.Setting.{Setting}
-use Rattle.judging.specs.Errors.{error01, error02, error03, error04, error05, error06, error07, error08, error09, error10, error11, error12, error13, error14, error15, error16, error17, error18, isWrongKey, isLiveRow, isOtherName, isLocalCode, isNone, judged09, judged17}
+use Rattle.judging.specs.Errors.{error01, error02, error03, error04, error05, error06, error07, error08, error09, error10, error11, error12, error13, error14, error15, error16, error17, error18, isWrongKey, isLiveRow, isOtherName, isLocalCode, judged09, judged17}
 use Rattle.judging.proofs.OwnKeyLaws.{own-wrong}
 use Rattle.onecase.proofs.JudgementLaws.{NoError}
 

@@ -7,6 +7,7 @@ use mathlib.Core.Option.{Option, none, some}
 use native.Mathlib.Omega.{arith}
 use borrow.Author.Tests.{ne-eqb}
 use lib.Dec.{eqb}
+use Rattle.text.specs.Options.{isSome}
 use Rattle.text.specs.Characters.{A}
 use Rattle.text.specs.Fields.{columns}
 use Rattle.layout.specs.Codes.{numberOfCodes}
@@ -21,7 +22,7 @@ use Rattle.onecase.specs.declared.verdict.Verdict.{Verdict}
 use Rattle.onecase.specs.declared.verdict.Verdict.the-variants.{Accepted}
 use Rattle.judging.proofs.CodeSums.{Rises, number-none}
 use Rattle.onecase.proofs.JudgementLaws.{accepted-none, errors-accepted, accepted-errors, error-changes-nothing, name-17}
-use Rattle.judging.specs.State.{rowIf, isHeld}
+use Rattle.judging.specs.State.{rowIf}
 use Rattle.judging.specs.Setting.{Setting}
 use Rattle.judging.proofs.JudgeLaws.{errors-rise, warnings-rise}
 
@@ -85,11 +86,11 @@ module _ (setting : Setting) (row : Option (List ℕ)) (rec : List ℕ) where
 module _ (setting : Setting) (rec : List ℕ) where
   -- an A makes a row exactly where its set of errors is empty
   pub add-makes : (set : ℕ) → set ≡ numberOfCodes (errors setting none rec) → isType A rec ≡ true
-      → eqb set 0 ≡ isHeld (next setting none rec)
+      → eqb set 0 ≡ isSome (next setting none rec)
   unfolding next applied
   add-makes set es t = go (isAccepted setting none rec) refl
     where
-      go : (b : Bool) → isAccepted setting none rec ≡ b → eqb set 0 ≡ isHeld (next setting none rec)
+      go : (b : Bool) → isAccepted setting none rec ≡ b → eqb set 0 ≡ isSome (next setting none rec)
       go true a = rw (a, t, es, accepted-errors setting none rec a)
       go false a =
           rw a
@@ -97,10 +98,10 @@ module _ (setting : Setting) (rec : List ℕ) where
           (λ z. true≢false (sym (errors-accepted setting none rec (number-none (errors setting none rec) (sym es ∙ z))) ∙ a)))
 
   -- a record of another type makes none
-  pub others-make-none : isType A rec ≡ false → false ≡ isHeld (next setting none rec)
+  pub others-make-none : isType A rec ≡ false → false ≡ isSome (next setting none rec)
   unfolding next applied
   others-make-none t = go (isAccepted setting none rec) refl
     where
-      go : (b : Bool) → isAccepted setting none rec ≡ b → false ≡ isHeld (next setting none rec)
+      go : (b : Bool) → isAccepted setting none rec ≡ b → false ≡ isSome (next setting none rec)
       go true a = rw (a, t)
       go false a = rw a

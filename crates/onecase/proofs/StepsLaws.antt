@@ -1,21 +1,12 @@
 -- The rows that an A leaves, from the steps in which they are written. Assumes nothing.
-use Prim.Native.Nat.{ℕ, _+_}
-use mathlib.Core.Path.{_≡_, ap, _∙_}
-use mathlib.Core.List.{List, _++_}
-use mathlib.Core.List.{append-nil}
-use native.Mathlib.Omega.{arith}
-use lib.ListN.{length, drop-of-length-le}
-use Rattle.text.specs.Blocks.{spliced}
+use Prim.Native.Nat.{ℕ}
+use mathlib.Core.Path.{_≡_}
+use mathlib.Core.List.{List}
 use Rattle.text.specs.Fields.{placed, isBlank, spaces}
 use Rattle.layout.specs.ChartA1.{caseId, dateIssued}
 use Rattle.layout.specs.Record.{recordKey}
 use Rattle.onecase.specs.Changes.{zeros, address, addedLocalCode, placedUnless, freshRow, recertified}
 use Rattle.onecase.specs.Copies.{withExclusions, withNames, freshEnd}
-
--- bytes as many as there are take the place of all
-pub spliced-whole : (d s : List ℕ) → length s ≡ length d → spliced d 0 s ≡ s
-unfolding spliced
-spliced-whole d s h = ap (λ (z : List ℕ). s ++ z) (drop-of-length-le d {i = 0 + length s} (omega arith)) ∙ append-nil s
 
 pub fresh-end-steps : (rec blank a b c r : List ℕ)
     → blank ≡ spaces 200

@@ -3,8 +3,8 @@
 use Prim.Native.Nat.{ℕ}
 use mathlib.Core.List.{List, [], _∷_}
 use mathlib.Core.Bool.{Bool, not, cond}
-use mathlib.Core.Option.{Option, none, some}
 use lib.ListN.{replicate}
+use Rattle.text.specs.Options.{orZero}
 use Rattle.text.specs.Characters.{zeroDigit, D}
 use Rattle.text.specs.Fields.{columns, placed, isBlank, isZero, spaces}
 use Rattle.exclusionsets.specs.Exclusions.{exclusionsOf}
@@ -22,12 +22,8 @@ abbrev pub address : List ℕ → List ℕ
 address rec = columns 84 179 rec
 
 -- the exclusion set as one byte; without error 16 there is one
-abbrev pub setByte : Option ℕ → ℕ
-setByte none = 0
-setByte (some set) = set
-
 unfoldable pub exclusionByte : List ℕ → List ℕ
-exclusionByte rec = setByte (exclusionsOf (exclusions rec)) ∷ []
+exclusionByte rec = orZero (exclusionsOf (exclusions rec)) ∷ []
 
 -- A, local code in both cases: as sent if listed, else 000
 unfoldable pub addedLocalCode : List ℕ → List ℕ → List ℕ

@@ -6,6 +6,7 @@ use mathlib.Core.List.{List, [], _∷_, _++_}
 use mathlib.Core.Bool.{true, false}
 use mathlib.Core.Option.{Option, none, some}
 use lib.ListN.{length}
+use Rattle.text.specs.Options.{oneOrNone}
 use Rattle.text.specs.Characters.{isLetter, space, hyphen, comma, A, D, E, F, H, I, J, L, M, N, O, P, R, S, letterT, X}
 use Rattle.text.specs.Fields.{placed, digitField, spaces, sameBytes}
 use Rattle.layout.specs.Ssn.{wrongSsn}
@@ -105,11 +106,6 @@ passes = gets []
 abbrev pub seen : (List ℕ → List ℕ) → Option (List ℕ) → List ℕ
 seen field none = []
 seen field (some row) = field row
-
--- the rows of a master with that row alone, or with none
-abbrev pub rowsIn : Option (List ℕ) → List (List ℕ)
-rowsIn none = []
-rowsIn (some row) = row ∷ []
 
 -- ---- the names and words of lines (c) and (d)
 
@@ -243,10 +239,10 @@ pub record ProvedTable : Type 0 where
       (sameBytes (recordKey tanf) (recordKey nonTanf) ≡ false)
       × (seen rowKey (after none tanf) ≡ recordKey tanf)
       × (seen rowKey (after none nonTanf) ≡ recordKey nonTanf)
-      × (rowWith (recordKey tanf) (rowsIn (after none tanf)) ≡ after none tanf)
-      × (rowWith (recordKey nonTanf) (rowsIn (after none nonTanf)) ≡ after none nonTanf)
-      × (rowWith (recordKey nonTanf) (rowsIn (after none tanf)) ≡ none)
-      × (rowWith (recordKey tanf) (rowsIn (after none nonTanf)) ≡ none)
+      × (rowWith (recordKey tanf) (oneOrNone (after none tanf)) ≡ after none tanf)
+      × (rowWith (recordKey nonTanf) (oneOrNone (after none nonTanf)) ≡ after none nonTanf)
+      × (rowWith (recordKey nonTanf) (oneOrNone (after none tanf)) ≡ none)
+      × (rowWith (recordKey tanf) (oneOrNone (after none nonTanf)) ≡ none)
   -- M 100 then M 200 on a key, and turned round: different rows
   pub j :
       (afterAmounts 100 200 ≡ some (owing 200))

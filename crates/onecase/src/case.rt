@@ -5,6 +5,7 @@ use crate::verdict::Verdict;
 use casemaster::row;
 use judging::judge;
 use judging::warnings;
+use layout::chart_a1;
 use layout::record;
 ghost use mathlib.Core.Path.{_≡_};
 ghost use mathlib.Core.Option.{none};
@@ -40,7 +41,7 @@ pub fn apply_in(row: &mut [u8], held: bool, rec: &[u8; 245], list: &[u8]) -> boo
     requires { ⌜ length (now row) ≡ 200 ⌝ }
     ensures { λ r. ⌜ rowIf r (now (row .exit)) ≡ applied (now (list .entry)) (rowIf held (now (row .entry))) (now (rec .entry)) ⌝ }
 {
-    let t = rec[72];
+    let t = rec[chart_a1::TYPE_AT];
     if t == record::ADD {
         if held & row::is_live(row) {
             changes::recertify(row, rec, list);

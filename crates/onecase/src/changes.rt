@@ -230,7 +230,7 @@ pub fn change(row: &mut [u8], rec: &[u8; 245])
     requires { ⌜ length (now row) ≡ 200 ⌝ }
     ensures { λ _. ⌜ now (row .exit) ≡ changed (now (rec .entry)) (now (row .entry)) ⌝ }
 {
-    let t = rec[72];
+    let t = rec[chart_a1::TYPE_AT];
     match t {
         record::RENAME => rename(row, rec),
         record::CASE_ID => reidentify(row, rec),

@@ -201,9 +201,6 @@ out-few true false = omega arith
 out-few false a = omega arith
 
 -- a count with one more at most
-pub one-fits : (x n y : ℕ) → x ≤ n → n < 18446744073709551615 → y ≤ 1 → x + y < 2 ^ 64
-one-fits x n y h l o = omega arith
-
 pub count-most : (x n y : ℕ) → x ≤ n → y ≤ 1 → x + y ≤ n + 1
 count-most x n y h o = omega arith
 

@@ -1,11 +1,10 @@
 -- Laws of the reject records: a verdict's codes and four columns, and the record that is written. Assumes nothing.
-use Prim.Native.Nat.{ℕ, _+_, _^_, _<_}
-use mathlib.Core.Path.{_≡_, refl, ap, _∙_}
-use mathlib.Core.List.{List, [], _∷_, _++_, append-nil}
+use Prim.Native.Nat.{ℕ, _^_, _<_}
+use mathlib.Core.Path.{_≡_, refl, ap}
+use mathlib.Core.List.{List, [], _∷_}
 use native.Mathlib.Omega.{arith}
 use lib.Dec.{lit≤}
-use lib.ListN.{length, drop-of-length-le}
-use Rattle.text.specs.Blocks.{spliced}
+use lib.ListN.{length}
 use Rattle.text.specs.Fields.{spaces, placed}
 use Rattle.layout.specs.Codes.{codesFrom, codesOfNumber, sixLowest}
 use Rattle.layout.proofs.CodesLaws.{length-text, lowest-codes}
@@ -37,11 +36,6 @@ pub some-any : (n : ℕ) (reject : List ℕ) → n < 2 ^ 64 → 0 < n → ifAny 
 some-any n reject h l = ap (λ (cs : List ℕ). ifAny cs reject) (lowest-codes n h l)
 
 -- ---- the record
-
--- bytes written over as many others
-pub spliced-all : (bytes s : List ℕ) → length s ≡ length bytes → spliced bytes 0 s ≡ s
-unfolding spliced
-spliced-all bytes s e = ap (λ (z : List ℕ). s ++ z) (drop-of-length-le bytes {i = 0 + length s} (omega (arith, e))) ∙ append-nil s
 
 -- six codes of two digits
 pub length-six : (codes : List ℕ) → length (sixLowest codes) ≡ 12

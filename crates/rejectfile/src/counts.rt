@@ -1,8 +1,11 @@
 // The counts of a run, and the control record of the reject file.
 use layout::chart_02;
+use layout::chart_a1;
+use layout::key;
+use text::counting::one_if;
 use text::fields;
 ghost use mathlib.Core.Path.{_≡_};
-ghost use mathlib.Core.Bool.{true, cond};
+ghost use mathlib.Core.Bool.{true};
 ghost use Prim.Native.Nat.{_+_, _<_, _≤_};
 ghost use lib.ListN.{length};
 ghost use Rattle.text.specs.Characters;
@@ -19,13 +22,6 @@ pub struct Tally {
     pub tanf_warned: u64,
     pub non_tanf_warned: u64,
     pub neither: u64,
-}
-
-// 1 where it holds, else 0.
-fn one_if(holds: bool) -> u64
-    ensures { λ r. ⌜ (r ≡ cond holds 1 0) × (r ≤ 1) ⌝ }
-{
-    if holds { 1 } else { 0 }
 }
 
 // The counts before any code is seen: so many of each case type, all accepted, and the rest of n details of neither.
@@ -50,17 +46,19 @@ fn moved(t: Tally, n: u64, rec: &[u8], accepted: bool) -> Tally
         × (countIn Characters.A (now rec) ≤ t .«tanf_accepted») × (countIn Characters.N (now rec) ≤ t .«non_tanf_accepted») ⌝ }
     ensures { λ r. ⌜ Counted (now (rec .entry)) n accepted true t r ⌝ }
 {
-    let tanf = rec[73] == 0xC1;
-    let non_tanf = rec[73] == 0xD5;
-    let tanf_out = one_if(tanf & !accepted);
-    let non_tanf_out = one_if(non_tanf & !accepted);
+    let tanf = rec[chart_a1::CASE_TYPE_AT] == key::TANF;
+    let non_tanf = rec[chart_a1::CASE_TYPE_AT] == key::NON_TANF;
+    let tanf_out = one_if(tanf & !accepted) as u64;
+    let non_tanf_out = one_if(non_tanf & !accepted) as u64;
+    let tanf_warned = t.tanf_warned + one_if(tanf & accepted) as u64;
+    let non_tanf_warned = t.non_tanf_warned + one_if(non_tanf & accepted) as u64;
     Tally {
         tanf_accepted: t.tanf_accepted - tanf_out,
         tanf_rejected: t.tanf_rejected + tanf_out,
         non_tanf_accepted: t.non_tanf_accepted - non_tanf_out,
         non_tanf_rejected: t.non_tanf_rejected + non_tanf_out,
-        tanf_warned: t.tanf_warned + one_if(tanf & accepted),
-        non_tanf_warned: t.non_tanf_warned + one_if(non_tanf & accepted),
+        tanf_warned,
+        non_tanf_warned,
         neither: t.neither,
     }
 }

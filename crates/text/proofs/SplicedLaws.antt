@@ -50,6 +50,11 @@ pub spliced-none : (d : List ℕ) (at : ℕ) → d ≡ spliced d at []
 unfolding spliced
 spliced-none d at = let z : at + 0 ≡ at = omega arith in rw z (sym (take-append-drop at d))
 
+-- bytes as many as there are take the place of all
+pub spliced-whole : (d s : List ℕ) → length s ≡ length d → spliced d 0 s ≡ s
+unfolding spliced
+spliced-whole d s h = ap (λ (z : List ℕ). s ++ z) (drop-of-length-le d {i = 0 + length s} (omega arith)) ∙ append-nil s
+
 -- a byte set, and bytes spliced in behind it
 pub spliced-cons : (d : List ℕ) (i x : ℕ) (s : List ℕ) → i < length d → spliced (set d i x) (i + 1) s ≡ spliced d i (x ∷ s)
 unfolding spliced
@@ -82,13 +87,10 @@ spliced-then d at n a b e h =
 -- a part copied out whole, over all of d
 pub cut-out : (d m : List ℕ) (a e w : ℕ) → e ≡ a + w → e ≤ length m → length d ≡ w
     → spliced d 0 (take (e - a) (drop a m)) ≡ take w (drop a m)
-unfolding spliced
 cut-out d m a e w h k l =
     let ew : e - a ≡ w = omega arith in
-    rw ew
-    (let lt : length (take w (drop a m)) ≡ w = simp (length-take, length-drop) (omega arith) in
-    ap (λ (z : List ℕ). take w (drop a m) ++ z) (drop-of-length-le d {i = 0 + length (take w (drop a m))} (omega arith))
-    ∙ append-nil (take w (drop a m)))
+    let lt : length (take w (drop a m)) ≡ w = simp (length-take, length-drop) (omega arith) in
+    rw ew (spliced-whole d (take w (drop a m)) (omega arith))
 
 pub drop-take : (m n : ℕ) (l : List ℕ) → drop m (take (m + n) l) ≡ take n (drop m l)
 drop-take zero n l = rw zero-add

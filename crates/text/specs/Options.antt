@@ -1,4 +1,4 @@
--- A value or none: whether there is none, the number or zero, and the value as a list. Assumes nothing.
+-- A value or none: whether there is one, the number or zero, and the value as a list. Assumes nothing.
 use Prim.Native.Nat.{ℕ}
 use mathlib.Core.List.{List, [], _∷_}
 use mathlib.Core.Bool.{Bool, true, false}
@@ -7,6 +7,10 @@ use mathlib.Core.Option.{Option, none, some}
 abbrev pub isNone : {X : Type 0} → Option X → Bool
 isNone none = true
 isNone (some x) = false
+
+abbrev pub isSome : {X : Type 0} → Option X → Bool
+isSome none = false
+isSome (some x) = true
 
 -- a number, or zero where there is none
 abbrev pub orZero : Option ℕ → ℕ

@@ -8,9 +8,8 @@ use lib.ListN.{take, drop, drop-of-length-le}
 use Rattle.text.specs.Characters.{A}
 use Rattle.text.specs.Blocks.{blocks}
 use Rattle.text.proofs.BlocksLaws.{length-blocks, blocks-next}
-use Rattle.layout.specs.Record.{isType, recordKey}
-use Rattle.casemaster.specs.Rows.{rowWith}
-use Rattle.turns.specs.Adds.{hasNoRow, addsWithoutRow, addCount}
+use Rattle.layout.specs.Record.{isType}
+use Rattle.turns.specs.Adds.{isNew, addsWithoutRow, addCount}
 
 both-most : (a b : Bool) → cond (a && b) 1 0 ≤ cond a 1 0
 both-most true true = omega arith
@@ -22,7 +21,7 @@ pub new-most-adds : (rows details : List (List ℕ)) → addsWithoutRow rows det
 unfolding addCount addsWithoutRow
 new-most-adds rows [] = omega arith
 new-most-adds rows (detail ∷ details) =
-    let one = both-most (isType A detail) (hasNoRow (rowWith (recordKey detail) rows)) in
+    let one : cond (isNew rows detail) 1 0 ≤ cond (isType A detail) 1 0 = both-most (isType A detail) _ in
     omega (arith, one, new-most-adds rows details)
 
 module _ (batch : List ℕ) (d : ℕ) where

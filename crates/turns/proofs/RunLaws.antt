@@ -1,29 +1,27 @@
 -- Laws of the one-case machine's run: one detail more, and over the details of a key, what a row or none keeps. Assumes nothing.
 use Prim.Native.Nat.{ℕ}
-use mathlib.Core.Path.{_≡_, refl, sym, ap, _∙_}
+use mathlib.Core.Path.{_≡_, refl, ap, _∙_}
 use mathlib.Core.Bool.{Bool, true, false, not, cond, _||_}
 use mathlib.Core.List.{List, [], _∷_, _++_}
 use mathlib.Core.Option.{Option, none, some}
-use lib.ListN.{length}
+use Rattle.text.specs.Options.{isNone, isSome}
 use Rattle.text.proofs.SameLaws.{same-eq}
 use Rattle.text.proofs.WidthLaws.{All}
 use Rattle.layout.specs.Locals.{isLocalList}
 use Rattle.layout.specs.Key.{isOwnKey}
 use Rattle.layout.specs.Record.{recordKey}
-use Rattle.casemaster.specs.Row.{rowKey, isSoundRow}
 use Rattle.casemaster.proofs.RowsLaws.{Each}
-use Rattle.judging.specs.State.{isHeld}
+use Rattle.casemaster.proofs.KeyRowLaws.{KeyRow, SoundKeyRow}
 use Rattle.judging.specs.Setting.{Setting}
 use Rattle.onecase.specs.Machine.{next}
-use Rattle.onecase.proofs.MachineLaws.{Keyed, GoodRow, row-stays, next-keyed, next-good}
+use Rattle.onecase.proofs.MachineLaws.{row-stays, next-keyed, next-sound}
 use Rattle.onecase.proofs.JudgementLaws.{kept-alone}
 use Rattle.turns.specs.Under.{isUnder, detailsUnder, runRow}
-use Rattle.turns.specs.Adds.{hasNoRow}
 use Rattle.turns.proofs.UnderLaws.{IsRecord}
 
 -- ---- one detail more
 
-pub held-is : (row : Option (List ℕ)) → isHeld row ≡ not (hasNoRow row)
+pub held-is : (row : Option (List ℕ)) → isSome row ≡ not (isNone row)
 held-is none = refl
 held-is (some row) = refl
 
@@ -37,26 +35,11 @@ module _ (setting : Setting) where
 
   -- a row is there after one detail more: it was there, or the detail makes it
   pub held-more : (row : Option (List ℕ)) (x : List ℕ)
-      → not (hasNoRow (next setting row x)) ≡ (not (hasNoRow row) || not (hasNoRow (next setting none x)))
+      → not (isNone (next setting row x)) ≡ (not (isNone row) || not (isNone (next setting none x)))
   held-more none x = refl
   held-more (some row) x = let s = row-stays setting row x in rw (s .1)
 
 -- ---- under a key
-
--- a row of the key, as wide as rows are
-pub record KeyRow (key row : List ℕ) : Type 0 where
-  pub wide : length row ≡ 200
-  pub key-is : rowKey row ≡ key
-
--- and sound
-pub record SoundKeyRow (key row : List ℕ) : Type 0 where
-  pub wide : length row ≡ 200
-  pub key-is : rowKey row ≡ key
-  pub sound : isSoundRow row ≡ true
-
-each-map : (P Q : List ℕ → Type 0) → ((row : List ℕ) → P row → Q row) → (o : Option (List ℕ)) → Each P o → Each Q o
-each-map P Q f none h = tt
-each-map P Q f (some row) h = f row h
 
 module _ (setting : Setting) (key : List ℕ) where
   -- what each step under the key keeps, the run keeps
@@ -76,21 +59,12 @@ module _ (setting : Setting) (key : List ℕ) where
   -- width and key
   pub run-keyed : (o : Option (List ℕ)) (details : List (List ℕ)) → All IsRecord details → Each (KeyRow key) o
       → Each (KeyRow key) (runRow setting o (detailsUnder key details))
-  run-keyed =
-      run-each (KeyRow key)
-      (λ o d e k h.
-      each-map (Keyed d) (KeyRow key) (λ row r. record { wide = r .wide; key-is = r .key ∙ k }) (next setting o d)
-      (next-keyed setting o d e (each-map (KeyRow key) (Keyed d) (λ row r. record { wide = r .wide; key = r .key-is ∙ sym k }) o h)))
+  run-keyed = run-each (KeyRow key) (λ o d e k h. next-keyed setting o d e key k h)
 
   -- and soundness
   pub run-sound : isLocalList (setting .list) ≡ true → (o : Option (List ℕ)) (details : List (List ℕ)) → All IsRecord details → Each (SoundKeyRow key) o
       → Each (SoundKeyRow key) (runRow setting o (detailsUnder key details))
-  run-sound l =
-      run-each (SoundKeyRow key)
-      (λ o d e k h.
-      each-map (GoodRow d) (SoundKeyRow key) (λ row r. record { wide = r .wide; key-is = r .key ∙ k; sound = r .sound }) (next setting o d)
-      (next-good setting o d e l
-      (each-map (SoundKeyRow key) (GoodRow d) (λ row r. record { wide = r .wide; key = r .key-is ∙ sym k; sound = r .sound }) o h)))
+  run-sound l = run-each (SoundKeyRow key) (λ o d e k h. next-sound setting o d e key k l h)
 
   pub run-none : (o : Option (List ℕ)) (ds : List (List ℕ)) → ds ≡ [] → runRow setting o ds ≡ o
   unfolding runRow

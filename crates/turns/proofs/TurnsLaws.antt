@@ -8,21 +8,23 @@ use mathlib.Core.Option.{Option, none, some}
 use native.Mathlib.Omega.{arith}
 use native.Mathlib.Nat.{le-refl}
 use lib.ListN.{length}
+use Rattle.text.specs.Options.{isNone}
 use Rattle.text.specs.Characters.{A}
 use Rattle.text.specs.Fields.{sameBytes}
 use Rattle.layout.specs.Locals.{isLocalList}
-use Rattle.casemaster.specs.Row.{rowKey, isSoundRow}
+use Rattle.casemaster.proofs.KeyRowLaws.{KeyRow, found-keyed, found-sound, stored-wide, stored-fit, stored-here, stored-other}
+use Rattle.casemaster.specs.Row.{rowKey}
 use Rattle.casemaster.specs.Master.{areSoundRows}
 use Rattle.casemaster.specs.Rows.{rowWith, withRow, withStored}
 use Rattle.text.proofs.SameLaws.{same-eq}
-use Rattle.casemaster.proofs.SearchLaws.{row-key, with-sound, length-replaced, length-added, row-with-same, row-with-other}
+use Rattle.casemaster.proofs.SearchLaws.{length-replaced, length-added}
 use Rattle.layout.specs.Record.{recordKey, isType}
 use Rattle.onecase.specs.Machine.{next}
-use Rattle.onecase.proofs.MachineLaws.{Keyed, Good, row-stays, only-add-makes, next-keyed, next-good}
+use Rattle.onecase.proofs.MachineLaws.{row-stays, only-add-makes, next-keyed, next-sound}
 use Rattle.turns.specs.Turns.{afterDetail}
-use Rattle.text.proofs.WidthLaws.{All, every-all}
-use Rattle.casemaster.proofs.RowsLaws.{each-sound, found-all, all-put, Each, IsWide, Fit, rows-rise}
-use Rattle.turns.specs.Adds.{hasNoRow, isNew, addsWithoutRow}
+use Rattle.text.proofs.WidthLaws.{All}
+use Rattle.casemaster.proofs.RowsLaws.{found-all, Each, IsWide, Fit, rows-rise}
+use Rattle.turns.specs.Adds.{isNew, addsWithoutRow}
 use Rattle.judging.specs.Setting.{Setting}
 use Rattle.turns.specs.Settings.{Settings, settingUnder}
 
@@ -30,44 +32,6 @@ use Rattle.turns.specs.Settings.{Settings, settingUnder}
 
 pub found-wide : (key : List ℕ) (rows : List (List ℕ)) → All IsWide rows → Each IsWide (rowWith key rows)
 found-wide key rows w = found-all IsWide key rows w
-
--- under the detail's key it is as wide as rows are and has the key
-pub found-keyed : (rows : List (List ℕ)) (detail : List ℕ) → All IsWide rows → Each (Keyed detail) (rowWith (recordKey detail) rows)
-found-keyed rows detail w = go (rowWith (recordKey detail) rows) refl (found-all IsWide (recordKey detail) rows w)
-  where
-    go : (o : Option (List ℕ)) → rowWith (recordKey detail) rows ≡ o → Each IsWide o → Each (Keyed detail) o
-    go none e h = tt
-    go (some row) e h = record { wide = h; key = row-key (recordKey detail) rows row e }
-
--- and is sound
-pub found-good : (rows : List (List ℕ)) (detail : List ℕ) → Fit rows → Good detail (rowWith (recordKey detail) rows)
-found-good rows detail f =
-    go (rowWith (recordKey detail) rows) (found-keyed rows detail (f .wide))
-    (found-all Sound (recordKey detail) rows (every-all isSoundRow rows (each-sound rows (f .sound))))
-  where
-    Sound : List ℕ → Type 0
-    Sound row = isSoundRow row ≡ true
-
-    go : (o : Option (List ℕ)) → Each (Keyed detail) o → Each Sound o → Good detail o
-    go none k s = tt
-    go (some row) k s = record { wide = k .wide; key = k .key; sound = s }
-
--- ---- what a step returned, put back
-
--- rows stay wide, sound and in order
-pub stored-fit : (rows : List (List ℕ)) (detail : List ℕ) (o : Option (List ℕ)) → Good detail o → Fit rows → Fit (withStored o rows)
-stored-fit rows detail none g f = f
-stored-fit rows detail (some row) g f =
-    record {
-      wide = all-put IsWide row rows (g .wide) (f .wide);
-      sound = with-sound row rows (f .sound) (g .sound);
-    }
-
--- under any other key nothing changes
-pub stored-other : (key : List ℕ) (rows : List (List ℕ)) (detail : List ℕ) (o : Option (List ℕ)) → Each (Keyed detail) o
-    → sameBytes (recordKey detail) key ≡ false → rowWith key (withStored o rows) ≡ rowWith key rows
-stored-other key rows detail none k n = refl
-stored-other key rows detail (some row) k n = row-with-other key row rows (rw (k .key) n)
 
 module _ (setting : Setting) where
   -- a row stays, so a step that returns none found none
@@ -88,40 +52,32 @@ module _ (settings : Settings) (rows : List (List ℕ)) (detail : List ℕ) (e :
 
   -- ---- what is found afterwards
 
-  step-keyed : All IsWide rows → Each (Keyed detail) step
-  step-keyed w = next-keyed setting (rowWith (recordKey detail) rows) detail e (found-keyed rows detail w)
+  step-keyed : All IsWide rows → Each (KeyRow (recordKey detail)) step
+  step-keyed w = next-keyed setting (rowWith (recordKey detail) rows) detail e (recordKey detail) refl (found-keyed (recordKey detail) rows w)
 
   -- under the detail's key, what the machine made of the row there
   pub after-here : All IsWide rows
       → rowWith (recordKey detail) (afterDetail settings rows detail) ≡ next setting (rowWith (recordKey detail) rows) detail
   unfolding afterDetail
-  after-here w = go step refl (step-keyed w)
-    where
-      go : (o : Option (List ℕ)) → step ≡ o → Each (Keyed detail) o → rowWith (recordKey detail) (withStored o rows) ≡ o
-      go none h k = none-stays setting (rowWith (recordKey detail) rows) detail h
-      go (some row) h k = row-with-same (recordKey detail) row rows (k .key)
+  after-here w = stored-here (recordKey detail) rows step (step-keyed w) (none-stays setting (rowWith (recordKey detail) rows) detail)
 
   -- under any other, what stood there
   pub after-other : (key : List ℕ) → All IsWide rows → sameBytes (recordKey detail) key ≡ false
       → rowWith key (afterDetail settings rows detail) ≡ rowWith key rows
   unfolding afterDetail
-  after-other key w n = stored-other key rows detail step (step-keyed w) n
+  after-other key w n = stored-other (recordKey detail) rows key step (step-keyed w) n
 
   -- ---- rows stay sound, wide and in order
 
   pub after-fit : isLocalList (settings .list) ≡ true → Fit rows → Fit (afterDetail settings rows detail)
   unfolding afterDetail
   after-fit l f =
-      stored-fit rows detail (next setting (rowWith (recordKey detail) rows) detail)
-      (next-good setting (rowWith (recordKey detail) rows) detail e l (found-good rows detail f)) f
+      stored-fit (recordKey detail) rows (next setting (rowWith (recordKey detail) rows) detail)
+      (next-sound setting (rowWith (recordKey detail) rows) detail e (recordKey detail) refl l (found-sound (recordKey detail) rows f)) f
 
   pub after-wide : All IsWide rows → All IsWide (afterDetail settings rows detail)
   unfolding afterDetail
-  after-wide w = go step (step-keyed w)
-    where
-      go : (o : Option (List ℕ)) → Each (Keyed detail) o → All IsWide (withStored o rows)
-      go none k = w
-      go (some row) k = all-put IsWide row rows (k .wide) w
+  after-wide w = stored-wide (recordKey detail) rows step (step-keyed w) w
 
   pub after-sound : isLocalList (settings .list) ≡ true → All IsWide rows → areSoundRows rows ≡ true
       → areSoundRows (afterDetail settings rows detail) ≡ true
@@ -136,29 +92,29 @@ module _ (settings : Settings) (rows : List (List ℕ)) (detail : List ℕ) (e :
   after-length w s = go step refl (step-keyed w)
     where
       put : (row : List ℕ) → step ≡ some row → rowKey row ≡ recordKey detail → (o : Option (List ℕ)) → rowWith (recordKey detail) rows ≡ o
-          → length (withRow row rows) ≤ length rows + cond (isType A detail && hasNoRow o) 1 0
+          → length (withRow row rows) ≤ length rows + cond (isNew rows detail) 1 0
       put row h k none q =
           let a : isType A detail ≡ true = only-add-makes setting detail row (rw q at h) in
           let n : length (withRow row rows) ≡ suc (length rows) = length-added row rows (rw k q) in
-          rw a (omega arith)
+          rw (a, q) (omega arith)
       put row h k (some old) q =
           let n : length (withRow row rows) ≡ length rows = length-replaced row rows old (rows-rise rows s) (rw k q) in
           omega arith
 
-      go : (o : Option (List ℕ)) → step ≡ o → Each (Keyed detail) o → length (withStored o rows) ≤ length rows + cond (isNew rows detail) 1 0
+      go : (o : Option (List ℕ)) → step ≡ o → Each (KeyRow (recordKey detail)) o → length (withStored o rows) ≤ length rows + cond (isNew rows detail) 1 0
       go none h k = omega arith
-      go (some row) h k = put row h (k .key) (rowWith (recordKey detail) rows) refl
+      go (some row) h k = put row h (k .key-is) (rowWith (recordKey detail) rows) refl
 
   -- a key that has a row keeps it
   pub missing-after : (key : List ℕ) → All IsWide rows
-      → hasNoRow (rowWith key (afterDetail settings rows detail)) ≡ true → hasNoRow (rowWith key rows) ≡ true
+      → isNone (rowWith key (afterDetail settings rows detail)) ≡ true → isNone (rowWith key rows) ≡ true
   missing-after key w m = go (sameBytes (recordKey detail) key) refl
     where
-      stays : (o : Option (List ℕ)) → hasNoRow (next (settingUnder settings key) o detail) ≡ true → hasNoRow o ≡ true
+      stays : (o : Option (List ℕ)) → isNone (next (settingUnder settings key) o detail) ≡ true → isNone o ≡ true
       stays none h = refl
       stays (some row) h = let t = row-stays (settingUnder settings key) row detail in rw (t .1) at h
 
-      go : (t : Bool) → sameBytes (recordKey detail) key ≡ t → hasNoRow (rowWith key rows) ≡ true
+      go : (t : Bool) → sameBytes (recordKey detail) key ≡ t → isNone (rowWith key rows) ≡ true
       go true t =
           let k : recordKey detail ≡ key = same-eq (recordKey detail) key t in
           let h : rowWith key after ≡ next (settingUnder settings key) (rowWith key rows) detail = rw k at (after-here w) in
@@ -174,7 +130,7 @@ module _ (settings : Settings) (rows : List (List ℕ)) (detail : List ℕ) (e :
       omega (
         arith,
         new-rows-after w details,
-        go (isType A d) (hasNoRow (rowWith (recordKey d) after)) (hasNoRow (rowWith (recordKey d) rows)) (missing-after (recordKey d) w),
+        go (isType A d) (isNone (rowWith (recordKey d) after)) (isNone (rowWith (recordKey d) rows)) (missing-after (recordKey d) w),
       )
     where
       go : (a b c : Bool) → (b ≡ true → c ≡ true) → cond (a && b) 1 0 ≤ cond (a && c) 1 0

@@ -1,20 +1,15 @@
 -- Document 01, refusal 9: the A records of a batch, and those whose key has no row. Assumes nothing.
 use Prim.Native.Nat.{ℕ, _+_}
 use mathlib.Core.List.{List, [], _∷_}
-use mathlib.Core.Bool.{Bool, true, false, cond, _&&_}
-use mathlib.Core.Option.{Option, none, some}
+use mathlib.Core.Bool.{Bool, cond, _&&_}
+use Rattle.text.specs.Options.{isNone}
 use Rattle.text.specs.Characters.{A}
 use Rattle.layout.specs.Record.{recordKey, isType}
 use Rattle.casemaster.specs.Rows.{rowWith}
 
--- no row
-abbrev pub hasNoRow : Option (List ℕ) → Bool
-hasNoRow none = true
-hasNoRow (some row) = false
-
 -- an A record whose key has no row
 abbrev pub isNew : List (List ℕ) → List ℕ → Bool
-isNew rows detail = isType A detail && hasNoRow (rowWith (recordKey detail) rows)
+isNew rows detail = isType A detail && isNone (rowWith (recordKey detail) rows)
 
 -- how many A records have a key without a row
 unfoldable pub addsWithoutRow : List (List ℕ) → List (List ℕ) → ℕ

@@ -7,7 +7,7 @@ use Rattle.layout.specs.Batch.{recordAt}
 use Rattle.layout.specs.Record.{recordKey}
 use Rattle.keywork.proofs.KeyWorkLaws.{key-ready}
 use Rattle.keywalk.specs.Walking.{fixedOf}
-use Rattle.keywalk.proofs.WalkStepLaws.{row-there, put-room}
+use Rattle.keywalk.proofs.WalkStepLaws.{KeySteps, row-there, put-room}
 use Rattle.journalwalk.specs.JournalWalk.{standOf}
 use Rattle.journalwalk.proofs.StepLaws.{entry-room, key-journaled}
 use borrow.Author.Needs.{needs}
@@ -83,9 +83,19 @@ put-key-entry-requires c κs =
     let at-run-at = at-index-part .before .before in
     let start = at-run-at .before .before .before .before .before .before .before .before in
     let a = start .args in
-    entry-room (fixedOf (a .state .now) (a .year) (a .list .now) (a .batch .now) (a .own) (a .end)) (standOf (a .s) (a .m .now) (a .numbers .now))
-    (start .pre .1 .1 .0) _ _ _ _ (at-run-at .run-at .ensures .run) (at-key-at .key-at .ensures ∙ ap (λ (i : ℕ). recordKey (recordAt (a .batch .now) i)) (at-index-part .index-part .ensures .0)) (at-rows-below .rows-below .ensures) (at-pull-rows .pull-rows .ensures) _
-    (at-is-row-of .is-row-of .ensures) _ _ (at-case-at .case-at .ensures) _ (at-work-key .work-key .ensures) (a .wanted) (a .s .written) (a .journal .now) (start .pre .1 .1 .1)
+    let f = fixedOf (a .state .now) (a .year) (a .list .now) (a .batch .now) (a .own) (a .end) in
+    let s = standOf (a .s) (a .m .now) (a .numbers .now) in
+    let steps : KeySteps f s _ _ _ _ _ _ _ _ =
+    record {
+      ended = at-run-at .run-at .ensures .run;
+      key-is = at-key-at .key-at .ensures ∙ ap (λ (i : ℕ). recordKey (recordAt (a .batch .now) i)) (at-index-part .index-part .ensures .0);
+      below = at-rows-below .rows-below .ensures;
+      pulled = at-pull-rows .pull-rows .ensures;
+      looked = at-is-row-of .is-row-of .ensures;
+      started = at-case-at .case-at .ensures;
+      run = at-work-key .work-key .ensures;
+    } in
+    entry-room f s _ _ _ _ _ _ _ _ steps (a .wanted) (a .s .written) (a .journal .now) (start .pre .1 .1 .1)
 
 add-put-row-of : tie.Need-add-put-row-of
 add-put-row-of c =
@@ -106,9 +116,19 @@ put-row-of-requires c κs =
     let at-run-at = at-index-part .before .before in
     let start = at-run-at .before .before .before .before .before .before .before .before in
     let a = start .args in
-    put-room (fixedOf (a .state .now) (a .year) (a .list .now) (a .batch .now) (a .own) (a .end)) (standOf (a .s) (a .m .now) (a .numbers .now))
-    (start .pre .1 .1 .0) _ _ _ _ (at-run-at .run-at .ensures .run) (at-key-at .key-at .ensures ∙ ap (λ (i : ℕ). recordKey (recordAt (a .batch .now) i)) (at-index-part .index-part .ensures .0)) (at-rows-below .rows-below .ensures) (at-pull-rows .pull-rows .ensures) _
-    (at-is-row-of .is-row-of .ensures) _ _ (at-case-at .case-at .ensures) _ (at-work-key .work-key .ensures) (start .pre .1 .0 .2)
+    let f = fixedOf (a .state .now) (a .year) (a .list .now) (a .batch .now) (a .own) (a .end) in
+    let s = standOf (a .s) (a .m .now) (a .numbers .now) in
+    let steps : KeySteps f s _ _ _ _ _ _ _ _ =
+    record {
+      ended = at-run-at .run-at .ensures .run;
+      key-is = at-key-at .key-at .ensures ∙ ap (λ (i : ℕ). recordKey (recordAt (a .batch .now) i)) (at-index-part .index-part .ensures .0);
+      below = at-rows-below .rows-below .ensures;
+      pulled = at-pull-rows .pull-rows .ensures;
+      looked = at-is-row-of .is-row-of .ensures;
+      started = at-case-at .case-at .ensures;
+      run = at-work-key .work-key .ensures;
+    } in
+    put-room f s _ _ _ _ _ _ _ _ steps (start .pre .1 .1 .0) (start .pre .1 .0 .2)
 
 one-if-requires : tie.Need-one-if-requires
 one-if-requires c κs = search needs
@@ -143,10 +163,20 @@ returns c =
     let at-run-at = at-index-part .before .before in
     let start = at-run-at .before .before .before .before .before .before .before .before in
     let a = start .args in
-    key-journaled (fixedOf (a .state .now) (a .year) (a .list .now) (a .batch .now) (a .own) (a .end)) (standOf (a .s) (a .m .now) (a .numbers .now))
-    (start .pre .1 .1 .0) _ _ _ _ (at-run-at .run-at .ensures .run) (at-key-at .key-at .ensures ∙ ap (λ (i : ℕ). recordKey (recordAt (a .batch .now) i)) (at-index-part .index-part .ensures .0)) (at-rows-below .rows-below .ensures) (at-pull-rows .pull-rows .ensures) _
-    (at-is-row-of .is-row-of .ensures) _ _ (at-case-at .case-at .ensures) _ (at-work-key .work-key .ensures) (a .wanted) (a .s .written) (a .journal .now)
-    _ _ (at-put-row-of .put-row-of .ensures) _ (c .one-if .ensures .0) _ _ (at-put-key-entry .put-key-entry .ensures)
+    let f = fixedOf (a .state .now) (a .year) (a .list .now) (a .batch .now) (a .own) (a .end) in
+    let s = standOf (a .s) (a .m .now) (a .numbers .now) in
+    let steps : KeySteps f s _ _ _ _ _ _ _ _ =
+    record {
+      ended = at-run-at .run-at .ensures .run;
+      key-is = at-key-at .key-at .ensures ∙ ap (λ (i : ℕ). recordKey (recordAt (a .batch .now) i)) (at-index-part .index-part .ensures .0);
+      below = at-rows-below .rows-below .ensures;
+      pulled = at-pull-rows .pull-rows .ensures;
+      looked = at-is-row-of .is-row-of .ensures;
+      started = at-case-at .case-at .ensures;
+      run = at-work-key .work-key .ensures;
+    } in
+    key-journaled f s _ _ _ _ _ _ _ _ steps (a .wanted) (a .s .written) (a .journal .now)
+    (start .pre .1 .1 .0) _ _ (at-put-row-of .put-row-of .ensures) _ (c .one-if .ensures .0) _ _ (at-put-key-entry .put-key-entry .ensures)
 
 pub walk-key-spec : {M : Type 1} → statement M
 walk-key-spec =

@@ -2,7 +2,7 @@
 use mathlib.Core.Path.{sym, ap, _∙_}
 use borrow.Author.Needs.{needs}
 use Rattle.exclusionsets.specs.Exclusions.{exclusionsOf, setRead}
-use Rattle.judging.specs.Errors.{isNone}
+use Rattle.text.specs.Options.{isNone}
 use Rattle.judging.proofs.errors.has_wrong_word.Statement.{statement}
 use Rattle.judging.proofs.errors.has_wrong_word.Tie as tie
 

@@ -4,8 +4,9 @@ use mathlib.Core.Option.{Option}
 use mathlib.Core.Path.{sym, ap, _∙_}
 use Prim.Native.Nat.{ℕ}
 use borrow.Author.Needs.{needs}
+use Rattle.text.specs.Options.{orZero}
 use Rattle.exclusionsets.specs.Exclusions.{exclusionsOf, setRead}
-use Rattle.onecase.specs.Changes.{setByte, exclusionByte}
+use Rattle.onecase.specs.Changes.{exclusionByte}
 use Rattle.onecase.proofs.changes.exclusion_byte.Statement.{statement}
 use Rattle.onecase.proofs.changes.exclusion_byte.Tie as tie
 
@@ -23,11 +24,11 @@ enum-told c = search needs
 
 returns : tie.Need-returns
 unfolding exclusionByte
-returns c = sym (ap (λ (o : Option ℕ). setByte o ∷ []) (sym (c .before .before .before .read-exclusions .ensures ∙ ap exclusionsOf (c .before .before .before .before .field .ensures)) ∙ ap setRead (c .before .set .given .1)))
+returns c = sym (ap (λ (o : Option ℕ). orZero o ∷ []) (sym (c .before .before .before .read-exclusions .ensures ∙ ap exclusionsOf (c .before .before .before .before .field .ensures)) ∙ ap setRead (c .before .set .given .1)))
 
 returns-2 : tie.Need-returns-2
 unfolding exclusionByte
-returns-2 c = sym (ap (λ (o : Option ℕ). setByte o ∷ []) (sym (c .before .before .read-exclusions .ensures ∙ ap exclusionsOf (c .before .before .before .field .ensures)) ∙ ap setRead (c .enum-told .given .1)))
+returns-2 c = sym (ap (λ (o : Option ℕ). orZero o ∷ []) (sym (c .before .before .read-exclusions .ensures ∙ ap exclusionsOf (c .before .before .before .field .ensures)) ∙ ap setRead (c .enum-told .given .1)))
 
 pub exclusion-byte-spec : {M : Type 1} → statement M
 exclusion-byte-spec =

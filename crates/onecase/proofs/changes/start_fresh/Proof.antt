@@ -1,5 +1,6 @@
 -- `changes::start_fresh` meets its contract: 200 spaces take the place of all, then the writes of the definition. Assumes nothing.
-use Rattle.onecase.proofs.StepsLaws.{spliced-whole, fresh-end-steps}
+use Rattle.text.proofs.SplicedLaws.{spliced-whole}
+use Rattle.onecase.proofs.StepsLaws.{fresh-end-steps}
 use Rattle.text.specs.Fields.{spaces}
 use mathlib.Core.Path.{sym, _∙_}
 use borrow.Author.Needs.{needs}

@@ -4,7 +4,7 @@ use mathlib.Core.Path.{refl}
 use mathlib.Core.Bool.{not}
 use borrow.Author.Needs.{needs}
 use Rattle.rejectfile.specs.Counts.{isTanf, isNonTanf}
-use Rattle.rejectfile.proofs.CountsLaws.{one-fits, count-most, moved-counts, out-few}
+use Rattle.rejectfile.proofs.CountsLaws.{count-most, moved-counts, out-few}
 use Rattle.rejectfile.proofs.counts.moved.Statement.{statement}
 use Rattle.rejectfile.proofs.counts.moved.Tie as tie
 
@@ -20,55 +20,55 @@ one-if-requires c κs = search needs
 one-if-requires-2 : tie.Need-one-if-requires-2
 one-if-requires-2 c κs = search needs
 
-sub-t14 : tie.Need-sub-t14
-sub-t14 c =
-    let at-one-if = c .before .before in
-    let start = at-one-if .before .before .before .before in
-    omega (arith, at-one-if .one-if .ensures .0, out-few (isTanf (start .args .rec .now)) (not (start .args .accepted)), start .pre .3)
-
-add-t15 : tie.Need-add-t15
-add-t15 c =
-    let at-one-if2 = c .before .before in
-    let at-one-if = at-one-if2 .before in
-    let start = at-one-if .before .before .before .before in
-    omega (arith, start .pre .1 .a, start .pre .2, at-one-if .one-if .ensures .1, at-one-if2 .one-if2 .ensures .1)
-
-sub-t16 : tie.Need-sub-t16
-sub-t16 c =
-    let at-one-if2 = c .before .before .before in
-    let start = at-one-if2 .before .before .before .before .before in
-    omega (arith, at-one-if2 .one-if2 .ensures .0, out-few (isNonTanf (start .args .rec .now)) (not (start .args .accepted)), start .pre .4)
-
-add-t17 : tie.Need-add-t17
-add-t17 c =
-    let at-one-if2 = c .before .before .before .before in
-    let at-one-if = at-one-if2 .before in
-    let start = at-one-if .before .before .before .before in
-    omega (arith, start .pre .1 .b, start .pre .2, at-one-if .one-if .ensures .1, at-one-if2 .one-if2 .ensures .1)
-
 one-if-requires-3 : tie.Need-one-if-requires-3
 one-if-requires-3 c κs = search needs
 
-add-t19 : tie.Need-add-t19
-add-t19 c =
+add-tanf-warned : tie.Need-add-tanf-warned
+add-tanf-warned c =
     let at-one-if3 = c .before in
-    let start = at-one-if3 .before .before .before .before .before .before .before .before .before .before in
-    record { fits = one-fits _ _ _ (start .pre .1 .c) (start .pre .2) (at-one-if3 .one-if3 .ensures .1) }
+    let start = at-one-if3 .before .before .before .before .before .before in
+    omega (arith, start .pre .1 .c, start .pre .2, at-one-if3 .one-if3 .ensures .1)
 
 one-if-requires-4 : tie.Need-one-if-requires-4
 one-if-requires-4 c κs = search needs
 
-add-t21 : tie.Need-add-t21
-add-t21 c =
+add-non-tanf-warned : tie.Need-add-non-tanf-warned
+add-non-tanf-warned c =
     let at-one-if4 = c .before in
-    let start = at-one-if4 .before .before .before .before .before .before .before .before .before .before .before .before in
-    record { fits = one-fits _ _ _ (start .pre .1 .d) (start .pre .2) (at-one-if4 .one-if4 .ensures .1) }
+    let start = at-one-if4 .before .before .before .before .before .before .before .before in
+    omega (arith, start .pre .1 .d, start .pre .2, at-one-if4 .one-if4 .ensures .1)
+
+sub-t17 : tie.Need-sub-t17
+sub-t17 c =
+    let at-one-if = c .before .before .before .before .before .before in
+    let start = at-one-if .before .before .before .before in
+    omega (arith, at-one-if .one-if .ensures .0, out-few (isTanf (start .args .rec .now)) (not (start .args .accepted)), start .pre .3)
+
+add-t18 : tie.Need-add-t18
+add-t18 c =
+    let at-one-if2 = c .before .before .before .before .before .before in
+    let at-one-if = at-one-if2 .before in
+    let start = at-one-if .before .before .before .before in
+    omega (arith, start .pre .1 .a, start .pre .2, at-one-if .one-if .ensures .1, at-one-if2 .one-if2 .ensures .1)
+
+sub-t19 : tie.Need-sub-t19
+sub-t19 c =
+    let at-one-if2 = c .before .before .before .before .before .before .before in
+    let start = at-one-if2 .before .before .before .before .before in
+    omega (arith, at-one-if2 .one-if2 .ensures .0, out-few (isNonTanf (start .args .rec .now)) (not (start .args .accepted)), start .pre .4)
+
+add-t20 : tie.Need-add-t20
+add-t20 c =
+    let at-one-if2 = c .before .before .before .before .before .before .before .before in
+    let at-one-if = at-one-if2 .before in
+    let start = at-one-if .before .before .before .before in
+    omega (arith, start .pre .1 .b, start .pre .2, at-one-if .one-if .ensures .1, at-one-if2 .one-if2 .ensures .1)
 
 returns : tie.Need-returns
 returns c =
-    let at-one-if4 = c .before in
+    let at-one-if4 = c .before .before .before .before .before in
     let at-one-if3 = at-one-if4 .before .before in
-    let at-one-if2 = at-one-if3 .before .before .before .before .before in
+    let at-one-if2 = at-one-if3 .before in
     let at-one-if = at-one-if2 .before in
     let start = at-one-if .before .before .before .before in
     let a = start .args in
@@ -103,12 +103,12 @@ moved-spec =
     shared-slice-read-non-tanf
     one-if-requires
     one-if-requires-2
-    sub-t14
-    add-t15
-    sub-t16
-    add-t17
     one-if-requires-3
-    add-t19
+    add-tanf-warned
     one-if-requires-4
-    add-t21
+    add-non-tanf-warned
+    sub-t17
+    add-t18
+    sub-t19
+    add-t20
     returns)

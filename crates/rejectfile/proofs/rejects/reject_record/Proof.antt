@@ -5,7 +5,8 @@ use denote.Ref.{now}
 use Rattle.layout.specs.Codes.{sixLowest}
 use Rattle.text.specs.Fields.{placed}
 use Rattle.onecase.specs.Verdict.{meaning}
-use Rattle.rejectfile.proofs.RejectsLaws.{codes-in, four-in, spliced-all, reject-written}
+use Rattle.rejectfile.proofs.RejectsLaws.{codes-in, four-in, reject-written}
+use Rattle.text.proofs.SplicedLaws.{spliced-whole}
 use Rattle.text.proofs.ColumnsWritten.{written-all}
 use Rattle.rejectfile.proofs.rejects.reject_record.Statement.{statement}
 use Rattle.rejectfile.proofs.rejects.reject_record.Tie as tie
@@ -57,7 +58,7 @@ returns c =
     let s = c .before .before .before .before .before .before .before .before .before .before .before .before .before .before .before .before .before .before .before in
     let a = s .args in
     let t = c .before .before .before .before .before .before .before .before .before .before .before .before .before .codes-text in
-    let w = c .before .before .before .before .before .before .before .before .before .before .before .before .before .before .before .before .copy-in .ensures ∙ spliced-all _ (now (a .rec)) (search needs) in
+    let w = c .before .before .before .before .before .before .before .before .before .before .before .before .before .before .before .before .copy-in .ensures ∙ spliced-whole _ (now (a .rec)) (search needs) in
     let e : t .result ≡ sixLowest (meaning (a .v) .codes) = t .ensures ∙ rw (c .before .before .before .before .before .before .before .before .before .before .before .before .before .before .set-of .ensures, codes-in (a .v)) in
     written-all
     (reject-written (now (a .rec)) (meaning (a .v)) (s .pre) (four-in (a .v)) _ _ _ _ _ e

@@ -1,4 +1,4 @@
--- `judge::set_06_to_08` meets its contract: the number of a list of codes is the sum of their flags, each at most 2 to the power of its code. Assumes nothing.
+-- `parts::set_06_to_08` meets its contract: the number of a list of codes is the sum of their flags, each at most 2 to the power of its code. Assumes nothing.
 use mathlib.Core.Bool.{Bool, _&&_}
 use mathlib.Core.List.{_++_}
 use mathlib.Core.Path.{ap, _∙_}
@@ -8,8 +8,8 @@ use borrow.Author.Needs.{needs}
 use Rattle.layout.specs.Codes.{numberOfCodes}
 use Rattle.judging.specs.Errors.{error06, error07, error08, code}
 use Rattle.judging.proofs.CodeSums.{sum-code}
-use Rattle.judging.proofs.judge.set_06_to_08.Statement.{statement}
-use Rattle.judging.proofs.judge.set_06_to_08.Tie as tie
+use Rattle.judging.proofs.parts.set_06_to_08.Statement.{statement}
+use Rattle.judging.proofs.parts.set_06_to_08.Tie as tie
 
 has-06-requires : tie.Need-has-06-requires
 has-06-requires c κs = search needs

@@ -1,12 +1,12 @@
--- `judge::set_first` meets its contract: the number of a list of codes is the sum of their flags, each at most 2 to the power of its code. Assumes nothing.
+-- `parts::set_first` meets its contract: the number of a list of codes is the sum of their flags, each at most 2 to the power of its code. Assumes nothing.
 use mathlib.Core.List.{_++_}
 use Prim.Native.Nat.{_+_}
 use native.Mathlib.Omega.{arith}
 use borrow.Author.Needs.{needs}
 use Rattle.judging.specs.Errors.{code}
 use Rattle.judging.proofs.CodeSums.{sum-code}
-use Rattle.judging.proofs.judge.set_first.Statement.{statement}
-use Rattle.judging.proofs.judge.set_first.Tie as tie
+use Rattle.judging.proofs.parts.set_first.Statement.{statement}
+use Rattle.judging.proofs.parts.set_first.Tie as tie
 
 flag-requires : tie.Need-flag-requires
 flag-requires c κs = search needs

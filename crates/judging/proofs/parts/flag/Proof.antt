@@ -1,4 +1,4 @@
--- `judge::flag` meets its contract: 2 to the power of a code below 64 is a shift that loses no bit. Assumes nothing.
+-- `parts::flag` meets its contract: 2 to the power of a code below 64 is a shift that loses no bit. Assumes nothing.
 use mathlib.Core.Path.{_≡_, _∙_}
 use Prim.Native.Nat.{_+_, _*_, _^_, _%_, _≤_}
 use native.Mathlib.Nat.{le-refl}
@@ -6,8 +6,8 @@ use native.Mathlib.Omega.{arith}
 use lib.Dec.{lit<}
 use lib.Pow.{shl-exact}
 use borrow.Author.Needs.{needs}
-use Rattle.judging.proofs.judge.flag.Statement.{statement}
-use Rattle.judging.proofs.judge.flag.Tie as tie
+use Rattle.judging.proofs.parts.flag.Statement.{statement}
+use Rattle.judging.proofs.parts.flag.Tie as tie
 
 shl-result : tie.Need-shl-result
 shl-result c = search needs
