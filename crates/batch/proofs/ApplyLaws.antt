@@ -157,11 +157,3 @@ module _ (c : Call) (n : ℕ) (e : n ≡ applyRefusal c) where
       → IsOutcome c (record { answer = done (run .result); buffers = run .buffers })
   unfolding applyOutcome
   apply-done z run h = record { is = rw h (outcome-done _ (buffersLent c) (applyRun c) (sym e ∙ z)) }
-
--- the submitting state is two bytes
-pub state-two : (c : Call) → Known c → length (submittingState (c .batch)) ≡ 2
-unfolding controlOf
-state-two c q =
-    let l : length (take 245 (drop (detailCount (c .batch) * 245) (c .batch))) ≡ 245 =
-    length-take-le 245 (drop (detailCount (c .batch) * 245) (c .batch)) (rw (length-drop (detailCount (c .batch) * 245) (c .batch)) (omega (arith, q .batch-in))) in
-    length-columns 1 2 (take 245 (drop (detailCount (c .batch) * 245) (c .batch))) (record { low = lit≤ tt; ordered = lit≤ tt; high = omega arith })

@@ -1,7 +1,7 @@
 -- A call that no refusal stops: each part of the work leaves what the next is given, and the three make what all details leave. Assumes
 -- nothing.
 use Prim.Native.Nat.{ℕ, _+_, _≤_}
-use mathlib.Core.Path.{_≡_, _∙_, subst}
+use mathlib.Core.Path.{_≡_, ap, _∙_, subst}
 use mathlib.Core.Bool.{Bool, true}
 use mathlib.Core.List.{List}
 use native.Mathlib.Omega.{arith}
@@ -12,6 +12,7 @@ use Rattle.text.proofs.WidthLaws.{blocks-wide}
 use Rattle.layout.specs.Limits.{maxRows}
 use Rattle.layout.proofs.LimitsLaws.{few-details, few-groups}
 use Rattle.layout.specs.Batch.{detailCount, detailsOf, submittingState}
+use Rattle.batchfile.proofs.PassesLaws.{state-two}
 use Rattle.casemaster.specs.Master.{rowsOf}
 use Rattle.casemaster.proofs.RowsLaws.{Fit}
 use Rattle.journal.specs.Space.{journalSpace}
@@ -36,13 +37,14 @@ module _ (c : Call) (k : Known c) (limit-is : c .limit ≡ maxRows) where
   abbrev rows : List (List ℕ)
   rows = rowsOf (c .rows) (c .master)
 
-  pub arrange-ready : ArrangeReady (c .master) (c .rows) (c .batch) (c .verdicts)
-  arrange-ready =
+  pub arrange-ready : (state : List ℕ) → state ≡ submittingState (c .batch) → ArrangeReady (c .master) (c .rows) (c .batch) state (c .verdicts)
+  arrange-ready state e =
       record {
         rows-in = k .rows-in;
         sound = k .sound;
         batch-in = k .batch-in;
         few = omega (arith, k .batch-limit, limit-is, few-details);
+        two = ap length e ∙ state-two (c .limit) (c .batch) (k .batch-passed);
         slots = k .slots;
       }
 

@@ -31,12 +31,13 @@ detailsIn f = blocks 245 (f .count) (f .batch)
 abbrev pub InOrder : Fixed → List ℕ → Type 0
 InOrder f numbers = OrderReady (f .settings .state) (f .settings .year) (f .settings .list) (f .batch) (f .count) (f .own) numbers
 
--- what arranging is given: sound rows, details and their control record, and a place for the number of each detail
-pub record ArrangeReady (master : List ℕ) (n : ℕ) (batch numbers : List ℕ) : Type 0 where
+-- what arranging is given: sound rows, details and their control record, a state's two letters, and a place for the number of each detail
+pub record ArrangeReady (master : List ℕ) (n : ℕ) (batch state numbers : List ℕ) : Type 0 where
   pub rows-in : n * 200 ≤ length master
   pub sound : areSoundRows (rowsOf n master) ≡ true
   pub batch-in : detailCount batch * 245 + 245 ≤ length batch
   pub few : detailCount batch ≤ 2 ^ 24
+  pub two : length state ≡ 2
   pub slots : detailCount batch ≤ length numbers
 
 -- what it leaves: the details in key order, and how many rows they add; the numbers behind theirs are kept

@@ -52,13 +52,13 @@ fn arrange(
     list: &[u8],
     numbers: &mut [u64],
 ) -> Arranged
-    requires { ⌜ ArrangeReady (now m) n (now batch) (now numbers) ⌝ }
+    requires { ⌜ ArrangeReady (now m) n (now batch) (now state) (now numbers) ⌝ }
     ensures { λ r. ⌜ DetailsArranged (fixedOf (now (state .entry)) year (now (list .entry)) (now (batch .entry)) (r .own) n)
         (now (m .entry)) (now (numbers .entry)) (now (numbers .exit)) (r .new) ⌝ }
 {
     let d = batch.len() / 245 - 1;
     let own = order::order_details(batch, d, state, year, list, numbers);
-    let new = counting::new_rows(m, n, batch, numbers, own);
+    let new = counting::new_rows(m, n, state, numbers, own);
     Arranged { own, new }
 }
 

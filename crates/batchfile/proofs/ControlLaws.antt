@@ -29,11 +29,11 @@ control-digits a z rec t l o h =
     digits-among 6 45 a z rec (omega arith) l o h (and-left (allDigits (columns 6 45 rec)) (isBlank (controlFiller rec)) t)
 
 -- the counts that a right one states are those of the details
-pub counts-right : (rec control : List ℕ) (details : List (List ℕ)) (tanf nonTanf : ℕ) → areCountsRight rec details ≡ true → control ≡ rec
+pub stated-counts : (rec control : List ℕ) (details : List (List ℕ)) (tanf nonTanf : ℕ) → areCountsRight rec details ≡ true → control ≡ rec
     → tanf ≡ number (columns 6 14 control) → nonTanf ≡ number (columns 15 23 control)
     → (tanf ≡ countOf A details) × (nonTanf ≡ countOf N details)
 unfolding areCountsRight
-counts-right rec control details tanf nonTanf h e t n =
+stated-counts rec control details tanf nonTanf h e t n =
     let a = eqb (number (totalTanf rec)) (countOf A details) in
     let b = eqb (number (totalNonTanf rec)) (countOf N details) in (
       t ∙ ap (λ (z : List ℕ). number (columns 6 14 z)) e ∙ eqb-true (number (totalTanf rec)) (countOf A details) (and-left a b h),

@@ -1,24 +1,25 @@
 -- Laws of ranks: the sound keys of one state rank below all others, one key a rank, and in byte order. Assumes nothing.
 use mathlib.Core.Path.{_≡_, refl, sym, ap, _∙_}
 use mathlib.Core.Bool.{Bool, true, false, not, cond, _&&_, _||_, false≢true}
-use mathlib.Core.List.{List, [], _∷_, _++_}
-use Prim.Native.Nat.{ℕ, zero, suc, _+_, _*_, _^_, _≤_, _<_}
+use mathlib.Core.List.{List, [], _∷_, _++_, append-assoc}
+use Prim.Native.Nat.{ℕ, zero, suc, _+_, _*_, _/_, _%_, _^_, _≤_, _<_}
 use native.Mathlib.Omega.{arith}
 use lib.Dec.{eqb}
 use lib.ListN.{length, take, drop, getD, take-append-drop, drop-of-length-le}
 use lib.Seq.{drop-cons, drop-drop}
 use borrow.Author.Tests.{eqb-true, not-true, not-false}
 use Rattle.text.specs.Characters.{A, N}
-use Rattle.text.specs.Fields.{columns, sameBytes, areDigits, isZero, number}
+use Rattle.text.specs.Fields.{columns, sameBytes, areDigits, isZero, number, digitField, placed}
+use Rattle.text.proofs.ColumnsWritten.{written-none, written-field, written-digits, written-all}
 use Rattle.layout.specs.States.{isState}
 use Rattle.layout.specs.Ssn.{wrongSsn}
 use Rattle.layout.specs.Key.{isCaseType, isSoundKey, isOwnKey}
 use Rattle.text.proofs.FieldsLaws.{and-left, and-right, digits-width, digits-all}
-use Rattle.text.proofs.NumberLaws.{number-below}
+use Rattle.text.proofs.NumberLaws.{number-below, length-digits, digits-digits, number-digits}
 use Rattle.text.proofs.SameLaws.{same-eq}
 use Rattle.layout.proofs.KeyLaws.{sound-length}
 use Rattle.text.proofs.BoolLaws.{or-left}
-use Rattle.keyorder.specs.Order.{rankOf}
+use Rattle.keyorder.specs.Order.{rankOf, keyOfRank}
 use Rattle.keyorder.proofs.DigitOrder.{Stand, below, level, above, digits-stand}
 use Rattle.text.specs.ByteOrder.{less, orderOf}
 use Rattle.text.proofs.ByteOrderLaws.{order-lt, order-front}
@@ -83,6 +84,14 @@ type-high b z = go (eqb b N) refl z
     go : (t : Bool) → eqb b N ≡ t → _≡_ {A = ℕ} (cond t 1 0) 1 → b ≡ N
     go true e z = eqb-true b N e
     go false e z = absurd (omega arith)
+
+-- and it is again
+type-back : (b : ℕ) → isCaseType b ≡ true → cond (eqb (typeRank b) 1) N A ≡ b
+type-back b h = go (eqb b N) refl
+  where
+    go : (t : Bool) → eqb b N ≡ t → cond (eqb (cond t 1 0) 1) N A ≡ b
+    go true e = sym (eqb-true b N e)
+    go false e = sym (type-low b h (ap (λ (z : Bool). cond {A = ℕ} z 1 0) e))
 
 -- a key of twelve bytes in its parts
 key-parts : (key : List ℕ) → length key ≡ 12 → key ≡ columns 1 2 key ++ (ssn key ++ (getD key 11 0 ∷ []))
@@ -190,3 +199,42 @@ module _ (state k l : List ℕ) (hk : isOwnKey state k ≡ true) (hl : isOwnKey 
           let b : tl ≡ N = type-high tl (omega arith) in
           rw p (order-front (ssn l) (tk ∷ []) (tl ∷ []) ∙ order-lt tk tl [] [] (omega arith))
       go (above h) ek el mk ml = absurd (omega arith)
+
+-- ---- the key of a rank
+
+-- nine digits are those of their number
+digits-back : (s : List ℕ) → areDigits 9 s ≡ true → digitField 9 (number s) ≡ s
+unfolding number
+digits-back s h =
+    let w = digits-width 9 s h in
+    let d = digits-all 9 s h in
+    go (digits-stand (digitField 9 (number s)) s (length-digits 9 (number s) ∙ sym w) (digits-digits 9 (number s)) d)
+    (number-digits 9 (number s) (rw w at (number-below s d)))
+  where
+    go : Stand 0 (digitField 9 (number s)) s → number (digitField 9 (number s)) ≡ number s → digitField 9 (number s) ≡ s
+    go (below h o) e = absurd (omega arith)
+    go (level p) e = p
+    go (above h) e = absurd (omega arith)
+
+-- a sound key of the state is the key of its rank
+pub key-of-rank : (state key : List ℕ) → isOwnKey state key ≡ true → keyOfRank state (rankOf state key) ≡ key
+unfolding keyOfRank
+key-of-rank state key h =
+    let o = own-parts state key h in
+    let r = own-rank state key h in
+    let t = getD key 11 0 in
+    let m = type-most t in
+    let a : rankOf state key / 2 ≡ number (ssn key) = omega (arith, r, m) in
+    let b : rankOf state key % 2 ≡ typeRank t = omega (arith, r, m) in
+    rw (a, b, digits-back (ssn key) (o .digits), type-back t (o .type))
+    (sym (key-parts key (o .width) ∙ ap (λ (z : List ℕ). z ++ (ssn key ++ (t ∷ []))) (o .same)))
+
+-- its parts written one behind the other are it
+pub key-written : (state : List ℕ) (x t : ℕ) → length state ≡ 2 → (s a b c : List ℕ) → length s ≡ 12
+    → a ≡ placed 1 2 state s → b ≡ placed 3 11 (digitField 9 x) a → c ≡ placed 12 12 (t ∷ []) b
+    → c ≡ state ++ (digitField 9 x ++ (t ∷ []))
+key-written state x t two s a b c w ea eb ec =
+    let w1 = written-field (written-none s) 1 2 state ea refl (omega arith) (omega arith) in
+    let w2 = written-digits w1 3 11 9 x eb refl refl (omega arith) in
+    let w3 = written-field w2 12 12 (t ∷ []) ec refl refl (omega arith) in
+    written-all w3 (sym w) ∙ append-assoc state (digitField 9 x) (t ∷ [])

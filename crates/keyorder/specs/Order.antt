@@ -1,14 +1,14 @@
 -- For the contracts of inner functions; no rule of the papers stands here.
 -- The details of a batch in the order of their keys: the ranks of keys, and the list of the details' indexes by rank. Assumes nothing.
-use Prim.Native.Nat.{ℕ, _+_, _*_, _^_, _<_}
+use Prim.Native.Nat.{ℕ, _+_, _*_, _/_, _%_, _^_, _<_}
 use mathlib.Core.Path.{_≡_}
-use mathlib.Core.List.{List, []}
+use mathlib.Core.List.{List, [], _∷_, _++_}
 use mathlib.Core.Bool.{cond}
 use mathlib.Core.Logic.{_⊎_}
 use lib.Dec.{eqb}
 use lib.ListN.{length, getD}
-use Rattle.text.specs.Characters.{N}
-use Rattle.text.specs.Fields.{columns, number}
+use Rattle.text.specs.Characters.{A, N}
+use Rattle.text.specs.Fields.{columns, number, digitField}
 use Rattle.layout.specs.Key.{isOwnKey}
 use Rattle.layout.specs.Record.{recordKey}
 
@@ -19,6 +19,10 @@ noRank = 2 ^ 31
 -- its rank among them: the SSN's number and the case type, A before N; any other key comes behind them all
 unfoldable pub rankOf : List ℕ → List ℕ → ℕ
 rankOf state key = cond (isOwnKey state key) (number (columns 3 11 key) * 2 + cond (eqb (getD key 11 0) N) 1 0) noRank
+
+-- the bytes of the key that a rank of the state's sound keys stands for
+unfoldable pub keyOfRank : List ℕ → ℕ → List ℕ
+keyOfRank state rank = state ++ (digitField 9 (rank / 2) ++ (cond (eqb (rank % 2) 1) N A ∷ []))
 
 -- the detail at an index
 abbrev pub detailAt : List (List ℕ) → ℕ → List ℕ

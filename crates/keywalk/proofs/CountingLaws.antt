@@ -13,25 +13,23 @@ use Rattle.casemaster.specs.Rows.{rowWith}
 use Rattle.casemaster.specs.Master.{rowsOf, keysOf}
 use Rattle.casemaster.specs.Search.{AreBelow}
 use Rattle.onecase.specs.Machine.{next}
-use Rattle.keyorder.specs.Tagged.{keyIn}
 use Rattle.keyorder.proofs.TaggedLaws.{tagged-makes}
 use Rattle.keywalk.specs.Walk.{distinct, isNewKey, newKeys}
-use Rattle.keywalk.specs.Walking.{isRowOf, rowsFrom, OrderReady, Fixed, runMakes, KeyCounted}
+use Rattle.keywalk.specs.Walking.{isRowOf, rowsFrom, OrderReady, Fixed, runMakes, rankKey, KeyCounted}
 use Rattle.keywalk.specs.declared.counting.Count.{Count}
 use Rattle.keywalk.proofs.GroupLaws.{IsStart, makes-run}
 use Rattle.keywalk.proofs.PassLaws.{AllBelow, FirstNotBelow, isKeyOf, firstOf, below-append, below-more, parted-find}
 use Rattle.keywalk.proofs.StandLaws.{from-split, below-pass, none-back, is-row}
 use Rattle.keywalk.proofs.WalkLaws.{length-own}
 use Rattle.keywalk.proofs.KeysLaws as Keys
-use Rattle.keywalk.proofs.KeysLaws.{same-from-self}
 use Rattle.text.proofs.BlocksLaws.{blocks-split}
 use Rattle.turns.specs.Under.{detailsUnder, runRow}
 use Rattle.turns.specs.Settings.{settingUnder}
 use Rattle.text.specs.ByteOrder.{orderOf, isLess, rising}
 
 -- a key counted passes no row behind the last
-pub within-next : (batch : List ℕ) (own end : ℕ) (m numbers : List ℕ) (s s′ : Count) → KeyCounted batch own end m numbers s s′ → s .from ≤ end → s′ .from ≤ end
-within-next batch own end m numbers s s′ kc l = go (runMakes numbers (s .position) (s′ .position)) refl
+pub within-next : (state : List ℕ) (own end : ℕ) (m numbers : List ℕ) (s s′ : Count) → KeyCounted state own end m numbers s s′ → s .from ≤ end → s′ .from ≤ end
+within-next state own end m numbers s s′ kc l = go (runMakes numbers (s .position) (s′ .position)) refl
   where
     go : (t : Bool) → runMakes numbers (s .position) (s′ .position) ≡ t → s′ .from ≤ end
     go true t = omega (arith, kc .below t .within, kc .from-is)
@@ -69,7 +67,7 @@ module _ (f : Fixed) (m numbers : List ℕ) (o : OrderReady (f .settings .state)
         counted = omega arith;
       }
 
-  module _ (s : Count) (g : Counting s) (l : s .position < f .own) (s′ : Count) (kc : KeyCounted (f .batch) (f .own) (f .end) m numbers s s′) where
+  module _ (s : Count) (g : Counting s) (l : s .position < f .own) (s′ : Count) (kc : KeyCounted (f .settings .state) (f .own) (f .end) m numbers s s′) where
     abbrev p : ℕ
     p = s .position
 
@@ -85,8 +83,8 @@ module _ (f : Fixed) (m numbers : List ℕ) (o : OrderReady (f .settings .state)
     in-count : p < f .count
     in-count = omega (arith, Keys.own-in o)
 
-    key-is : keyIn (f .batch) numbers p ≡ k
-    key-is = Keys.in-key o (same-from-self p numbers) p (omega arith) in-count
+    key-is : rankKey (f .settings .state) numbers p ≡ k
+    key-is = Keys.rank-key o p l
 
     abbrev makes : Bool
     makes = runMakes numbers p e
@@ -121,7 +119,7 @@ module _ (f : Fixed) (m numbers : List ℕ) (o : OrderReady (f .settings .state)
       abbrev back : List (List ℕ)
       back = rowsFrom at (f .end) m
 
-      below : AreBelow m (s .from) (f .end) (keyIn (f .batch) numbers p) (kc .passed)
+      below : AreBelow m (s .from) (f .end) (rankKey (f .settings .state) numbers p) (kc .passed)
       below = kc .below t
 
       rows-are : rows ≡ front ++ back
@@ -139,7 +137,7 @@ module _ (f : Fixed) (m numbers : List ℕ) (o : OrderReady (f .settings .state)
       back-none : FirstNotBelow k back
       back-none = none-back m k at (f .end) (below .within) (go (below .stops))
         where
-          go : (at ≡ (f .end)) ⊎ (isLess (orderOf (take 12 (drop (at * 200) m)) (keyIn (f .batch) numbers p)) ≡ false)
+          go : (at ≡ (f .end)) ⊎ (isLess (orderOf (take 12 (drop (at * 200) m)) (rankKey (f .settings .state) numbers p)) ≡ false)
               → (at ≡ (f .end)) ⊎ (isLess (orderOf (take 12 (drop (at * 200) m)) k) ≡ false)
           go (inl a) = inl a
           go (inr a) = inr (rw key-is at a)
@@ -148,10 +146,10 @@ module _ (f : Fixed) (m numbers : List ℕ) (o : OrderReady (f .settings .state)
       found = ap (rowWith k) rows-are ∙ parted-find k front back front-below back-none (rw (← rows-are) rise)
 
       -- the key is new exactly where it has no row
-      new-is : isNewKey (f .settings) details rows k ≡ not (isRowOf m at (f .end) (keyIn (f .batch) numbers p))
+      new-is : isNewKey (f .settings) details rows k ≡ not (isRowOf m at (f .end) (rankKey (f .settings .state) numbers p))
       new-is = go (isKeyOf k back) refl
         where
-          held : isRowOf m at (f .end) (keyIn (f .batch) numbers p) ≡ isKeyOf k back
+          held : isRowOf m at (f .end) (rankKey (f .settings .state) numbers p) ≡ isKeyOf k back
           held = ap (isRowOf m at (f .end)) key-is ∙ is-row m k at (f .end) (below .within)
 
           missing : (bs : List (List ℕ)) → isKeyOf k bs ≡ false → firstOf k bs ≡ none
@@ -162,7 +160,7 @@ module _ (f : Fixed) (m numbers : List ℕ) (o : OrderReady (f .settings .state)
           present [] f = sym f
           present (row ∷ bs) f = rw f
 
-          go : (b : Bool) → isKeyOf k back ≡ b → isNewKey (f .settings) details rows k ≡ not (isRowOf m at (f .end) (keyIn (f .batch) numbers p))
+          go : (b : Bool) → isKeyOf k back ≡ b → isNewKey (f .settings) details rows k ≡ not (isRowOf m at (f .end) (rankKey (f .settings .state) numbers p))
           go true b = rw (held, b, found, present back b)
           go false b = rw (held, b, found, missing back b) (sym made ∙ t)
 
@@ -171,10 +169,10 @@ module _ (f : Fixed) (m numbers : List ℕ) (o : OrderReady (f .settings .state)
           rw (kc .from-is, blocks-split 200 (s .from) (kc .passed) m)
           (below-more k (key q) front (Keys.later-above o l (kc .ended) (g .start l) q a b) front-below)
 
-    new-is-all : isNewKey (f .settings) details rows k ≡ (makes && not (isRowOf m at (f .end) (keyIn (f .batch) numbers p)))
+    new-is-all : isNewKey (f .settings) details rows k ≡ (makes && not (isRowOf m at (f .end) (rankKey (f .settings .state) numbers p)))
     new-is-all = go makes refl
       where
-        go : (t : Bool) → makes ≡ t → isNewKey (f .settings) details rows k ≡ (t && not (isRowOf m at (f .end) (keyIn (f .batch) numbers p)))
+        go : (t : Bool) → makes ≡ t → isNewKey (f .settings) details rows k ≡ (t && not (isRowOf m at (f .end) (rankKey (f .settings .state) numbers p)))
         go true t = new-is t
         go false t = idle-is t
 
@@ -196,7 +194,7 @@ module _ (f : Fixed) (m numbers : List ℕ) (o : OrderReady (f .settings .state)
         record {
           position = kc .ended .within;
           start = Keys.start-next o l (kc .ended) (g .start l);
-          within = within-next (f .batch) (f .own) (f .end) m numbers s s′ kc (g .within);
+          within = within-next (f .settings .state) (f .own) (f .end) m numbers s s′ kc (g .within);
           below = below-all;
           counted = omega (arith, c, one);
         }

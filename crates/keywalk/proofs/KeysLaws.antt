@@ -14,18 +14,18 @@ use Rattle.text.specs.Blocks.{blocks}
 use Rattle.text.proofs.BlocksLaws.{map-snoc, length-blocks, blocks-get}
 use Rattle.text.proofs.SameLaws.{eq-same, same-eq}
 use Rattle.layout.specs.Record.{recordKey}
-use Rattle.keyorder.specs.Order.{detailAt, rankOf, rankAt, noRank, Before}
+use Rattle.keyorder.specs.Order.{keyOfRank, detailAt, rankOf, rankAt, noRank, Before}
 use Rattle.keyorder.specs.Tagged.{rankPart, indexPart, indexParts, recordOf, recordIn, keyIn}
 use Rattle.keyorder.specs.Runs.{IsRun, SortedFrom}
 use Rattle.keyorder.proofs.TaggedLaws.{tag-at}
-use Rattle.keyorder.proofs.RankLaws.{below-own, rank-same, rank-less, rank-most}
+use Rattle.keyorder.proofs.RankLaws.{below-own, key-of-rank, rank-same, rank-less, rank-most}
 use Rattle.judging.specs.Names.{namesGiven}
 use Rattle.namemarks.specs.Marks.{namesOf, part}
 use Rattle.keywalk.specs.Walk.{keysAt, distinct}
 use Rattle.text.proofs.WidthLaws.{All, blocks-wide}
 use Rattle.turns.proofs.UnderLaws.{IsRecord}
 use Rattle.turns.proofs.IndexLaws.{keyAt}
-use Rattle.keywalk.specs.Walking.{OrderReady}
+use Rattle.keywalk.specs.Walking.{OrderReady, rankKey}
 use Rattle.keywalk.proofs.GroupLaws.{detailsFrom, IsStart, Group, group-part, group-whole}
 use Rattle.keywalk.proofs.WalkLaws.{distinct-group, keys-rise, length-own, own-key}
 use Rattle.turns.specs.Under.{detailsUnder}
@@ -86,6 +86,12 @@ module _ {state : List ℕ} {year : ℕ} {list batch : List ℕ} {d own : ℕ} {
 
   pub low : (q : ℕ) → q < own → rankAt state details (at q) < noRank
   low q l = rw (← rank-at q (omega (arith, own-in))) (o .own-end .low q l)
+
+  -- the key of its rank is its key
+  pub rank-key : (q : ℕ) → q < own → rankKey state numbers₀ q ≡ key q
+  rank-key q l =
+      let i = rank-at q (omega (arith, own-in)) in
+      ap (keyOfRank state) i ∙ key-of-rank state (key q) (below-own state (key q) (low q l))
 
   pub high : (q : ℕ) → own ≤ q → q < length order → rankAt state details (at q) ≡ noRank
   high q a b =

@@ -17,7 +17,7 @@ use Rattle.keyorder.specs.Tagged.{keyIn}
 use Rattle.keyorder.specs.Runs.{IsRun, RunFound}
 use Rattle.keyorder.specs.declared.runs.Run.{Run}
 use Rattle.keywork.specs.Worked.{RunWorked}
-use Rattle.keywalk.specs.Walking.{rowIn, isRowOf, RowOfPut, Fixed, Stand, keyNow, hasRow, rowNow, settingNow, runMakes, KeyCounted, KeyWorked, KeyWalked, StaysBefore}
+use Rattle.keywalk.specs.Walking.{rankKey, rowIn, isRowOf, RowOfPut, Fixed, Stand, keyNow, hasRow, rowNow, settingNow, runMakes, KeyCounted, KeyWorked, KeyWalked, StaysBefore}
 use Rattle.keywalk.specs.declared.counting.Count.{Count}
 use Rattle.text.proofs.BlocksLaws.{kept-further}
 use Rattle.judging.specs.State.{rowIf}
@@ -102,9 +102,9 @@ module _ (f : Fixed) (s : Stand) (e passed : ℕ) (key m₁ : List ℕ) (held : 
 
 -- ---- one key counted
 
-module _ (batch : List ℕ) (own end : ℕ) (m numbers : List ℕ) (s : Count) (r : Run) (found : RunFound numbers (s .position) own r) where
+module _ (state : List ℕ) (own end : ℕ) (m numbers : List ℕ) (s : Count) (r : Run) (found : RunFound numbers (s .position) own r) where
   -- none of its details makes a row
-  pub counted-idle : r .makes ≡ false → KeyCounted batch own end m numbers s (record { position = r .end; from = s .from; new = s .new })
+  pub counted-idle : r .makes ≡ false → KeyCounted state own end m numbers s (record { position = r .end; from = s .from; new = s .new })
   counted-idle e =
       let x : runMakes numbers (s .position) (r .end) ≡ false = sym (found .makes-is) ∙ e in
       record {
@@ -117,9 +117,9 @@ module _ (batch : List ℕ) (own end : ℕ) (m numbers : List ℕ) (s : Count) (
       }
 
   -- one of them does
-  pub counted-new : r .makes ≡ true → (key : List ℕ) (passed one : ℕ) → key ≡ keyIn batch numbers (s .position) → AreBelow m (s .from) end key passed
+  pub counted-new : r .makes ≡ true → (key : List ℕ) (passed one : ℕ) → key ≡ rankKey state numbers (s .position) → AreBelow m (s .from) end key passed
       → one ≡ cond (not (isRowOf m (s .from + passed) end key)) 1 0
-      → KeyCounted batch own end m numbers s (record { position = r .end; from = s .from + passed; new = s .new + one })
+      → KeyCounted state own end m numbers s (record { position = r .end; from = s .from + passed; new = s .new + one })
   counted-new e key passed one ki ab oi =
       let x : runMakes numbers (s .position) (r .end) ≡ true = sym (found .makes-is) ∙ e in
       record {

@@ -30,7 +30,7 @@ use Rattle.keywalk.specs.Walk.{distinct, newKeys}
 use Rattle.text.proofs.WidthLaws.{All}
 use Rattle.turns.proofs.UnderLaws.{IsRecord, final-fit, final-few, length-verdicts}
 use Rattle.turns.proofs.IndexLaws.{keyAt, verdict-at}
-use Rattle.keywalk.specs.Walking.{OrderReady, AreThere}
+use Rattle.keywalk.specs.Walking.{OrderReady}
 use Rattle.keywalk.proofs.KeysLaws as Keys
 use Rattle.keywalk.proofs.KeysLaws.{SameFrom, same-from-self}
 use Rattle.keywalk.proofs.WalkLaws.{worked-length, worked-final}
@@ -59,12 +59,6 @@ module _ (state : List ℕ) (year : ℕ) (list batch : List ℕ) (d : ℕ) (numb
             rw (← blocks-get 245 d batch (indexPart (getD numbers q 0)) i) (x .tags q l);
         own-end = w;
       }
-
--- the records of own keys are there
-pub own-there : {state : List ℕ} {year : ℕ} {list batch : List ℕ} {d own : ℕ} {numbers : List ℕ} → OrderReady state year list batch d own numbers → AreThere batch numbers own
-own-there {own = own} {numbers = numbers} o =
-    let s = Keys.sorted-from o (same-from-self 0 numbers) in
-    record { within = s .within; there = λ q l. s .there q (omega arith) l }
 
 module _ (settings : Settings) {batch : List ℕ} {d own : ℕ} {rows : List (List ℕ)} {numbers : List ℕ}
     (o : OrderReady (settings .state) (settings .year) (settings .list) batch d own numbers) (fit : Fit rows) (listed : isLocalList (settings .list) ≡ true) where

@@ -16,8 +16,8 @@ use Rattle.casemaster.specs.Master.{rowsOf, areSoundRows}
 use Rattle.casemaster.specs.Search.{AreBelow}
 use Rattle.layout.specs.Batch.{detailCount}
 use Rattle.onecase.specs.Verdict.{Judgement, noJudgement}
-use Rattle.keyorder.specs.Order.{InKeyOrder}
-use Rattle.keyorder.specs.Tagged.{indexPart, makesFrom, Tagged, indexParts, recordIn, keyIn}
+use Rattle.keyorder.specs.Order.{keyOfRank, InKeyOrder}
+use Rattle.keyorder.specs.Tagged.{rankPart, indexPart, makesFrom, Tagged, indexParts, recordIn, keyIn}
 use Rattle.keyorder.specs.Runs.{IsOwnEnd, IsRun, anyFrom}
 use Rattle.keywork.specs.Packed.{Packed}
 use Rattle.keywork.specs.Worked.{RunWorked}
@@ -61,15 +61,14 @@ pub record OrderReady (state : List ℕ) (year : ℕ) (list batch : List ℕ) (d
   pub tags : (q : ℕ) → q < d → Tagged state year list (indexPart (getD numbers q 0)) (recordIn batch numbers q) (getD numbers q 0)
   pub own-end : IsOwnEnd d numbers own
 
--- it holds in every setting in which the details are so
+-- it holds for every batch and in every setting in which its details are so
 abbrev pub UnderOrder : List ℕ → ℕ → List ℕ → (List ℕ → ℕ → List ℕ → Type 0) → Type 0
-UnderOrder batch own numbers holds =
-    (state : List ℕ) (year : ℕ) (list : List ℕ) → OrderReady state year list batch (detailCount batch) own numbers → holds state year list
+UnderOrder state own numbers holds =
+    (batch : List ℕ) (year : ℕ) (list : List ℕ) → OrderReady state year list batch (detailCount batch) own numbers → holds batch year list
 
--- the first own numbers hold the indexes of records that are there
-pub record AreThere (batch numbers : List ℕ) (own : ℕ) : Type 0 where
-  pub within : own ≤ length numbers
-  pub there : (q : ℕ) → q < own → indexPart (getD numbers q 0) * 245 + 245 ≤ length batch
+-- the key at position q of the key order, by its rank
+abbrev pub rankKey : List ℕ → List ℕ → ℕ → List ℕ
+rankKey state numbers q = keyOfRank state (rankPart (getD numbers q 0))
 
 -- what stays the same while the keys are worked
 pub record Fixed : Type 0 where
@@ -117,14 +116,14 @@ abbrev pub runMakes : List ℕ → ℕ → ℕ → Bool
 runMakes numbers p e = anyFrom makesFrom numbers p (e - p)
 
 -- one key counted: where one of its details makes a row, the rows below it are passed, and there is one new row more if it has none
-pub record KeyCounted (batch : List ℕ) (own end : ℕ) (m numbers : List ℕ) (s s′ : Count) : Type 0 where
+pub record KeyCounted (state : List ℕ) (own end : ℕ) (m numbers : List ℕ) (s s′ : Count) : Type 0 where
   pub passed : ℕ
   pub ended : IsRun numbers (s .position) own (s′ .position)
-  pub below : runMakes numbers (s .position) (s′ .position) ≡ true → AreBelow m (s .from) end (keyIn batch numbers (s .position)) passed
+  pub below : runMakes numbers (s .position) (s′ .position) ≡ true → AreBelow m (s .from) end (rankKey state numbers (s .position)) passed
   pub idle : runMakes numbers (s .position) (s′ .position) ≡ false → passed ≡ 0
   pub from-is : s′ .from ≡ s .from + passed
   pub new-is : s′ .new
-      ≡ s .new + cond (runMakes numbers (s .position) (s′ .position) && not (isRowOf m (s .from + passed) end (keyIn batch numbers (s .position)))) 1 0
+      ≡ s .new + cond (runMakes numbers (s .position) (s′ .position) && not (isRowOf m (s .from + passed) end (rankKey state numbers (s .position)))) 1 0
 
 -- the key at the position
 abbrev pub keyNow : Fixed → Stand → List ℕ

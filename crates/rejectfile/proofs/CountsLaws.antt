@@ -3,7 +3,7 @@ use Prim.Native.Nat.{ℕ, _+_, _-_, _^_, _≤_, _<_}
 use mathlib.Core.Path.{_≡_, refl, sym, ap, _∙_}
 use mathlib.Core.Bool.{Bool, true, false, not, cond, _&&_, _||_, and-true, and-false}
 use mathlib.Core.List.{List, [], _∷_}
-use native.Mathlib.Nat.{add-assoc, add-comm, zero-add, add-zero}
+use native.Mathlib.Nat.{add-comm, add-zero}
 use native.Mathlib.Omega.{arith}
 use lib.Dec.{eqb, lit≤}
 use lib.ListN.{length}
@@ -31,21 +31,6 @@ counts-cons d ds j js = refl
 pub counts-none : (js : List Judgement) → countsOf [] js ≡ noCounts
 unfolding countsOf howMany
 counts-none js = refl
-
-pub plus-assoc : (a b c : Counts) → plus (plus a b) c ≡ plus a (plus b c)
-plus-assoc a b c =
-    rw (
-      add-assoc (a .acceptedTanf) (b .acceptedTanf) (c .acceptedTanf),
-      add-assoc (a .rejectedTanf) (b .rejectedTanf) (c .rejectedTanf),
-      add-assoc (a .acceptedNonTanf) (b .acceptedNonTanf) (c .acceptedNonTanf),
-      add-assoc (a .rejectedNonTanf) (b .rejectedNonTanf) (c .rejectedNonTanf),
-      add-assoc (a .warnedTanf) (b .warnedTanf) (c .warnedTanf),
-      add-assoc (a .warnedNonTanf) (b .warnedNonTanf) (c .warnedNonTanf),
-      add-assoc (a .neither) (b .neither) (c .neither),
-    )
-
-pub none-plus : (a : Counts) → plus noCounts a ≡ a
-none-plus a = simp zero-add
 
 pub plus-none : (a : Counts) → plus a noCounts ≡ a
 plus-none a = simp add-zero

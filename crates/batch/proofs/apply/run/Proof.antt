@@ -10,7 +10,8 @@ use Rattle.rejectfile.specs.Counts.{controlRecord}
 use Rattle.rejectfile.specs.Tally.{countsIn}
 use Rattle.text.specs.Blocks.{spliced}
 use Rattle.text.specs.Fields.{columns}
-use Rattle.batch.proofs.ApplyLaws.{ran, state-two}
+use Rattle.batch.proofs.ApplyLaws.{ran}
+use Rattle.batchfile.proofs.PassesLaws.{state-two}
 use Rattle.batch.proofs.KnownLaws.{known}
 use Rattle.batch.proofs.PassedLaws.{passed}
 use Rattle.layout.specs.Batch.{controlOf, submittingState}
@@ -65,7 +66,7 @@ finish-requires c κs =
     let k = known g (passed g (s .pre .0)) in
     let e : now (f .field .result) ≡ submittingState (a .batch .now) = f .field .ensures ∙ ap (columns 1 2) (r .record-at .ensures) in
     let left = w .work .ensures .worked in (
-      ap length e ∙ state-two g k,
+      ap length e ∙ state-two (g .limit) (g .batch) (k .batch-passed),
       omega (arith, k .space, left .rejects-few, w .work .kept .1 .1 .1 .1 .1 .1 .1 .0),
       left .counted,
       omega (arith, k .batch-in, s .good .1 .1 .0),
@@ -102,7 +103,7 @@ returns c =
     record {
       is =
           ran g k m (p .rows) v rj (p .rejects) (p .tally) (d .finish .last .1 .1 .0) (d .finish .result) (w .work .ensures .worked)
-          (w .work .kept .1 .1 .1 .1 .1 .1 .0) (w .work .kept .1 .1 .1 .1 .1 .1 .1 .0) (state-two g k)
+          (w .work .kept .1 .1 .1 .1 .1 .1 .0) (w .work .kept .1 .1 .1 .1 .1 .1 .1 .0) (state-two (g .limit) (g .batch) (k .batch-passed))
           (d .finish .ensures .0 ∙ ap (λ (z : List ℕ). spliced rj (p .rejects * 245) (controlRecord z (countsIn (p .tally)))) e)
           (d .finish .ensures .1 .0);
       wrote =

@@ -1,7 +1,7 @@
 -- `work::arrange`: the details in key order are what counting asks for. Assumes nothing.
 use native.Mathlib.Omega.{arith}
 use borrow.Author.Needs.{needs}
-use Rattle.batch.proofs.ArrangedLaws.{there, arranged}
+use Rattle.batch.proofs.ArrangedLaws.{own-in, arranged}
 use Rattle.batch.proofs.work.arrange.Statement.{statement}
 use Rattle.batch.proofs.work.arrange.Tie as tie
 
@@ -22,7 +22,8 @@ new-rows-requires c κs =
     let r = start .pre in (
       r .rows-in,
       r .sound,
-      there (a .state .now) (a .year) (a .list .now) (a .batch .now) (a .m .now) (a .n) (a .numbers .now) r _ _ (o .order-details .ensures),
+      own-in (a .state .now) (a .year) (a .list .now) (a .batch .now) (a .m .now) (a .n) (a .numbers .now) r _ _ (o .order-details .ensures),
+      r .two,
     )
 
 same-length : tie.Need-same-length

@@ -14,7 +14,7 @@ arrange-requires c κs =
     let a = start .args in
     let g = callOf (a .m .now) (a .n) (a .batch .now) (a .list .now) (a .year) (a .verdicts .now) (a .rejects .now) in
     let k = known g (passed g (start .pre .0 .0)) in
-    arrange-ready g k refl
+    arrange-ready g k refl (a .state .now) (start .pre .0 .1)
 
 move-rows-requires : tie.Need-move-rows-requires
 move-rows-requires c κs =

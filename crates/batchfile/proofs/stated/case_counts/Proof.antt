@@ -2,7 +2,7 @@
 use native.Mathlib.Omega.{arith}
 use borrow.Author.Needs.{needs}
 use Rattle.layout.specs.Batch.{controlOf}
-use Rattle.batchfile.proofs.ControlLaws.{control-digits, counts-right}
+use Rattle.batchfile.proofs.ControlLaws.{control-digits, stated-counts}
 use Rattle.batchfile.proofs.stated.case_counts.Statement.{statement}
 use Rattle.batchfile.proofs.stated.case_counts.Tie as tie
 
@@ -40,7 +40,7 @@ returns c =
     let at-number-at = c .before .before in
     let at-record-at = at-number-at .before .before in
     let start = at-record-at .before .before in
-    counts-right _ _ _ _ _ (start .pre .2) (at-record-at .record-at .ensures) (at-number-at .number-at .ensures .0) (c .number-at2 .ensures .0)
+    stated-counts _ _ _ _ _ (start .pre .2) (at-record-at .record-at .ensures) (at-number-at .number-at .ensures .0) (c .number-at2 .ensures .0)
 
 pub case-counts-spec : {M : Type 1} → statement M
 case-counts-spec =
