@@ -1,6 +1,6 @@
 //! Characters of files in EBCDIC and ASCII. Every code comes from the library's own conversion.
 
-use std::sync::OnceLock;
+use std::sync::LazyLock;
 
 use fantanolive::{to_ascii, to_ebcdic, NotConverted};
 
@@ -19,30 +19,68 @@ impl Charset {
     }
 }
 
+/// The ASCII character of each byte; 0, which is none, for one that is no character.
+type Characters = [u8; 256];
+
+fn characters(character: impl Fn(u8, &mut [u8]) -> Result<(), NotConverted>) -> Characters {
+    let mut characters = [0; 256];
+    for (byte, place) in (0..=255).zip(&mut characters) {
+        let mut out = [0];
+        *place = character(byte, &mut out).map_or(0, |()| out[0]);
+    }
+    characters
+}
+
+static OF_EBCDIC: LazyLock<Characters> =
+    LazyLock::new(|| characters(|byte, out| to_ascii(&[byte], out)));
+
+/// Those that have a counterpart in EBCDIC.
+static OF_ASCII: LazyLock<Characters> = LazyLock::new(|| {
+    characters(|byte, out| {
+        to_ebcdic(&[byte], out)?;
+        out[0] = byte;
+        Ok(())
+    })
+});
+
 /// The character of each byte, or none.
+#[derive(Clone, Copy)]
 pub struct Decoder {
-    characters: [Option<u8>; 256],
+    characters: &'static Characters,
+    /// The one byte that is a space.
+    space: u8,
     pub charset: Charset,
 }
 
 impl Decoder {
     pub fn new(charset: Charset) -> Decoder {
-        let mut characters = [None; 256];
-        for (byte, character) in (0..=255).zip(&mut characters) {
-            let mut out = [0];
-            *character = match charset {
-                Charset::Ebcdic => to_ascii(&[byte], &mut out).ok().map(|()| out[0]),
-                _ => to_ebcdic(&[byte], &mut out).ok().map(|()| byte),
-            };
-        }
+        let (characters, space) = match charset {
+            Charset::Ebcdic => (&*OF_EBCDIC, code(b' ')),
+            _ => (&*OF_ASCII, b' '),
+        };
         Decoder {
             characters,
+            space,
             charset,
         }
     }
 
     pub fn character(&self, byte: u8) -> Option<u8> {
-        self.characters[usize::from(byte)]
+        let character = self.characters[usize::from(byte)];
+        (character != 0).then_some(character)
+    }
+
+    /// Bytes without the spaces at their end.
+    pub fn without_spaces<'a>(&self, bytes: &'a [u8]) -> &'a [u8] {
+        let mut rest = bytes;
+        while let Some((front, last)) = rest.split_last_chunk::<8>() {
+            if *last != [self.space; 8] {
+                break;
+            }
+            rest = front;
+        }
+        let spaces = rest.iter().rev().take_while(|&&byte| byte == self.space);
+        &rest[..rest.len() - spaces.count()]
     }
 }
 
@@ -76,18 +114,18 @@ pub fn convert(bytes: &mut [u8], to: Charset) -> Result<(), u64> {
     Ok(())
 }
 
+/// The code in EBCDIC of each character; 0 for one without a counterpart.
+static CODES: LazyLock<[u8; 256]> =
+    LazyLock::new(|| characters(|byte, out| to_ebcdic(&[byte], out)));
+
 /// An argument in EBCDIC. A byte without a counterpart becomes 00, which no field may hold, so that the call refuses it.
 pub fn argument(text: &[u8]) -> Vec<u8> {
-    static CODES: OnceLock<[u8; 256]> = OnceLock::new();
-    let codes = CODES.get_or_init(|| {
-        let mut codes = [0; 256];
-        for (byte, code) in (0..=255).zip(&mut codes) {
-            let mut out = [0];
-            *code = to_ebcdic(&[byte], &mut out).map_or(0, |()| out[0]);
-        }
-        codes
-    });
-    text.iter().map(|&byte| codes[usize::from(byte)]).collect()
+    text.iter().map(|&byte| code(byte)).collect()
+}
+
+/// The same of one byte.
+pub fn code(byte: u8) -> u8 {
+    CODES[usize::from(byte)]
 }
 
 /// Whether bytes are ASCII rather than EBCDIC, for a hint: they are printable there, and the library finds some that are no
@@ -107,10 +145,26 @@ mod tests {
             let decoder = Decoder::new(charset);
             let known = (0..=255).filter(|&byte| decoder.character(byte).is_some());
             assert_eq!(known.count(), 46);
+            let spaces: Vec<u8> = (0..=255)
+                .filter(|&byte| decoder.character(byte) == Some(b' '))
+                .collect();
+            assert_eq!(spaces, [decoder.space]);
         }
         assert_eq!(Decoder::new(Charset::Ebcdic).character(0xC1), Some(b'A'));
         assert_eq!(Decoder::new(Charset::Ascii).character(b'A'), Some(b'A'));
         assert_eq!(Decoder::new(Charset::Ascii).character(b'a'), None);
+    }
+
+    #[test]
+    fn spaces_at_the_end() {
+        let decoder = Decoder::new(Charset::Ascii);
+        for (front, spaces) in (0..20).flat_map(|front| (0..20).map(move |end| (front, end))) {
+            let text = format!("{:>front$}{:spaces$}", "A", "");
+            let front = &text[..text.len() - spaces];
+            assert_eq!(decoder.without_spaces(text.as_bytes()), front.as_bytes());
+        }
+        assert_eq!(decoder.without_spaces(&[b' '; 17]), []);
+        assert_eq!(decoder.without_spaces(&[]), []);
     }
 
     #[test]

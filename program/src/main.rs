@@ -12,6 +12,7 @@ mod log;
 mod mask;
 mod memory;
 mod nearest;
+mod number;
 mod progress;
 mod records;
 mod report;

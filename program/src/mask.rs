@@ -9,6 +9,9 @@ const SHOWN: usize = 4;
 /// How many digits an SSN has.
 const DIGITS: usize = 9;
 
+/// A shorter text has none.
+pub const SHORTEST: usize = DIGITS;
+
 /// The places of hyphens in an SSN with hyphens, which has eleven characters.
 const HYPHENS: [usize; 2] = [3, 6];
 const WITH_HYPHENS: usize = 11;
@@ -49,10 +52,43 @@ fn is_ssn(digits: &[u8], longer: bool) -> bool {
 }
 
 fn masked_with(text: &str, longer: bool) -> Cow<'_, str> {
-    let longest = run_of_digits(text);
-    if longest < SHOWN || longest < DIGITS && !text.contains('-') {
-        return Cow::Borrowed(text);
+    match may_have_ssn(text.as_bytes()) {
+        true => masked_slowly(text, longer),
+        false => Cow::Borrowed(text),
     }
+}
+
+/// Whether a digit, a hyphen or what stands between them in ASCII is one of the bytes looked at, every ninth: most texts have none,
+/// and one in which nine such bytes stand in a row has one.
+fn may_have_ssn(bytes: &[u8]) -> bool {
+    let mut at = DIGITS - 1;
+    while let Some(byte) = bytes.get(at) {
+        if matches!(byte, b'-'..=b'9') {
+            return has_row(bytes, at);
+        }
+        at += DIGITS;
+    }
+    false
+}
+
+/// Whether nine of these bytes stand in a row, the first of those looked at being one: from there on every ninth behind one that
+/// is none is looked at.
+fn has_row(bytes: &[u8], first: usize) -> bool {
+    let is_part = |byte: u8| matches!(byte, b'-'..=b'9');
+    let mut at = first;
+    while at < bytes.len() {
+        let behind = run(&bytes[at..], is_part);
+        let before = bytes[..at].iter().rev();
+        let before = before.take_while(|&&byte| is_part(byte)).count();
+        if behind > 0 && before + behind >= DIGITS {
+            return true;
+        }
+        at += behind + DIGITS;
+    }
+    false
+}
+
+fn masked_slowly(text: &str, longer: bool) -> Cow<'_, str> {
     let mut bytes = text.as_bytes().to_vec();
     let mut at = 0;
     while at < bytes.len() {
@@ -73,12 +109,6 @@ fn masked_with(text: &str, longer: bool) -> Cow<'_, str> {
     }
     // digits became stars, one byte for one
     Cow::Owned(String::from_utf8(bytes).unwrap_or_default())
-}
-
-/// The longest run of digits, to see quickly that nothing is to be masked.
-fn run_of_digits(text: &str) -> usize {
-    let runs = text.as_bytes().split(|byte| !byte.is_ascii_digit());
-    runs.map(<[u8]>::len).max().unwrap_or(0)
 }
 
 /// A text without SSNs: what every line that is printed goes through.
@@ -111,6 +141,21 @@ mod tests {
             "é",
         ] {
             assert_eq!(masked(plain), plain);
+        }
+    }
+
+    #[test]
+    fn ssns_at_every_place() {
+        for ssn in ["123456789", "123-45-6789"] {
+            for (front, behind) in (0..30).flat_map(|front| (0..12).map(move |end| (front, end))) {
+                for other in ["x", "é", "-x", "12345678x", "1-x"] {
+                    let (front, behind) = (other.repeat(front), "x".repeat(behind));
+                    let text = format!("{front}{ssn}{behind}");
+                    let shown = masked(&text);
+                    assert!(!shown.contains(ssn) && shown.contains("6789"), "{text}");
+                    assert_eq!(shown.len(), text.len());
+                }
+            }
         }
     }
 

@@ -1,5 +1,6 @@
 //! apply and check: a batch judged, and applied.
 
+use std::cell::RefCell;
 use std::path::Path;
 
 use fantanolive::{journal_size, Counts, Refusal, ERRORS, RECORD, ROW};
@@ -18,6 +19,7 @@ use crate::files::target::Target;
 use crate::log::record::{previous_run, Record};
 use crate::memory::zeros;
 use crate::progress::Progress;
+use crate::records::address_faults::AddressFaults;
 use crate::records::columns::control;
 use crate::records::field::{Form, Placeholder};
 use crate::records::kinds::{BATCH, LOCALS};
@@ -272,6 +274,7 @@ impl Judged {
             rejects: &self.rejects,
             of_details: form_of(arguments, Charset::Ebcdic),
             of_rejects: form_of(arguments, charset),
+            address: RefCell::new(AddressFaults::new()),
         }
     }
 }

@@ -1,5 +1,7 @@
 //! contacts: a contact file read into a table of contact records.
 
+use std::cell::RefCell;
+
 use fantanolive::{ContactCounts, Refusal, CONTACT};
 
 use crate::arguments::Arguments;
@@ -12,12 +14,13 @@ use crate::files::outputs::{Outputs, Wanted};
 use crate::files::read::{read, read_with_room, Input};
 use crate::memory::zeros;
 use crate::progress::Progress;
+use crate::records::code_fields::is_blank;
 use crate::records::columns::{contact, Field};
-use crate::records::contact_faults::wrong_fields;
+use crate::records::contact_faults::ContactFaults;
 use crate::records::field::Form;
 use crate::records::kinds::{CONTACTS, TABLE};
 use crate::report::html::Page;
-use crate::report::listed::{Listed, Why};
+use crate::report::listed::{Listed, PutReason};
 use crate::report::listing::Listing;
 use crate::report::notes;
 use crate::report::summary::Summary;
@@ -48,7 +51,10 @@ pub fn run(arguments: &Arguments, progress: &Progress) -> Result<Status, Failure
     let updated = Updated::of(arguments, &file, progress)?;
     let summary = updated.summary(file.records() as u64);
     let form = form_of(arguments, Charset::Ebcdic);
-    let reason = |_, record: &[u8]| reason_of(&form, record);
+    let faults = RefCell::new(ContactFaults::new());
+    let reason = |_, record: &[u8], out: &mut String| {
+        put_reason(&form, &mut faults.borrow_mut(), record, out)
+    };
     let listed = Listed {
         most_in_files: listing.most_in_files,
         ..faulty(arguments, &updated.faulty, &file, &reason)
@@ -156,7 +162,7 @@ fn faulty<'a>(
     arguments: &Arguments,
     numbers: &'a [u32],
     file: &'a Input,
-    reason: &'a dyn Fn(usize, &[u8]) -> Why,
+    reason: &'a PutReason<'a>,
 ) -> Listed<'a> {
     let mut notes = length::of_file(file);
     if !numbers.is_empty() {
@@ -180,8 +186,9 @@ fn faulty<'a>(
 /// How many faulty records have each field wrong, for a chart.
 fn chart_of(numbers: &[u32], file: &Input) -> Vec<(String, u64, String)> {
     let mut counts = vec![0; contact::FIELDS.len()];
+    let mut faults = ContactFaults::new();
     for &number in numbers {
-        for wrong in wrong_fields(file.record(number as usize - 1)) {
+        for wrong in faults.wrong_fields(file.record(number as usize - 1)) {
             let is_it = |field: &Field| field.first == wrong.first;
             if let Some(place) = contact::FIELDS.iter().position(is_it) {
                 counts[place] += 1;
@@ -195,17 +202,29 @@ fn chart_of(numbers: &[u32], file: &Input) -> Vec<(String, u64, String)> {
         .collect()
 }
 
-/// The fields that are wrong by themselves, with their values.
-fn reason_of(form: &Form, record: &[u8]) -> Why {
-    let shown = |field: &Field| match form.field(field, record) {
-        value if value.is_empty() => format!("{} blank", field.name),
-        value => format!("{} '{value}'", field.name),
-    };
-    let wrong: Vec<String> = wrong_fields(record).iter().map(shown).collect();
-    Why {
-        name: "wrong fields",
-        words: format!("wrong: {}", wrong.join(", ")),
+/// Writes the fields that are wrong by themselves, with their values.
+fn put_reason(
+    form: &Form,
+    faults: &mut ContactFaults,
+    record: &[u8],
+    out: &mut String,
+) -> &'static str {
+    out.push_str("wrong: ");
+    for (place, field) in faults.wrong_fields(record).enumerate() {
+        if place > 0 {
+            out.push_str(", ");
+        }
+        out.push_str(field.name);
+        match is_blank(field, record) {
+            true => out.push_str(" blank"),
+            false => {
+                out.push_str(" '");
+                form.put(field, record, out);
+                out.push('\'');
+            }
+        }
     }
+    "wrong fields"
 }
 
 /// `OH003  COUNTY CHILD SUPPORT AGENCY`.

@@ -22,7 +22,7 @@ use crate::records::kinds::COLLECTIONS;
 use crate::records::line_reasons::{self, Reason};
 use crate::records::money::{total_notes, Money};
 use crate::report::html::Page;
-use crate::report::listed::{Listed, Why};
+use crate::report::listed::{Listed, PutReason};
 use crate::report::listing::Listing;
 use crate::report::notes;
 use crate::report::summary::Summary;
@@ -165,12 +165,16 @@ impl Posted {
         counts
     }
 
-    fn why(&self, form: &Form, place: usize, record: &[u8]) -> Why {
+    fn put_reason(
+        &self,
+        form: &Form,
+        place: usize,
+        record: &[u8],
+        out: &mut String,
+    ) -> &'static str {
         let reason = &self.reasons[place];
-        Why {
-            name: reason.name(),
-            words: reason.words(form, record),
-        }
+        reason.put_words(form, record, out);
+        reason.name()
     }
 
     /// What was done, or would be; a dry run says what is written.
@@ -202,7 +206,7 @@ impl Posted {
         &'a self,
         arguments: &Arguments,
         listing: &Listing,
-        reason: &'a dyn Fn(usize, &[u8]) -> Why,
+        reason: &'a PutReason<'a>,
     ) -> Listed<'a> {
         Listed {
             heading: ("line not posted", "lines not posted"),
@@ -228,7 +232,8 @@ impl Posted {
         summary: &Summary,
     ) -> Result<Vec<Staged<'static>>, Failure> {
         let form = Form::new(Charset::Ebcdic, Placeholder::Dot, arguments.flag("--full"));
-        let why = |place, record: &[u8]| self.why(&form, place, record);
+        let why =
+            |place, record: &[u8], out: &mut String| self.put_reason(&form, place, record, out);
         let listed = self.listed(arguments, &Listing::of(arguments)?, &why);
         let page = Page {
             about: report_files::about(arguments, &self.file.name()),
@@ -251,7 +256,8 @@ impl Posted {
     ) -> Result<Status, Failure> {
         let listing = Listing::of(arguments)?;
         let form = form_of(arguments, Charset::Ebcdic);
-        let why = |place, record: &[u8]| self.why(&form, place, record);
+        let why =
+            |place, record: &[u8], out: &mut String| self.put_reason(&form, place, record, out);
         let listed = self.listed(arguments, &listing, &why);
         print(
             arguments,

@@ -1,14 +1,12 @@
 //! What of a faulty contact record is wrong: the library is asked about each part with the others right.
 
-use std::sync::LazyLock;
-
 use fantanolive::{contacts_codes, Refusal, CONTACT};
 
 use super::columns::{contact, Field};
 use super::field::text_in;
 
 /// A contact record that is good, by its parts: each is judged by itself.
-const PARTS: [(&[Field], &str); 10] = [
+static PARTS: [(&[Field], &str); 10] = [
     (&[contact::STATE], "OH"),
     (&[contact::LOCAL_CODE], "000"),
     (&[contact::TELEPHONE_1], "(301) 555-1212"),
@@ -29,35 +27,64 @@ const PARTS: [(&[Field], &str); 10] = [
 ];
 
 /// The record of these parts.
-static RIGHT: LazyLock<Vec<u8>> = LazyLock::new(|| {
+fn right() -> Vec<u8> {
     let parts = PARTS.map(|(fields, text)| (fields[0], text));
     text_in(CONTACT, &parts)
-});
+}
 
 /// Whether the library takes a record: as a table of one, which has no faulty one.
 fn is_good(record: &[u8]) -> bool {
     contacts_codes(record, 1, &[], &mut []) != Err(Refusal::WrongContacts)
 }
 
-/// The fields of a record that are wrong with the others right.
-pub fn wrong_fields(record: &[u8]) -> Vec<Field> {
-    let mut probe = RIGHT.clone();
-    let is_wrong = |part: &&(&[Field], &str)| {
-        let is_right = |field: &Field| field.of(record) == field.of(&RIGHT);
-        if part.0.iter().all(is_right) {
-            return false;
+/// What the library said of each part, so that it is not asked twice about the same.
+pub struct ContactFaults {
+    /// The record that is right.
+    right: Vec<u8>,
+    /// The parts that it was asked about last, and which of them were wrong.
+    asked: Vec<u8>,
+    wrong: [bool; PARTS.len()],
+}
+
+impl ContactFaults {
+    pub fn new() -> ContactFaults {
+        let right = right();
+        ContactFaults {
+            asked: right.clone(),
+            wrong: [false; PARTS.len()],
+            right,
         }
-        for field in part.0 {
+    }
+
+    /// The fields of a record that are wrong with the others right.
+    pub fn wrong_fields(&mut self, record: &[u8]) -> impl Iterator<Item = &'static Field> {
+        if record != self.asked {
+            self.ask(record);
+        }
+        let wrong = PARTS.iter().zip(self.wrong).filter(|(_, wrong)| *wrong);
+        wrong.flat_map(|((fields, _), _)| *fields)
+    }
+
+    /// Asks the library about the parts that are others than before.
+    fn ask(&mut self, record: &[u8]) {
+        for (place, (fields, _)) in PARTS.iter().enumerate() {
+            let is_asked = |field: &Field| field.of(record) == field.of(&self.asked);
+            if !fields.iter().all(is_asked) {
+                self.wrong[place] = self.is_wrong(fields, record);
+            }
+        }
+    }
+
+    /// Asks about a part.
+    fn is_wrong(&mut self, fields: &[Field], record: &[u8]) -> bool {
+        let mut probe = [0; CONTACT];
+        probe.copy_from_slice(&self.right);
+        for field in fields {
             field.set(&mut probe, field.of(record));
+            field.set(&mut self.asked, field.of(record));
         }
-        let is_wrong = !is_good(&probe);
-        for field in part.0 {
-            field.set(&mut probe, field.of(&RIGHT));
-        }
-        is_wrong
-    };
-    let wrong = PARTS.iter().filter(is_wrong);
-    wrong.flat_map(|(fields, _)| *fields).copied().collect()
+        !is_good(&probe)
+    }
 }
 
 #[cfg(test)]
@@ -65,7 +92,7 @@ mod tests {
     use super::*;
 
     fn with(fields: &[(Field, &str)]) -> Vec<u8> {
-        let mut record = RIGHT.clone();
+        let mut record = right();
         for (field, text) in fields {
             let width = field.last + 1 - field.first;
             let part = text_in(CONTACT, &[(*field, &format!("{text:<width$}"))]);
@@ -74,9 +101,18 @@ mod tests {
         record
     }
 
+    /// The columns at which the wrong fields begin.
+    fn wrong(faults: &mut ContactFaults, record: &[u8]) -> Vec<usize> {
+        faults
+            .wrong_fields(record)
+            .map(|field| field.first)
+            .collect()
+    }
+
     #[test]
     fn each_part_by_itself() {
-        assert!(is_good(&with(&[])) && wrong_fields(&with(&[])).is_empty());
+        let mut faults = ContactFaults::new();
+        assert!(is_good(&with(&[])) && wrong(&mut faults, &with(&[])).is_empty());
         for (field, text) in [
             (contact::STATE, "XX"),
             (contact::LOCAL_CODE, "0 1"),
@@ -91,11 +127,13 @@ mod tests {
         ] {
             let record = with(&[(field, text)]);
             assert!(!is_good(&record));
-            let wrong: Vec<usize> = wrong_fields(&record).iter().map(|f| f.first).collect();
-            assert_eq!(wrong, [field.first], "{text}");
+            // asked twice, and with what was said before
+            for _ in 0..2 {
+                assert_eq!(wrong(&mut faults, &record), [field.first], "{text}");
+            }
         }
         let record = with(&[(contact::ADDRESS_LINE_1, ""), (contact::STATE, "ZZ")]);
-        assert_eq!(wrong_fields(&record).len(), 4);
-        assert!(wrong_fields(&with(&[(contact::ADDRESS_LINE_2, "A")])).is_empty());
+        assert_eq!(wrong(&mut faults, &record).len(), 4);
+        assert!(wrong(&mut faults, &with(&[(contact::ADDRESS_LINE_2, "A")])).is_empty());
     }
 }

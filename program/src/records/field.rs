@@ -4,7 +4,8 @@ use std::borrow::Cow;
 
 use super::columns::{Field, Kind, Layout};
 use crate::code_page::{argument, Charset, Decoder};
-use crate::mask::masked_typed;
+use crate::mask::{masked_typed, SHORTEST};
+use crate::number::put_number;
 
 /// What stands for a byte that is no character.
 #[derive(Clone, Copy, Debug, PartialEq, Eq)]
@@ -44,10 +45,16 @@ impl Field {
 
     /// Its columns as the charts give them.
     pub fn columns(&self) -> String {
-        if self.first == self.last {
-            self.first.to_string()
-        } else {
-            format!("{}-{}", self.first, self.last)
+        let mut text = String::new();
+        self.put_columns(&mut text);
+        text
+    }
+
+    pub fn put_columns(&self, out: &mut String) {
+        put_number(self.first, out);
+        if self.first != self.last {
+            out.push('-');
+            put_number(self.last, out);
         }
     }
 }
@@ -74,21 +81,25 @@ impl Form {
 
     /// Writes a byte that is or isn't a character.
     fn put_byte(&self, byte: u8, out: &mut String) {
-        match (self.decoder.character(byte), self.placeholder) {
-            (Some(b'0'..=b'9'), _) if self.digits_masked => out.push('*'),
-            (Some(character), _) => out.push(char::from(character)),
-            (None, Placeholder::Hex) if !self.digits_masked => {
-                out.push_str(&format!("\\x{byte:02X}"))
-            }
-            (None, _) => out.push('.'),
+        match self.decoder.character(byte) {
+            Some(b'0'..=b'9') if self.digits_masked => out.push('*'),
+            Some(character) => out.push(char::from(character)),
+            None => self.put_placeholder(byte, out),
+        }
+    }
+
+    /// Writes a byte that is no character.
+    #[cold]
+    fn put_placeholder(&self, byte: u8, out: &mut String) {
+        match self.placeholder {
+            Placeholder::Hex if !self.digits_masked => out.push_str(&format!("\\x{byte:02X}")),
+            _ => out.push('.'),
         }
     }
 
     /// Writes bytes without the spaces at their end.
     pub fn put_text(&self, bytes: &[u8], out: &mut String) {
-        let is_space = |&byte: &u8| self.decoder.character(byte) == Some(b' ');
-        let spaces = bytes.iter().rev().take_while(|byte| is_space(byte)).count();
-        for &byte in &bytes[..bytes.len() - spaces] {
+        for &byte in self.decoder.without_spaces(bytes) {
             self.put_byte(byte, out);
         }
     }
@@ -97,7 +108,10 @@ impl Form {
     fn put_typed(&self, bytes: &[u8], out: &mut String) {
         let start = out.len();
         self.put_text(bytes, out);
-        if let (false, Cow::Owned(masked)) = (self.full, masked_typed(&out[start..])) {
+        if self.full || out.len() - start < SHORTEST {
+            return;
+        }
+        if let Cow::Owned(masked) = masked_typed(&out[start..]) {
             out.replace_range(start.., &masked);
         }
     }

@@ -2,13 +2,12 @@
 //! up; else it is the case at the line's turn: from the row before the file on, the library posts the lines of its key one by
 //! one.
 
-use std::collections::HashMap;
-
 use fantanolive::{find, find_many, Refusal, KEY, LINE, NO_PLACE};
 
 use super::amounts::money;
 use super::columns::line;
 use super::field::Form;
+use super::key_map::{Key, KeyMap};
 use super::posting::{fault_of, Case, Fault};
 use crate::failure::{grouped, Failure};
 
@@ -40,49 +39,52 @@ impl Reason {
         }
     }
 
-    /// What is to be known of a line with this reason.
-    pub fn words(&self, form: &Form, record: &[u8]) -> String {
+    /// Writes what is to be known of a line with this reason.
+    pub fn put_words(&self, form: &Form, record: &[u8], out: &mut String) {
         match self {
-            Reason::NoAmount => no_amount_words(form, record),
-            Reason::TwoAmounts => "a collection and an adjustment in one line".to_string(),
-            Reason::NoCase => "no case has this key".to_string(),
-            Reason::ClosedBefore => "the case was closed before this file".to_string(),
+            Reason::NoAmount => put_no_amounts(form, record, out),
+            Reason::TwoAmounts => out.push_str("a collection and an adjustment in one line"),
+            Reason::NoCase => out.push_str("no case has this key"),
+            Reason::ClosedBefore => out.push_str("the case was closed before this file"),
             Reason::ClosedByLine(number) => {
                 let number = grouped(u64::from(*number));
-                format!("the case was closed by line {number} of this file")
+                out.push_str(&format!(
+                    "the case was closed by line {number} of this file"
+                ));
             }
             Reason::TooLarge(balance) => {
                 let balance = money(*balance);
-                format!("the balance of {balance} would pass 99,999,999.99")
+                out.push_str(&format!(
+                    "the balance of {balance} would pass 99,999,999.99"
+                ));
             }
         }
     }
 }
 
 /// The amounts that are none, as they stand.
-fn no_amount_words(form: &Form, record: &[u8]) -> String {
+fn put_no_amounts(form: &Form, record: &[u8], out: &mut String) {
     let Some(Fault::NoAmount(fields)) = fault_of(record) else {
-        return String::new();
+        return;
     };
-    let shown = |field: &super::columns::Field| {
-        let mut value = String::new();
-        form.put_text(field.of(record), &mut value);
-        format!("{} '{value}'", field.name)
-    };
-    let list: Vec<String> = fields.iter().map(shown).collect();
-    format!("not eleven digits: {}", list.join(", "))
+    out.push_str("not eleven digits: ");
+    let mut between = "";
+    for field in &fields {
+        out.push_str(between);
+        out.push_str(field.name);
+        out.push_str(" '");
+        form.put_text(field.of(record), out);
+        out.push('\'');
+        between = ", ";
+    }
 }
-
-type Key = [u8; KEY];
 
 /// The key of a line.
 pub fn key_of(record: &[u8]) -> Key {
     let mut key = [0; KEY];
-    let fields = [line::STATE, line::SSN, line::CASE_TYPE];
-    let bytes = fields.iter().flat_map(|field| field.of(record));
-    for (place, &byte) in key.iter_mut().zip(bytes) {
-        *place = byte;
-    }
+    key[..2].copy_from_slice(line::STATE.of(record));
+    key[2..11].copy_from_slice(line::SSN.of(record));
+    key[11..].copy_from_slice(line::CASE_TYPE.of(record));
     key
 }
 
@@ -132,7 +134,7 @@ impl Posted<'_> {
     }
 
     /// The cases before the file of the lines whose reasons are not known yet.
-    fn turns(&self, reasons: &[Option<Reason>]) -> Result<HashMap<Key, Turn>, Failure> {
+    fn turns(&self, reasons: &[Option<Reason>]) -> Result<KeyMap<Turn>, Failure> {
         let open = self.listed.iter().zip(reasons);
         let open = open.filter(|(_, reason)| reason.is_none());
         let mut keys: Vec<Key> = open.map(|(&number, _)| key_of(self.line(number))).collect();
@@ -156,7 +158,7 @@ impl Posted<'_> {
                 },
             )
         };
-        let mut turns: HashMap<Key, Turn> = unsound.into_iter().map(none).collect();
+        let mut turns: KeyMap<Turn> = unsound.into_iter().map(none).collect();
         let mut row = [0; fantanolive::ROW];
         for (key, place) in sound.into_iter().zip(places) {
             let mut turn = none(key).1;
@@ -170,7 +172,7 @@ impl Posted<'_> {
     }
 
     /// Posts the lines of these cases in file order, and gives the reasons that are missing.
-    fn replay(&self, turns: &mut HashMap<Key, Turn>, reasons: &mut [Option<Reason>]) {
+    fn replay(&self, turns: &mut KeyMap<Turn>, reasons: &mut [Option<Reason>]) {
         if turns.is_empty() {
             return;
         }
@@ -223,6 +225,7 @@ mod tests {
     use super::*;
     use crate::code_page::argument;
     use fantanolive::{post, ROW};
+    use std::collections::HashMap;
 
     /// Numbers that look like chance.
     struct Chance(u64);

@@ -1,5 +1,6 @@
 //! Records: the columns of each kind, the kinds of files, and fields as text.
 
+pub mod address_faults;
 pub mod amounts;
 pub mod case_change;
 pub mod code_fields;
@@ -12,6 +13,7 @@ pub mod csv_lines;
 pub mod cuts;
 pub mod exclusion_words;
 pub mod field;
+pub mod key_map;
 pub mod kinds;
 pub mod line_reasons;
 pub mod made_up_case;

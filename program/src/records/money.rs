@@ -1,15 +1,13 @@
 //! The money of a posting, added up from the fields: balances before and behind, what was collected and adjusted, and what of the
 //! collections was more than was owed.
 
-use std::collections::HashMap;
-
 use fantanolive::{KEY, LINE, ROW};
 
-use super::amounts::{balance_of, cents_of, money};
-use super::columns::{line, total, Field};
+use super::amounts::{balance_of, cents_of, money, number_of};
+use super::columns::{line, row, total, Field};
+use super::key_map::KeyMap;
 use super::line_reasons::{key_of, Posted};
-use super::posting::Case;
-use crate::code_page::argument;
+use crate::code_page::{argument, code};
 use crate::failure::Failure;
 
 /// In cents, over the posted lines.
@@ -46,22 +44,23 @@ impl Money {
     }
 
     /// Adds up the balances; the answer is the cases that are closed.
-    fn take_rows(&mut self, posted: &Posted) -> Result<HashMap<[u8; KEY], Closed>, Failure> {
-        let mut closed = HashMap::new();
+    fn take_rows(&mut self, posted: &Posted) -> Result<KeyMap<Closed>, Failure> {
+        let mut closed = KeyMap::default();
         let rows = posted.rows.len() / ROW;
         let mut part = vec![0; PART.min(rows) * ROW];
+        let live = [code(b' ')];
         for first in (0..rows).step_by(PART) {
             let part = &mut part[..PART.min(rows - first) * ROW];
             (posted.read)(first, part)?;
             let behind = posted.rows[first * ROW..].chunks_exact(ROW);
             for (old, new) in part.chunks_exact(ROW).zip(behind) {
-                self.before += balance_of(old);
+                let owed = balance_of(old);
+                self.before += owed;
                 self.after += balance_of(new);
-                if old != new && Case::of(old).is_live && !Case::of(new).is_live {
+                if row::STATUS.of(old) == live && row::STATUS.of(new) != live {
                     let mut key = [0; KEY];
                     key.copy_from_slice(&old[..KEY]);
-                    let (owed, collected) = (balance_of(old), 0);
-                    closed.insert(key, Closed { owed, collected });
+                    closed.insert(key, Closed { owed, collected: 0 });
                 }
             }
         }
@@ -69,14 +68,15 @@ impl Money {
     }
 
     /// Adds up the lines that are posted.
-    fn take_lines(&mut self, posted: &Posted, closed: &mut HashMap<[u8; KEY], Closed>) {
+    fn take_lines(&mut self, posted: &Posted, closed: &mut KeyMap<Closed>) {
         let mut listed = posted.listed.iter().peekable();
         for (number, record) in (1..).zip(posted.lines.chunks_exact(LINE)) {
             if listed.next_if(|next| **next == number).is_some() {
                 continue;
             }
-            let amount = |field: &Field| cents_of(field.of(record)).unwrap_or_default();
-            let (collection, adjustment) = (amount(&line::COLLECTION), amount(&line::ADJUSTMENT));
+            // amounts of a line that is posted are right
+            let collection = number_of(line::COLLECTION.of(record));
+            let adjustment = number_of(line::ADJUSTMENT.of(record));
             self.collected += collection;
             self.adjusted += adjustment;
             if closed.is_empty() {

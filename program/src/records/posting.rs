@@ -1,12 +1,14 @@
 //! One line of a collection file posted to one case: the library is asked about the line and a row made up with a balance.
 
-use fantanolive::{post, Refusal, LINE};
+use std::sync::LazyLock;
 
-use super::amounts::balance_of;
+use fantanolive::{post, Refusal, LINE, ROW};
+
+use super::amounts::{balance_of, cents_of};
 use super::columns::{line, row, total, Field};
 use super::field::text_in;
 use super::made_up_case::{live_row, CASE_TYPE, SSN, STATE};
-use crate::code_page::argument;
+use crate::code_page::{argument, code};
 
 /// Amounts of nothing and of a cent.
 const ZERO: &str = "00000000000";
@@ -19,50 +21,65 @@ pub struct Case {
     pub is_live: bool,
 }
 
+/// A line of the case that is made up, and behind it a last record.
+static FILE: LazyLock<[u8; 2 * LINE]> = LazyLock::new(|| {
+    let own = [
+        (line::STATE, STATE),
+        (line::SSN, SSN),
+        (line::CASE_TYPE, CASE_TYPE),
+    ];
+    let records = [
+        text_in(LINE, &own),
+        text_in(LINE, &[(total::MARK, "TOTAL")]),
+    ];
+    let mut bytes = [0; 2 * LINE];
+    bytes.copy_from_slice(&records.concat());
+    bytes
+});
+
+/// Puts a number into a field, in digits from its end on.
+fn set_number(field: &Field, number: u64, record: &mut [u8]) {
+    let mut rest = number;
+    for place in record[field.first - 1..field.last].iter_mut().rev() {
+        *place = code(b'0' + (rest % 10) as u8);
+        rest /= 10;
+    }
+}
+
 impl Case {
     /// That of a row.
     pub fn of(bytes: &[u8]) -> Case {
         Case {
             balance: balance_of(bytes),
-            is_live: row::STATUS.of(bytes) == argument(b" "),
+            is_live: row::STATUS.of(bytes) == [code(b' ')],
         }
     }
 
     /// The row that is made up for it.
-    fn row(self) -> Vec<u8> {
+    fn row(self) -> [u8; ROW] {
         let mut bytes = live_row();
-        let status = if self.is_live { " " } else { "D" };
-        let (dollars, cents) = (self.balance / 100, self.balance % 100);
-        for (field, text) in [
-            (row::ARREARAGE, format!("{dollars:08}")),
-            (row::CENTS, format!("{cents:02}")),
-            (row::STATUS, status.to_string()),
-        ] {
-            field.set(&mut bytes, &argument(text.as_bytes()));
-        }
+        set_number(&row::ARREARAGE, self.balance / 100, &mut bytes);
+        set_number(&row::CENTS, self.balance % 100, &mut bytes);
+        let status = if self.is_live { b' ' } else { b'D' };
+        row::STATUS.set(&mut bytes, &[code(status)]);
         bytes
     }
 
     /// The case behind a line; none where the line is not posted.
     pub fn posted(self, record: &[u8]) -> Option<Case> {
-        let mut file = [record, &text_in(LINE, &[(total::MARK, "TOTAL")])].concat();
-        for (field, text) in [
-            (line::STATE, STATE),
-            (line::SSN, SSN),
-            (line::CASE_TYPE, CASE_TYPE),
-        ] {
-            field.set(&mut file, &argument(text.as_bytes()));
+        let mut file = *FILE;
+        file[..LINE].copy_from_slice(record);
+        for field in [&line::STATE, &line::SSN, &line::CASE_TYPE] {
+            field.set(&mut file, field.of(&FILE[..]));
         }
         let mut bytes = self.row();
         let mut list = [0];
-        for counts in [(0, 1), (1, 0), (0, 0), (1, 1)] {
-            for (field, count) in [
-                (total::ADJUSTMENTS, counts.0),
-                (total::COLLECTIONS, counts.1),
-            ] {
-                let digits = argument(format!("{count:015}").as_bytes());
-                field.set(&mut file[LINE..], &digits);
-            }
+        let is_above = |field: &Field| cents_of(field.of(record)).is_some_and(|cents| cents > 0);
+        let likely = [is_above(&line::ADJUSTMENT), is_above(&line::COLLECTION)];
+        for other in [[false, false], [false, true], [true, false], [true, true]] {
+            let last = &mut file[LINE..];
+            set_number(&total::ADJUSTMENTS, u64::from(likely[0] ^ other[0]), last);
+            set_number(&total::COLLECTIONS, u64::from(likely[1] ^ other[1]), last);
             match post(&mut bytes, 1, &file, &mut list) {
                 // the counts are others
                 Err(Refusal::WrongTotal) => {}
@@ -81,8 +98,9 @@ const USUAL: Case = Case {
 };
 
 /// A line with other amounts.
-fn with_amounts(record: &[u8], collection: &[u8], adjustment: &[u8]) -> Vec<u8> {
-    let mut other = record.to_vec();
+fn with_amounts(record: &[u8], collection: &[u8], adjustment: &[u8]) -> [u8; LINE] {
+    let mut other = [0; LINE];
+    other.copy_from_slice(record);
     line::COLLECTION.set(&mut other, collection);
     line::ADJUSTMENT.set(&mut other, adjustment);
     other

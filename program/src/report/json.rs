@@ -1,12 +1,36 @@
 //! JSON, written as it comes.
 
 use std::io::{self, Write};
+use std::mem;
 
 use crate::mask::masked;
+use crate::number::Digits;
 
 /// Whether a byte of a text is written otherwise.
 fn is_escaped(byte: u8) -> bool {
     matches!(byte, b'"' | b'\\' | ..b' ')
+}
+
+/// Eight equal bytes.
+const fn eight(byte: u8) -> u64 {
+    u64::from_ne_bytes([byte; 8])
+}
+
+/// Whether one of eight bytes is below a limit of at most 128.
+fn has_below(bytes: u64, limit: u8) -> bool {
+    bytes.wrapping_sub(eight(limit)) & !bytes & eight(0x80) != 0
+}
+
+/// Whether a text has a byte that is written otherwise: eight bytes at a time.
+fn has_escaped(text: &str) -> bool {
+    let (chunks, rest) = text.as_bytes().as_chunks();
+    let any = |chunk: &[u8; 8]| {
+        let bytes = u64::from_ne_bytes(*chunk);
+        has_below(bytes, b' ')
+            || has_below(bytes ^ eight(b'"'), 1)
+            || has_below(bytes ^ eight(b'\\'), 1)
+    };
+    chunks.iter().any(any) || rest.iter().any(|&byte| is_escaped(byte))
 }
 
 /// A writer of one JSON value. Commas are set by it; that names and values alternate in an object is the caller's part.
@@ -80,24 +104,30 @@ impl<W: Write> Json<W> {
     }
 
     pub fn name(&mut self, name: &str) -> io::Result<()> {
-        self.separate()?;
-        self.quoted(name)?;
+        self.begin_name(name)?;
         self.named = true;
-        self.out.write_all(b":")
+        self.out.write_all(b"\":")
+    }
+
+    /// The comma, and a name up to its last quotation mark.
+    fn begin_name(&mut self, name: &str) -> io::Result<()> {
+        let before = self.open.last_mut();
+        match before.is_some_and(|before| mem::replace(before, true)) {
+            true => self.out.write_all(b",\"")?,
+            false => self.out.write_all(b"\"")?,
+        }
+        self.escaped(name)
     }
 
     pub fn text(&mut self, text: &str) -> io::Result<()> {
         self.separate()?;
-        if self.full {
-            self.quoted(text)
-        } else {
-            self.quoted(&masked(text))
-        }
+        self.out.write_all(b"\"")?;
+        self.rest_of(text)
     }
 
     pub fn number(&mut self, number: u64) -> io::Result<()> {
         self.separate()?;
-        write!(self.out, "{number}")
+        self.out.write_all(Digits::of(number).bytes())
     }
 
     /// An amount in cents, as dollars with two decimal places.
@@ -134,8 +164,9 @@ impl<W: Write> Json<W> {
 
     /// A name with a text.
     pub fn text_of(&mut self, name: &str, text: &str) -> io::Result<()> {
-        self.name(name)?;
-        self.text(text)
+        self.begin_name(name)?;
+        self.out.write_all(b"\":\"")?;
+        self.rest_of(text)
     }
 
     /// A name with a text, or with null.
@@ -158,8 +189,19 @@ impl<W: Write> Json<W> {
         self.out.write_all(b"\n")
     }
 
-    fn quoted(&mut self, text: &str) -> io::Result<()> {
-        self.out.write_all(b"\"")?;
+    /// A text behind its first quotation mark, without SSNs unless they are asked for.
+    fn rest_of(&mut self, text: &str) -> io::Result<()> {
+        match self.full {
+            true => self.escaped(text)?,
+            false => self.escaped(&masked(text))?,
+        }
+        self.out.write_all(b"\"")
+    }
+
+    fn escaped(&mut self, text: &str) -> io::Result<()> {
+        if !has_escaped(text) {
+            return self.out.write_all(text.as_bytes());
+        }
         let mut rest = text;
         while let Some(at) = rest.bytes().position(is_escaped) {
             self.out.write_all(&rest.as_bytes()[..at])?;
@@ -170,8 +212,7 @@ impl<W: Write> Json<W> {
             }
             rest = &rest[at + 1..];
         }
-        self.out.write_all(rest.as_bytes())?;
-        self.out.write_all(b"\"")
+        self.out.write_all(rest.as_bytes())
     }
 }
 
@@ -224,5 +265,14 @@ mod tests {
     fn strings_are_escaped() {
         let text = written(|json| json.text("a\"b\\xC0\nc\u{1}é"));
         assert_eq!(text, "\"a\\\"b\\\\xC0\\nc\\u0001é\"");
+        for (byte, front) in (0..=255).flat_map(|byte| (0..20).map(move |front| (byte, front))) {
+            let text = format!(
+                "{}{}é {}",
+                "~".repeat(front),
+                char::from(byte),
+                "!".repeat(9)
+            );
+            assert_eq!(has_escaped(&text), text.bytes().any(is_escaped), "{text}");
+        }
     }
 }

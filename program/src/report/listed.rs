@@ -4,12 +4,16 @@ use std::io::{self, Write};
 
 use crate::failure::headed;
 use crate::files::read::Input;
+use crate::number::put_number;
 use crate::records::columns::{Field, Kind};
 use crate::records::field::Form;
 use crate::report::json::Json;
 use crate::report::listing::Listing;
 use crate::report::screen::{Screen, Style};
 use crate::report::sheet::{Put, Sheet};
+
+/// What stands before the reason of a record.
+const INDENT: &str = "    ";
 
 pub struct Listed<'a> {
     /// What one record is and what several are, and the name of their JSON array.
@@ -26,24 +30,19 @@ pub struct Listed<'a> {
     /// The names of its columns in files: its number, these fields, and the reason.
     pub heads: &'static [&'static str],
     pub most_in_files: usize,
-    /// Why a record is listed, by its place in the list.
-    pub reason: &'a dyn Fn(usize, &[u8]) -> Why,
+    pub reason: &'a PutReason<'a>,
     /// What is said below the list.
     pub notes: Vec<String>,
 }
 
-/// Why a record is listed: the name of the reason, and what is to be known of it.
-pub struct Why {
-    pub name: &'static str,
-    pub words: String,
-}
+/// Writes why a record is listed, by its place in the list and its bytes. The answer is the name of the reason.
+pub type PutReason<'a> = dyn Fn(usize, &[u8], &mut String) -> &'static str + 'a;
 
 impl Listed<'_> {
-    /// The number of each record, with its bytes and the reason.
-    fn records(&self) -> impl Iterator<Item = (u32, &[u8], Why)> {
+    /// The place of each record in the list and its number, with its bytes.
+    fn records(&self) -> impl Iterator<Item = (usize, u32, &[u8])> {
         let record = |(place, &number): (usize, &u32)| {
-            let record = self.file.record(number as usize - 1);
-            (number, record, (self.reason)(place, record))
+            (place, number, self.file.record(number as usize - 1))
         };
         self.numbers.iter().enumerate().map(record)
     }
@@ -54,12 +53,18 @@ impl Listed<'_> {
         }
         listing.put_heading(screen, self.numbers.len(), self.heading)?;
         let mut text = String::new();
-        for (number, record, reason) in self.records().take(listing.most) {
+        for (place, number, record) in self.records().take(listing.most) {
             text.clear();
-            text.push_str(&format!("{} {number}  ", self.file.kind.record));
+            text.push_str(self.file.kind.record);
+            text.push(' ');
+            put_number(number as usize, &mut text);
+            text.push_str("  ");
             (self.put_line)(&self.form, record, &mut text);
             screen.line(Style::Error, &text)?;
-            screen.wrapped(Style::Plain, "    ", &reason.words, 4)?;
+            text.clear();
+            text.push_str(INDENT);
+            (self.reason)(place, record, &mut text);
+            screen.broken(Style::Plain, &text, INDENT.len(), INDENT.len())?;
         }
         listing.put_rest(screen, self.numbers.len())?;
         self.put_notes(screen)
@@ -76,19 +81,15 @@ impl Listed<'_> {
     pub fn put_json<W: Write>(&self, json: &mut Json<W>, listing: &Listing) -> io::Result<()> {
         json.name(self.member)?;
         json.begin_array()?;
-        for (number, record, reason) in self.records().take(listing.most_in_files) {
+        let mut text = String::new();
+        for (place, number, record) in self.records().take(listing.most_in_files) {
             json.begin_object()?;
             json.number_of(self.file.kind.record, u64::from(number))?;
-            for (name, field) in self.fields {
-                json.name(name)?;
-                let value = self.form.field(field, record);
-                match field.kind {
-                    Kind::Amount => json.number_or_text(&value)?,
-                    _ => json.text(&value)?,
-                }
-            }
-            json.text_of("reason", reason.name)?;
-            json.text_of("reason_words", &reason.words)?;
+            self.put_members(json, record, &mut text)?;
+            text.clear();
+            let name = (self.reason)(place, record, &mut text);
+            json.text_of("reason", name)?;
+            json.text_of("reason_words", &text)?;
             json.end_object()?;
         }
         json.end_array()?;
@@ -98,6 +99,25 @@ impl Listed<'_> {
             json.text(note)?;
         }
         json.end_array()
+    }
+
+    /// The fields of a record. The text is written over.
+    fn put_members<W: Write>(
+        &self,
+        json: &mut Json<W>,
+        record: &[u8],
+        text: &mut String,
+    ) -> io::Result<()> {
+        for (name, field) in self.fields {
+            text.clear();
+            self.form.put(field, record, text);
+            json.name(name)?;
+            match field.kind {
+                Kind::Amount => json.number_or_text(text)?,
+                _ => json.text(text)?,
+            }
+        }
+        Ok(())
     }
 }
 
@@ -111,11 +131,13 @@ impl Sheet for Listed<'_> {
     }
 
     fn put_lines(&self, put: &mut Put) -> io::Result<()> {
-        for (number, record, reason) in self.records().take(self.most_in_files) {
+        for (place, number, record) in self.records().take(self.most_in_files) {
             let values = self.fields.iter();
             let values = values.map(|(_, field)| self.form.field(field, record));
             let cells = [number.to_string()].into_iter().chain(values);
-            let cells: Vec<String> = cells.chain([reason.words]).collect();
+            let mut words = String::new();
+            (self.reason)(place, record, &mut words);
+            let cells: Vec<String> = cells.chain([words]).collect();
             let cells: Vec<&str> = cells.iter().map(String::as_str).collect();
             put(&cells)?;
         }

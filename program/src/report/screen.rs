@@ -2,9 +2,10 @@
 
 use std::borrow::Cow;
 use std::io::{self, BufWriter, Write};
+use std::{iter, mem};
 
 use crate::mask::masked;
-use crate::report::wrap::wrapped;
+use crate::report::wrap::front;
 use crate::terminal;
 
 #[derive(Clone, Copy, Debug, PartialEq, Eq)]
@@ -42,6 +43,8 @@ pub struct Screen<W: Write> {
     colours: bool,
     /// Whether SSNs are printed whole.
     full: bool,
+    /// A line below the first of a text that is broken.
+    below: String,
 }
 
 /// Where a report goes, with a large buffer.
@@ -75,6 +78,7 @@ impl<W: Write> Screen<W> {
             width,
             colours,
             full: false,
+            below: String::new(),
         }
     }
 
@@ -87,8 +91,11 @@ impl<W: Write> Screen<W> {
     /// A line, cut where the terminal is narrower.
     pub fn line(&mut self, style: Style, text: &str) -> io::Result<()> {
         let plain = printable(text);
-        let without_ssns = masked(&plain);
-        let text = if self.full { &plain } else { &without_ssns };
+        let without_ssns = match self.full {
+            true => Cow::Borrowed(&*plain),
+            false => masked(&plain),
+        };
+        let text: &str = &without_ssns;
         let coloured = self.colours && style != Style::Plain;
         if coloured {
             self.out.write_all(style.start().as_bytes())?;
@@ -115,10 +122,31 @@ impl<W: Write> Screen<W> {
         text: &str,
         indent: usize,
     ) -> io::Result<()> {
+        self.broken(style, &[start, text].concat(), start.len(), indent)
+    }
+
+    /// The same of a text that has the start, so many bytes, in itself.
+    pub fn broken(
+        &mut self,
+        style: Style,
+        text: &str,
+        start: usize,
+        indent: usize,
+    ) -> io::Result<()> {
         let width = self.width.unwrap_or(USUAL).min(USUAL);
-        for line in wrapped(start, text, width, indent) {
+        let room = width.saturating_sub(text[..start].chars().count());
+        let (words, mut rest) = front(&text[start..], room);
+        self.line(style, &text[..start + words.len()])?;
+        let mut line = mem::take(&mut self.below);
+        while let Some(text) = rest {
+            let (words, behind) = front(text, width.saturating_sub(indent));
+            line.clear();
+            line.extend(iter::repeat_n(' ', indent));
+            line.push_str(words);
             self.line(style, &line)?;
+            rest = behind;
         }
+        self.below = line;
         Ok(())
     }
 
@@ -129,7 +157,10 @@ impl<W: Write> Screen<W> {
 
 /// A text in one line, without control characters, which the name of a file may have: full stops stand in their places.
 pub fn printable(text: &str) -> Cow<'_, str> {
-    let is_plain = text.bytes().all(|byte| matches!(byte, b' '..=b'~'));
+    // all bytes are looked at, several at a time
+    let is_plain = text
+        .bytes()
+        .fold(true, |plain, byte| plain & matches!(byte, b' '..=b'~'));
     if !is_plain && text.contains(char::is_control) {
         Cow::Owned(text.replace(char::is_control, "."))
     } else {

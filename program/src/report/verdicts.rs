@@ -1,9 +1,11 @@
 //! What was found in a batch: how often each code, and each record with an error or a warning.
 
 use std::borrow::Cow;
+use std::cell::RefCell;
 
 use fantanolive::{code_text, codes, has_code, ERRORS, RECORD, WARNINGS};
 
+use crate::records::address_faults::{AddressFaults, ADDRESS};
 use crate::records::code_fields::{fields_of, is_blank, name_of};
 use crate::records::columns::{detail, reject, Field};
 use crate::records::field::Form;
@@ -22,6 +24,8 @@ pub struct Verdicts<'a> {
     /// How fields of the batch and of the reject file are written.
     pub of_details: Form,
     pub of_rejects: Form,
+    /// What the library said of addresses.
+    pub address: RefCell<AddressFaults>,
 }
 
 /// A detail with a code: its number from 0, its verdict and its reject record.
@@ -30,14 +34,6 @@ pub struct Coded<'a> {
     pub verdict: u64,
     pub detail: &'a [u8],
     pub reject: &'a [u8],
-}
-
-/// A field that a code is about, with its value.
-pub struct Sent {
-    pub name: Cow<'static, str>,
-    pub columns: String,
-    /// Empty where the field is blank.
-    pub value: String,
 }
 
 impl Verdicts<'_> {
@@ -104,60 +100,53 @@ impl Verdicts<'_> {
         list.into_iter().map(shown).collect()
     }
 
-    /// The fields that a code is about, as they were sent.
-    pub fn sent(&self, code: u32, coded: &Coded) -> Vec<Sent> {
-        let sent = |field: Field| Sent {
-            name: name_of(&field),
-            columns: field.columns(),
-            value: match is_blank(&field, coded.detail) {
-                true => String::new(),
-                false => self.of_details.field(&field, coded.detail),
-            },
-        };
-        let fields = fields_of(code, coded.detail);
-        fields.into_iter().map(sent).collect()
-    }
-
-    /// What is known of a code beside the fields: the stored name, or what is wrong with the SSN.
-    pub fn beside(&self, code: u32, coded: &Coded) -> Option<String> {
-        match code {
-            NAME_DIFFERS => {
-                let stored = self.of_rejects.field(&reject::STORED_NAME, coded.reject);
-                Some(format!("stored '{stored}'"))
-            }
-            WRONG_SSN => coded.ssn_fault(),
-            _ => None,
+    /// The fields that a code is about.
+    pub fn fields_of(&self, code: u32, coded: &Coded) -> Cow<'static, [Field]> {
+        if code != ADDRESS {
+            return Cow::Borrowed(fields_of(code));
         }
+        let mut address = self.address.borrow_mut();
+        Cow::Owned(address.wrong_fields(coded.detail))
     }
 
-    /// Writes `Obligor Last Name 'SMYTH', stored 'SMIT'`.
+    /// Writes `Obligor Last Name 'SMYTH', stored 'SMIT'`: the fields that a code is about as they were sent, and what is known
+    /// beside them, the stored name or what is wrong with the SSN.
     pub fn put_sent_words(&self, code: u32, coded: &Coded, out: &mut String) {
-        let start = out.len();
-        for field in fields_of(code, coded.detail) {
-            if out.len() > start {
-                out.push_str(", ");
-            }
-            out.push_str(&name_of(&field));
-            if is_blank(&field, coded.detail) {
-                out.push_str(" blank");
-                continue;
-            }
-            out.push_str(" '");
-            self.of_details.put(&field, coded.detail, out);
+        let mut between = "";
+        for field in self.fields_of(code, coded).iter() {
+            out.push_str(between);
+            out.push_str(&name_of(field));
+            self.put_value(field, coded.detail, out);
+            between = ", ";
+        }
+        if code == NAME_DIFFERS {
+            out.push_str(between);
+            out.push_str("stored '");
+            self.of_rejects.put(&reject::STORED_NAME, coded.reject, out);
             out.push('\'');
         }
-        if let Some(beside) = self.beside(code, coded) {
-            out.push_str(if out.len() > start { ", " } else { "" });
-            out.push_str(&beside);
+        let fault = (code == WRONG_SSN).then(|| coded.ssn_fault()).flatten();
+        if let Some(fault) = fault {
+            out.push_str(between);
+            out.push_str(&fault);
         }
     }
 
-    /// The key of a detail.
-    pub fn key(&self, coded: &Coded) -> String {
-        let mut text = String::new();
-        let key = [detail::STATE, detail::SSN, detail::CASE_TYPE];
-        self.of_details.put_key(&key, coded.detail, &mut text);
-        text
+    /// Writes ` 'SMYTH'` or ` blank`.
+    fn put_value(&self, field: &Field, detail: &[u8], out: &mut String) {
+        if is_blank(field, detail) {
+            out.push_str(" blank");
+            return;
+        }
+        out.push_str(" '");
+        self.of_details.put(field, detail, out);
+        out.push('\'');
+    }
+
+    /// Writes the key of a detail.
+    pub fn put_key(&self, coded: &Coded, out: &mut String) {
+        let key = &[detail::STATE, detail::SSN, detail::CASE_TYPE];
+        self.of_details.put_key(key, coded.detail, out);
     }
 }
 

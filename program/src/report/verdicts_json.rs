@@ -4,6 +4,7 @@ use std::io::{self, Write};
 
 use fantanolive::{code_text, codes, ERRORS, WARNINGS};
 
+use crate::records::code_fields::{is_blank, name_of};
 use crate::records::columns::{detail, reject, Field};
 use crate::report::json::Json;
 use crate::report::listing::Listing;
@@ -45,8 +46,9 @@ pub fn put_json<W: Write>(
     json.name("records")?;
     json.begin_array()?;
     let coded = verdicts.coded(ERRORS | WARNINGS);
+    let mut text = String::new();
     for coded in coded.take(listing.most_in_files) {
-        put_record(verdicts, json, &coded)?;
+        put_record(verdicts, json, &coded, &mut text)?;
     }
     json.end_array()
 }
@@ -64,14 +66,18 @@ fn put_offices<W: Write>(verdicts: &Verdicts, json: &mut Json<W>) -> io::Result<
     json.end_array()
 }
 
-fn put_record<W: Write>(verdicts: &Verdicts, json: &mut Json<W>, coded: &Coded) -> io::Result<()> {
+fn put_record<W: Write>(
+    verdicts: &Verdicts,
+    json: &mut Json<W>,
+    coded: &Coded,
+    text: &mut String,
+) -> io::Result<()> {
     json.begin_object()?;
     json.number_of("record", coded.number as u64 + 1)?;
-    let mut text = String::new();
     for (name, field) in &FIELDS {
         text.clear();
-        verdicts.of_details.put(field, coded.detail, &mut text);
-        json.text_of(name, &text)?;
+        verdicts.of_details.put(field, coded.detail, text);
+        json.text_of(name, text)?;
     }
     for (name, set) in [("errors", ERRORS), ("warnings", WARNINGS)] {
         json.name(name)?;
@@ -82,29 +88,41 @@ fn put_record<W: Write>(verdicts: &Verdicts, json: &mut Json<W>, coded: &Coded) 
         json.end_array()?;
     }
     if coded.has(NAME_DIFFERS) {
-        let stored = verdicts
-            .of_rejects
-            .field(&reject::STORED_NAME, coded.reject);
-        json.text_of("stored_name", &stored)?;
+        text.clear();
+        let form = &verdicts.of_rejects;
+        form.put(&reject::STORED_NAME, coded.reject, text);
+        json.text_of("stored_name", text)?;
     }
-    if let (true, Some(fault)) = (coded.has(WRONG_SSN), coded.ssn_fault()) {
+    let fault = coded.has(WRONG_SSN).then(|| coded.ssn_fault()).flatten();
+    if let Some(fault) = fault {
         json.text_of("ssn_fault", &fault)?;
     }
-    put_sent(verdicts, json, coded)?;
+    put_sent(verdicts, json, coded, text)?;
     json.end_object()
 }
 
-/// The fields that the codes are about.
-fn put_sent<W: Write>(verdicts: &Verdicts, json: &mut Json<W>, coded: &Coded) -> io::Result<()> {
+/// The fields that the codes are about. The text is written over.
+fn put_sent<W: Write>(
+    verdicts: &Verdicts,
+    json: &mut Json<W>,
+    coded: &Coded,
+    text: &mut String,
+) -> io::Result<()> {
     json.name("sent")?;
     json.begin_array()?;
     for code in codes(coded.verdict) {
-        for sent in verdicts.sent(code, coded) {
+        for field in verdicts.fields_of(code, coded).iter() {
             json.begin_object()?;
             json.number_of("code", u64::from(code))?;
-            json.text_of("field", &sent.name)?;
-            json.text_of("columns", &sent.columns)?;
-            json.text_of("value", &sent.value)?;
+            json.text_of("field", &name_of(field))?;
+            text.clear();
+            field.put_columns(text);
+            json.text_of("columns", text)?;
+            text.clear();
+            if !is_blank(field, coded.detail) {
+                verdicts.of_details.put(field, coded.detail, text);
+            }
+            json.text_of("value", text)?;
             json.end_object()?;
         }
     }

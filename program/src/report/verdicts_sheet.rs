@@ -33,7 +33,8 @@ impl VerdictsSheet<'_> {
     fn put_record(&self, coded: &Coded, put: &mut Put) -> io::Result<()> {
         let form = &self.verdicts.of_details;
         let number = (coded.number + 1).to_string();
-        let key = self.verdicts.key(coded);
+        let mut key = String::new();
+        self.verdicts.put_key(coded, &mut key);
         let fields = [
             detail::TRANSACTION_TYPE,
             detail::LAST_NAME,

@@ -5,6 +5,8 @@ use std::io::{self, Write};
 use fantanolive::{code_text, codes, ERRORS, WARNINGS};
 
 use crate::failure::{counted, grouped};
+use crate::number::put_number;
+use crate::records::code_fields::is_blank;
 use crate::records::columns::detail;
 use crate::report::listing::Listing;
 use crate::report::screen::{Screen, Style};
@@ -22,13 +24,21 @@ pub fn put_text<W: Write>(
     if listing.by_office {
         put_offices(verdicts, screen)?;
     }
-    let to_fix = ("record to fix", "records to fix");
-    put_list(verdicts, screen, listing, to_fix, ERRORS, Style::Error)?;
-    let warned = (
-        "record accepted with a warning",
-        "records accepted with a warning",
-    );
-    put_list(verdicts, screen, listing, warned, WARNINGS, Style::Warning)
+    let to_fix = List {
+        heading: ("record to fix", "records to fix"),
+        set: ERRORS,
+        style: Style::Error,
+    };
+    put_list(verdicts, screen, listing, &to_fix)?;
+    let warned = List {
+        heading: (
+            "record accepted with a warning",
+            "records accepted with a warning",
+        ),
+        set: WARNINGS,
+        style: Style::Warning,
+    };
+    put_list(verdicts, screen, listing, &warned)
 }
 
 /// The codes, the most frequent first; what to do with the first of them.
@@ -68,66 +78,92 @@ fn put_offices<W: Write>(verdicts: &Verdicts, screen: &mut Screen<W>) -> io::Res
     Ok(())
 }
 
-/// The first records with a code of a set; nothing where there are none.
+/// The records with a code of a set, with the heading for one and for several.
+struct List {
+    heading: (&'static str, &'static str),
+    set: u64,
+    style: Style,
+}
+
+/// The first records of a list; nothing where there are none.
 fn put_list<W: Write>(
     verdicts: &Verdicts,
     screen: &mut Screen<W>,
     listing: &Listing,
-    heading: (&str, &str),
-    set: u64,
-    style: Style,
+    list: &List,
 ) -> io::Result<()> {
-    let count = verdicts.count(set);
+    let count = verdicts.count(list.set);
     if count == 0 {
         return Ok(());
     }
-    listing.put_heading(screen, count, heading)?;
+    listing.put_heading(screen, count, list.heading)?;
+    let mut lines = Lines::new(verdicts, list.style);
     if listing.by_office {
-        for coded in verdicts.coded_by_office(set).iter().take(listing.most) {
-            put_record(verdicts, screen, coded, style)?;
-        }
+        let coded = verdicts.coded_by_office(list.set);
+        let mut first = coded.iter().take(listing.most);
+        first.try_for_each(|coded| lines.put(coded, screen))?;
     } else {
-        for coded in verdicts.coded(set).take(listing.most) {
-            put_record(verdicts, screen, &coded, style)?;
-        }
+        let mut first = verdicts.coded(list.set).take(listing.most);
+        first.try_for_each(|coded| lines.put(&coded, screen))?;
     }
     listing.put_rest(screen, count)
 }
 
-/// `record 2  OH*****6789N  type M  SMYTH, JOHN  case ID A1  office 003`, and below it a line per code.
-fn put_record<W: Write>(
-    verdicts: &Verdicts,
-    screen: &mut Screen<W>,
-    coded: &Coded,
+/// The lines of records.
+struct Lines<'a> {
+    verdicts: &'a Verdicts<'a>,
     style: Style,
-) -> io::Result<()> {
-    let form = &verdicts.of_details;
-    let mut text = format!(
-        "record {}  {}  type ",
-        coded.number + 1,
-        verdicts.key(coded)
-    );
-    form.put(&detail::TRANSACTION_TYPE, coded.detail, &mut text);
-    text.push_str("  ");
-    form.put_name(
-        &detail::LAST_NAME,
-        &detail::FIRST_NAME,
-        coded.detail,
-        &mut text,
-    );
-    for (name, field) in [("case ID", detail::CASE_ID), ("office", detail::LOCAL_CODE)] {
-        let value = form.field(&field, coded.detail);
-        if !value.is_empty() {
-            text.push_str(&format!("  {name} {value}"));
+    /// How the line of each code begins: its number and what is wrong.
+    starts: Vec<String>,
+    text: String,
+}
+
+/// How many characters of such a start stay in the first line.
+const NUMBER: usize = 7;
+
+impl<'a> Lines<'a> {
+    fn new(verdicts: &'a Verdicts, style: Style) -> Lines<'a> {
+        let start = |code| format!("    {code:02} {}: ", wrong_of(code));
+        Lines {
+            verdicts,
+            style,
+            starts: (0..64).map(start).collect(),
+            text: String::new(),
         }
     }
-    screen.line(style, &text)?;
-    for code in codes(coded.verdict) {
+
+    /// `record 2  OH*****6789N  type M  SMYTH, JOHN  case ID A1  office 003`, and below it a line per code.
+    fn put<W: Write>(&mut self, coded: &Coded, screen: &mut Screen<W>) -> io::Result<()> {
+        let text = &mut self.text;
         text.clear();
-        text.push_str(wrong_of(code));
-        text.push_str(": ");
-        verdicts.put_sent_words(code, coded, &mut text);
-        screen.wrapped(Style::Plain, &format!("    {code:02} "), &text, 7)?;
+        put_record(self.verdicts, coded, text);
+        screen.line(self.style, text)?;
+        for code in codes(coded.verdict) {
+            text.clear();
+            text.push_str(&self.starts[code as usize]);
+            self.verdicts.put_sent_words(code, coded, text);
+            screen.broken(Style::Plain, text, NUMBER, NUMBER)?;
+        }
+        Ok(())
     }
-    Ok(())
+}
+
+fn put_record(verdicts: &Verdicts, coded: &Coded, text: &mut String) {
+    let (form, record) = (&verdicts.of_details, coded.detail);
+    text.push_str("record ");
+    put_number(coded.number + 1, text);
+    text.push_str("  ");
+    verdicts.put_key(coded, text);
+    text.push_str("  type ");
+    form.put(&detail::TRANSACTION_TYPE, record, text);
+    text.push_str("  ");
+    form.put_name(&detail::LAST_NAME, &detail::FIRST_NAME, record, text);
+    let case_id = ("  case ID ", &detail::CASE_ID);
+    let office = ("  office ", &detail::LOCAL_CODE);
+    for (name, field) in [case_id, office] {
+        if !is_blank(field, record) {
+            text.push_str(name);
+            form.put(field, record, text);
+        }
+    }
 }
