@@ -65,52 +65,40 @@ fn commands_by_name() {
 }
 
 #[test]
-fn arguments_of_a_command() {
+fn arguments_of_apply() {
     let of_apply = "See `fantanolive apply --help`.";
-    wrong(&["apply"], "MASTER is missing", of_apply);
-    wrong(&["apply", "m"], "BATCH is missing", of_apply);
-    wrong(&["apply", "m", "b"], "--locals FILE is missing", of_apply);
-    wrong(
-        &["apply", "m", "b", "c"],
-        "'c' is one argument too many",
-        of_apply,
-    );
-    wrong(&APPLY[..7], "--rejects FILE is missing", of_apply);
-    wrong(
-        &with(&APPLY, &["--year", "2008"]),
-        "--year is given twice",
-        of_apply,
-    );
-    wrong(
-        &with(&APPLY, &["--lokals", "x"]),
-        "did you mean '--locals'?",
-        of_apply,
-    );
-    wrong(
-        &with(&APPLY, &["--json=1"]),
-        "--json takes no value",
-        of_apply,
-    );
-    wrong(
-        &["apply", "m", "b", "--year"],
-        "--year wants a value: --year YYYY",
-        of_apply,
-    );
-    wrong(
-        &["find", "m", "k", "-x"],
-        "unknown option '-x'",
-        "See `fantanolive find --help`.",
-    );
-    let of_find = "See `fantanolive find --help`.";
-    wrong(&["find"], "MASTER is missing", of_find);
-    wrong(&["find", "m"], "KEY is missing, or --keys FILE", of_find);
-    let both = ["find", "m", "k", "--keys", "f"];
-    wrong(&both, "give one alone", of_find);
-    for several in [&["find", "m", "k", "-"], &["find", "m", "-", "k"]] {
-        wrong(several, "- is standard input", of_find);
+    for (arguments, message) in [
+        ("apply", "MASTER is missing"),
+        ("apply m", "BATCH is missing"),
+        ("apply m b", "--locals FILE is missing"),
+        ("apply m b c", "'c' is one argument too many"),
+        ("apply m b --year", "--year wants a value: --year YYYY"),
+    ] {
+        wrong(&words(arguments), message, of_apply);
     }
-    let dashes = ["find", "m", "-", "--keys", "-"];
-    wrong(&dashes, "- is standard input", of_find);
+    wrong(&APPLY[..7], "--rejects FILE is missing", of_apply);
+    for (more, message) in [
+        ("--year 2008", "--year is given twice"),
+        ("--lokals x", "did you mean '--locals'?"),
+        ("--json=1", "--json takes no value"),
+    ] {
+        wrong(&with(&APPLY, &words(more)), message, of_apply);
+    }
+}
+
+#[test]
+fn arguments_of_find() {
+    for (arguments, message) in [
+        ("find m k -x", "unknown option '-x'"),
+        ("find", "MASTER is missing"),
+        ("find m", "KEY is missing, or --keys FILE"),
+        ("find m k --keys f", "give one alone"),
+        ("find m k -", "- is standard input"),
+        ("find m - k", "- is standard input"),
+        ("find m - --keys -", "- is standard input"),
+    ] {
+        wrong(&words(arguments), message, "See `fantanolive find --help`.");
+    }
 }
 
 #[test]
@@ -124,45 +112,44 @@ fn years() {
 
 #[test]
 fn kinds_and_numbers_to_explain() {
-    let show = |more| with(&["show", "batch", "batch.bin"], more);
-    wrong(
-        &show(&["--from", "0"]),
-        "--from counts from 1",
-        "show --help",
-    );
-    wrong(
-        &show(&["--count", "x"]),
-        "--count wants a number",
-        "show --help",
-    );
-    wrong(
-        &["show", "batches", "batch.bin"],
-        "did you mean 'batch'?",
-        "show --help",
-    );
-    wrong(
-        &["show", "xyzzy", "x"],
-        "'xyzzy' is no kind of file: master",
-        "show --help",
-    );
-    wrong(
-        &["show", "master", "master.bin", "--ascii"],
-        "always in EBCDIC",
-        "show --help",
-    );
+    for (arguments, message, help) in [
+        (
+            "show batch batch.bin --from 0",
+            "--from counts from 1",
+            "show --help",
+        ),
+        (
+            "show batch batch.bin --count x",
+            "--count wants a number",
+            "show --help",
+        ),
+        (
+            "show batches batch.bin",
+            "did you mean 'batch'?",
+            "show --help",
+        ),
+        (
+            "show xyzzy x",
+            "'xyzzy' is no kind of file: master",
+            "show --help",
+        ),
+        (
+            "show master master.bin --ascii",
+            "always in EBCDIC",
+            "show --help",
+        ),
+        ("explain 24 --code", "no such number: 24", "explain --help"),
+        (
+            "explain 51 --refusal",
+            "no such number: 51; refusals are 1 to ",
+            "explain --help",
+        ),
+    ] {
+        wrong(&words(arguments), message, help);
+    }
     for number in ["0", "99", "50", "53", "4294967296", "x", ""] {
         wrong(&["explain", number], "", "explain --help");
     }
-    wrong(
-        &["explain", "24", "--code"],
-        "no such number: 24",
-        "explain --help",
-    );
-    wrong(
-        &["explain", "51", "--refusal"],
-        "no such number: 51; refusals are 1 to ",
-        "explain --help",
-    );
 }
 
 #[test]

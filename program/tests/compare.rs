@@ -134,10 +134,8 @@ fn one_record_by_hand() {
     );
 }
 
-/// The records applied to the other side's master leave nothing to compare.
-#[test]
-fn records_lead_there() {
-    let folder = Folder::new("compare-lead");
+/// Six rows of the other side, and the same with five changed.
+fn theirs_and_ours() -> (Vec<u8>, Vec<u8>) {
     let mut rows: Vec<Vec<u8>> = (1..=6)
         .map(|n| row(&format!("OH90000000{n}N"), "00000100", "00"))
         .collect();
@@ -150,23 +148,21 @@ fn records_lead_there() {
     // deleted here
     rows[4][65..73].copy_from_slice(&ebcdic("00000000"));
     rows[4][195] = 0xC4;
-    folder.write("ours.bin", &rows.concat());
+    (theirs, rows.concat())
+}
+
+/// The records applied to the other side's master leave nothing to compare.
+#[test]
+fn records_lead_there() {
+    let folder = Folder::new("compare-lead");
+    let (theirs, ours) = theirs_and_ours();
+    folder.write("ours.bin", &ours);
     folder.write("theirs.bin", &theirs);
     folder.write("locals.bin", &ebcdic("003"));
-    let reconcile = |file: &'static str| {
-        let date = ["--date", "20071231", "--out", "received.bin", "--force"];
-        folder.run(&with(&["reconcile", file, "--state", "OH"], &date))
-    };
-    assert_eq!(reconcile("theirs.bin").status, 0);
-    let compare = [
-        "compare",
-        "ours.bin",
-        "received.bin",
-        "--state",
-        "OH",
-        "--locals",
-        "locals.bin",
-    ];
+    let reconcile =
+        words("reconcile theirs.bin --state OH --date 20071231 --out received.bin --force");
+    assert_eq!(folder.run(&reconcile).status, 0);
+    let compare = words("compare ours.bin received.bin --state OH --locals locals.bin");
     let ran = folder.run(&with(&compare, &["--records", "records.bin"]));
     assert_eq!(ran.status, 1, "{ran:?}");
     assert!(
@@ -174,17 +170,10 @@ fn records_lead_there() {
         "{}",
         ran.out
     );
-    let lists = [
-        "--locals",
-        "locals.bin",
-        "--year",
-        "2007",
-        "--rejects",
-        "rejects.bin",
-    ];
+    let lists = words("--locals locals.bin --year 2007 --rejects rejects.bin");
     let ran = folder.run(&with(&["apply", "theirs.bin", "records.bin"], &lists));
     assert_eq!(ran.status, 0, "{ran:?}");
-    assert_eq!(reconcile("theirs.bin").status, 0);
+    assert_eq!(folder.run(&reconcile).status, 0);
     let ran = folder.run(&compare);
     assert!(
         ran.out.starts_with("compare: every case is the same\n"),
@@ -193,11 +182,9 @@ fn records_lead_there() {
     );
     // a code that isn't listed can't be sent
     folder.write("theirs.bin", &theirs);
-    assert_eq!(reconcile("theirs.bin").status, 0);
-    let ran = folder.run(&with(
-        &compare[..5],
-        &["--records", "records.bin", "--force"],
-    ));
+    assert_eq!(folder.run(&reconcile).status, 0);
+    let records = ["--records", "records.bin", "--force"];
+    let ran = folder.run(&with(&compare[..5], &records));
     assert!(
         ran.out.contains("  records                4\n"),
         "{}",

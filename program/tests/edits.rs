@@ -199,46 +199,49 @@ fn values_that_no_record_leads_to() {
     assert!(ran.err.contains("refused 2: ") && ran.err.contains("locals.bin: code 2 of 2"));
 }
 
+/// Command lines that are not carried out: what is behind the usual one, the status and a part of the message.
+const WRONG: [(&[&str], i32, &str); 10] = [
+    (&[], 3, "nothing is wanted: give one of --case-id"),
+    (
+        &["--case-id", "1234567890123456"],
+        3,
+        "at most 15 characters",
+    ),
+    (
+        &["--case-id", "k2"],
+        2,
+        "byte 0 is hexadecimal 6B, a lower case letter",
+    ),
+    (&["--local-code", "7"], 3, "--local-code wants three digits"),
+    (
+        &["--local-code", "0007"],
+        3,
+        "--local-code wants three digits",
+    ),
+    (
+        &["--amount", "100000000"],
+        3,
+        "--amount is at most 99999999",
+    ),
+    (&["--amount", "12.50"], 3, "--amount wants a number"),
+    (&["--amount", "-1"], 3, "--amount wants a number"),
+    (
+        &["--exclusions", "XYZ"],
+        3,
+        "--exclusions: exclusion word unknown; use ADM",
+    ),
+    (
+        &["--exclusions", "ADM,RET,VEN,SAL,TAX,PAS,FIN,DCK,ADM,RET,V"],
+        3,
+        "at most 40",
+    ),
+];
+
 #[test]
 fn command_lines() {
     let folder = folder("edits-arguments");
     let before = folder.names();
-    for (more, status, message) in [
-        (&[][..], 3, "nothing is wanted: give one of --case-id"),
-        (
-            &["--case-id", "1234567890123456"],
-            3,
-            "at most 15 characters",
-        ),
-        (
-            &["--case-id", "k2"],
-            2,
-            "byte 0 is hexadecimal 6B, a lower case letter",
-        ),
-        (&["--local-code", "7"], 3, "--local-code wants three digits"),
-        (
-            &["--local-code", "0007"],
-            3,
-            "--local-code wants three digits",
-        ),
-        (
-            &["--amount", "100000000"],
-            3,
-            "--amount is at most 99999999",
-        ),
-        (&["--amount", "12.50"], 3, "--amount wants a number"),
-        (&["--amount", "-1"], 3, "--amount wants a number"),
-        (
-            &["--exclusions", "XYZ"],
-            3,
-            "--exclusions: exclusion word unknown; use ADM",
-        ),
-        (
-            &["--exclusions", "ADM,RET,VEN,SAL,TAX,PAS,FIN,DCK,ADM,RET,V"],
-            3,
-            "at most 40",
-        ),
-    ] {
+    for (more, status, message) in WRONG {
         let ran = folder.run(&with(&EDIT, more));
         assert_eq!(ran.status, status, "{more:?}: {ran:?}");
         assert!(ran.err.contains(message), "{more:?}: {}", ran.err);
@@ -328,7 +331,12 @@ fn rows_that_are_refused() {
             assert!(told.contains(&format!("{name}: {note}")), "{told}");
         }
     }
-    folder.write("row.bin", &row);
+}
+
+#[test]
+fn rows_to_which_no_record_leads() {
+    let folder = with_rows("edits-no-record");
+    let row = paper_row();
     for (column, text, field) in [
         (31, "JONES", "Obligor Last Name (31-50)"),
         (12, "A", "Case Type Indicator (12)"),

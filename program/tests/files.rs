@@ -241,12 +241,13 @@ fn one_file_is_not_two() {
     }
     let same = folder.run(&["to-ascii", "batch.bin", "--out", "link"]);
     assert_eq!(same.status, 3);
-    let new = ["apply", "new.bin", "batch.bin", "--locals", "locals.bin"];
-    let ran = folder.run(&with(
-        &new,
-        &["--year", "2007", "--rejects", "new.bin", "--new"],
-    ));
-    assert_eq!(ran.status, 3);
+}
+
+#[test]
+fn a_new_file_is_not_two() {
+    let folder = folder("files-new-same");
+    let apply = "apply new.bin batch.bin --locals locals.bin --year 2007 --rejects new.bin --new";
+    assert_eq!(folder.run(&words(apply)).status, 3);
     assert!(!folder.has("new.bin"));
 }
 

@@ -210,7 +210,7 @@ fn a_master_that_was_changed_since() {
 }
 
 #[test]
-fn damaged_journals_and_other_masters() {
+fn damaged_journals() {
     let folder = applied("journal-damaged");
     let journal = second_journal();
     let damaged = [
@@ -239,7 +239,12 @@ fn damaged_journals_and_other_masters() {
     changed[4 + 72] = 0xF9;
     folder.write("journal.bin", &changed);
     unchanged(&folder, &BACK, 3, "did not write this journal; --anyway");
-    folder.write("journal.bin", &journal);
+}
+
+#[test]
+fn other_masters() {
+    let folder = applied("journal-others");
+    folder.write("journal.bin", &second_journal());
     folder.write("other.bin", &paper_row());
     let other = ["take-back", "other.bin", "journal.bin"];
     unchanged(&folder, &other, 2, "other.bin: 1 row");

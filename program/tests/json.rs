@@ -75,99 +75,107 @@ fn folder(name: &str) -> Folder {
     folder
 }
 
+/// Commands one behind the other, each with its status and outcome.
+const COMMANDS: [(&str, i32, &str); 45] = [
+    (
+        "apply master.bin batch.bin --locals locals.bin --year 2007 --rejects rejects.bin",
+        1,
+        "carried out",
+    ),
+    (
+        "check master.bin batch.bin --locals locals.bin --year 2007",
+        1,
+        "would be carried out",
+    ),
+    (
+        "apply master.bin batch.bin --locals locals.bin --year 2007 --rejects rejects.bin --new",
+        3,
+        "failed",
+    ),
+    ("find master.bin OH123456789N", 0, "carried out"),
+    ("find master.bin OH123456789A", 6, "not found"),
+    ("find none OH123456789A", 3, "failed"),
+    ("show master a\"b\\c.bin", 0, "carried out"),
+    ("find a\"b\\c.bin OH1", 2, "refused"),
+    ("show master a\"b\\c", 3, "failed"),
+    (
+        "reconcile master.bin --state OH --date 20071231 --out out.bin --force",
+        0,
+        "carried out",
+    ),
+    (
+        "reconcile master.bin --state OH --date 20071331 --out out.bin --force",
+        2,
+        "refused",
+    ),
+    (
+        "post two.bin weekly.bin --dry-run",
+        1,
+        "would be carried out",
+    ),
+    ("post two.bin weekly.bin", 1, "carried out"),
+    ("post two.bin weekly.bin", 3, "failed"),
+    ("log two.bin", 0, "carried out"),
+    ("log master.bin", 0, "carried out"),
+    ("log none", 3, "failed"),
+    ("post two.bin batch.bin", 2, "refused"),
+    ("add-cents old.bin", 0, "carried out"),
+    ("add-cents old.bin", 2, "refused"),
+    ("contacts table.bin contacts.bin", 1, "carried out"),
+    ("contacts table.bin batch.bin", 2, "refused"),
+    (
+        "codes table.bin --state OH --out out.bin --force",
+        0,
+        "carried out",
+    ),
+    (
+        "codes table.bin --state ZZ --out out.bin --force",
+        2,
+        "refused",
+    ),
+    ("to-ascii batch.bin --out out.bin --force", 0, "carried out"),
+    ("to-ascii master.bin --out out.bin --force", 2, "refused"),
+    ("to-ebcdic none --out out.bin --force", 3, "failed"),
+    ("show batch batch.bin", 0, "carried out"),
+    ("show collections weekly.bin", 0, "carried out"),
+    ("explain 1", 0, "carried out"),
+    ("explain 52", 0, "carried out"),
+    ("explain 99", 3, "failed"),
+    ("apply master.bin", 3, "failed"),
+    ("find master.bin a b", 2, "carried out"),
+    ("find master.bin --keys keys.txt", 6, "carried out"),
+    ("find batch.bin --keys keys.txt", 2, "refused"),
+    ("find master.bin --keys none", 3, "failed"),
+    ("find master.bin", 3, "failed"),
+    ("pages master.bin --out out.bin --force", 0, "carried out"),
+    ("pages batch.bin --out out.bin --force", 2, "refused"),
+    ("pages none --out out.bin --force", 3, "failed"),
+    (
+        "take-back left.bin journal.bin --dry-run",
+        0,
+        "would be carried out",
+    ),
+    ("take-back left.bin journal.bin", 0, "carried out"),
+    ("take-back left.bin journal.bin", 2, "refused"),
+    ("take-back left.bin none", 3, "failed"),
+];
+
 #[test]
 fn every_command() {
     let folder = folder("json-commands");
-    let reconcile = ["reconcile", "master.bin", "--state", "OH", "--date"];
-    let out = ["--out", "out.bin", "--force"];
-    let codes = ["codes", "table.bin", "--state"];
-    for (arguments, status, outcome) in [
-        (APPLY.to_vec(), 1, "carried out"),
-        (CHECK.to_vec(), 1, "would be carried out"),
-        (with(&APPLY, &["--new"]), 3, "failed"),
-        (vec!["find", "master.bin", "OH123456789N"], 0, "carried out"),
-        (vec!["find", "master.bin", "OH123456789A"], 6, "not found"),
-        (vec!["find", "none", "OH123456789A"], 3, "failed"),
-        (vec!["show", "master", "a\"b\\c.bin"], 0, "carried out"),
-        (vec!["find", "a\"b\\c.bin", "OH1"], 2, "refused"),
-        (vec!["show", "master", "a\"b\\c"], 3, "failed"),
-        (
-            with(&reconcile, &with(&["20071231"], &out)),
-            0,
-            "carried out",
-        ),
-        (with(&reconcile, &with(&["20071331"], &out)), 2, "refused"),
-        (
-            vec!["post", "two.bin", "weekly.bin", "--dry-run"],
-            1,
-            "would be carried out",
-        ),
-        (vec!["post", "two.bin", "weekly.bin"], 1, "carried out"),
-        (vec!["post", "two.bin", "weekly.bin"], 3, "failed"),
-        (vec!["log", "two.bin"], 0, "carried out"),
-        (vec!["log", "master.bin"], 0, "carried out"),
-        (vec!["log", "none"], 3, "failed"),
-        (vec!["post", "two.bin", "batch.bin"], 2, "refused"),
-        (vec!["add-cents", "old.bin"], 0, "carried out"),
-        (vec!["add-cents", "old.bin"], 2, "refused"),
-        (
-            vec!["contacts", "table.bin", "contacts.bin"],
-            1,
-            "carried out",
-        ),
-        (vec!["contacts", "table.bin", "batch.bin"], 2, "refused"),
-        (with(&codes, &with(&["OH"], &out)), 0, "carried out"),
-        (with(&codes, &with(&["ZZ"], &out)), 2, "refused"),
-        (with(&["to-ascii", "batch.bin"], &out), 0, "carried out"),
-        (with(&["to-ascii", "master.bin"], &out), 2, "refused"),
-        (with(&["to-ebcdic", "none"], &out), 3, "failed"),
-        (vec!["show", "batch", "batch.bin"], 0, "carried out"),
-        (vec!["show", "collections", "weekly.bin"], 0, "carried out"),
-        (vec!["explain", "1"], 0, "carried out"),
-        (vec!["explain", "52"], 0, "carried out"),
-        (vec!["explain", "99"], 3, "failed"),
-        (vec!["apply", "master.bin"], 3, "failed"),
-        (vec!["find", "master.bin", "a", "b"], 2, "carried out"),
-        (
-            vec!["find", "master.bin", "--keys", "keys.txt"],
-            6,
-            "carried out",
-        ),
-        (
-            vec!["find", "batch.bin", "--keys", "keys.txt"],
-            2,
-            "refused",
-        ),
-        (vec!["find", "master.bin", "--keys", "none"], 3, "failed"),
-        (vec!["find", "master.bin"], 3, "failed"),
-        (with(&["pages", "master.bin"], &out), 0, "carried out"),
-        (with(&["pages", "batch.bin"], &out), 2, "refused"),
-        (with(&["pages", "none"], &out), 3, "failed"),
-        (
-            vec!["take-back", "left.bin", "journal.bin", "--dry-run"],
-            0,
-            "would be carried out",
-        ),
-        (
-            vec!["take-back", "left.bin", "journal.bin"],
-            0,
-            "carried out",
-        ),
-        (vec!["take-back", "left.bin", "journal.bin"], 2, "refused"),
-        (vec!["take-back", "left.bin", "none"], 3, "failed"),
-    ] {
-        let ran = folder.run(&with(&arguments, &["--json"]));
-        assert_eq!(ran.status, status, "{arguments:?}: {ran:?}");
-        assert_eq!(ran.err, "", "{arguments:?}");
-        assert_eq!(value(&ran.out), "\n", "{arguments:?}: {}", ran.out);
+    for (arguments, status, outcome) in COMMANDS {
+        let command = words(arguments)[0];
+        let ran = folder.run(&with(&words(arguments), &["--json"]));
+        assert_eq!(ran.status, status, "{arguments}: {ran:?}");
+        assert_eq!(ran.err, "", "{arguments}");
+        assert_eq!(value(&ran.out), "\n", "{arguments}: {}", ran.out);
         let is_done = ["carried out", "would be carried out"].contains(&outcome);
-        let schema = if is_done { arguments[0] } else { "problem" };
+        let schema = if is_done { command } else { "problem" };
         let start = format!(
-            "{{\"command\":\"{}\",\"version\":\"{}\",\"schema\":\"{schema}.1\",\"outcome\":\"{outcome}\",\"status\":{status},",
-            arguments[0],
+            "{{\"command\":\"{command}\",\"version\":\"{}\",\"schema\":\"{schema}.1\",\"outcome\":\"{outcome}\",\"status\":{status},",
             fantanolive::VERSION
         );
-        assert!(ran.out.starts_with(&start), "{arguments:?}: {}", ran.out);
+        assert!(ran.out.starts_with(&start), "{arguments}: {}", ran.out);
     }
 }
 
@@ -249,6 +257,48 @@ fn see_documented(json: &str) -> String {
     schema
 }
 
+/// Commands one behind the other that print every schema.
+const EVERY_SCHEMA: [&str; 38] = [
+    "check master.bin batch.bin --locals locals.bin --year 2007",
+    "check master.bin batch.bin --locals locals.bin --year 2007 --by-office",
+    "apply master.bin batch.bin --locals locals.bin --year 2007 --rejects r.bin --journal j.bin",
+    "check master.bin batch.bin --locals locals.bin --year 2007",
+    "post two.bin weekly.bin --dry-run",
+    "post two.bin weekly.bin",
+    "post two.bin weekly.bin --dry-run",
+    "contacts table.bin contacts.bin",
+    "compare left.bin rec.bin --state OH",
+    "compare left.bin rec.bin --state OH --records made.bin",
+    "build details.csv --out built.bin",
+    "build --template --out names.csv",
+    "control batch.bin --out control.bin",
+    "export batch batch.bin --out batch.csv",
+    "export master two.bin --out two.csv",
+    "split batch.bin --at 1 --out part",
+    "merge part001 part002 --out merged.bin --anyway",
+    "take-back left.bin journal.bin --dry-run",
+    "find master.bin OH123456789N",
+    "find master.bin --keys keys.txt",
+    "edit left.bin OH123456789N --amount 7 --out edit.bin",
+    "records first.bin first.bin --out none.bin",
+    "reconcile left.bin --state OH --date 20071231 --out made-rec.bin",
+    "pages left.bin --out pages.bin",
+    "add-cents old.bin",
+    "log two.bin",
+    "log left.bin",
+    "codes table.bin --state OH --out codes.bin",
+    "to-ascii batch.bin --out batch.txt",
+    "to-ebcdic batch.txt --out back.bin",
+    "show collections weekly.bin",
+    "show batch part001",
+    "explain 17",
+    "explain 51",
+    "find master.bin OH123456789A",
+    "find none OH123456789A",
+    "split batch.bin --at 9 --out part",
+    "post two.bin batch.bin",
+];
+
 /// What every command prints has the members of docs/JSON.md, and every table there is met.
 #[test]
 fn schemas_are_documented() {
@@ -260,49 +310,9 @@ fn schemas_are_documented() {
     folder.write("details.csv", b"submitting_state_code\nOH\n");
     folder.write("first.bin", &second_rows()[..200]);
     let mut met = Vec::new();
-    for words in [
-        "check master.bin batch.bin --locals locals.bin --year 2007",
-        "check master.bin batch.bin --locals locals.bin --year 2007 --by-office",
-        "apply master.bin batch.bin --locals locals.bin --year 2007 --rejects r.bin --journal j.bin",
-        "check master.bin batch.bin --locals locals.bin --year 2007",
-        "post two.bin weekly.bin --dry-run",
-        "post two.bin weekly.bin",
-        "post two.bin weekly.bin --dry-run",
-        "contacts table.bin contacts.bin",
-        "compare left.bin rec.bin --state OH",
-        "compare left.bin rec.bin --state OH --records made.bin",
-        "build details.csv --out built.bin",
-        "build --template --out names.csv",
-        "control batch.bin --out control.bin",
-        "export batch batch.bin --out batch.csv",
-        "export master two.bin --out two.csv",
-        "split batch.bin --at 1 --out part",
-        "merge part001 part002 --out merged.bin --anyway",
-        "take-back left.bin journal.bin --dry-run",
-        "find master.bin OH123456789N",
-        "find master.bin --keys keys.txt",
-        "edit left.bin OH123456789N --amount 7 --out edit.bin",
-        "records first.bin first.bin --out none.bin",
-        "reconcile left.bin --state OH --date 20071231 --out made-rec.bin",
-        "pages left.bin --out pages.bin",
-        "add-cents old.bin",
-        "log two.bin",
-        "log left.bin",
-        "codes table.bin --state OH --out codes.bin",
-        "to-ascii batch.bin --out batch.txt",
-        "to-ebcdic batch.txt --out back.bin",
-        "show collections weekly.bin",
-        "show batch part001",
-        "explain 17",
-        "explain 51",
-        "find master.bin OH123456789A",
-        "find none OH123456789A",
-        "split batch.bin --at 9 --out part",
-        "post two.bin batch.bin",
-    ] {
-        let arguments: Vec<&str> = words.split(' ').chain(["--json"]).collect();
-        let ran = folder.run(&arguments);
-        assert_eq!(value(&ran.out), "\n", "{words}: {ran:?}");
+    for arguments in EVERY_SCHEMA {
+        let ran = folder.run(&with(&words(arguments), &["--json"]));
+        assert_eq!(value(&ran.out), "\n", "{arguments}: {ran:?}");
         met.push(see_documented(&ran.out));
     }
     for (heading, _) in &documented()[1..] {

@@ -169,6 +169,15 @@ fn a_wrong_length_is_shown_and_told() {
     );
 }
 
+/// Sees that each of these commands is refused by a number with a note.
+fn refused(folder: &Folder, commands: &[(&str, u32, &str)]) {
+    for (command, refusal, note) in commands {
+        let text = message(folder, &words(command), 2);
+        let refused = format!("refused {refusal}: ");
+        assert!(text.contains(&refused) && text.contains(note), "{text}");
+    }
+}
+
 #[test]
 fn files_beyond_the_limits() {
     let folder = Folder::with_master("lengths-limits");
@@ -176,123 +185,82 @@ fn files_beyond_the_limits() {
     huge.set_len(1 << 40).expect("the disk takes holes");
     let start = Instant::now();
     let bytes = "huge.bin: 1,099,511,627,776 bytes: beyond the ";
-    let mut check = CHECK;
-    check[1] = "huge.bin";
-    let text = message(&folder, &check, 2);
-    assert!(
-        text.contains("refused 3: ") && text.contains(bytes),
-        "{text}"
-    );
-    check = CHECK;
-    check[2] = "huge.bin";
-    let text = message(&folder, &check, 2);
-    assert!(
-        text.contains("refused 5: ") && text.contains(bytes),
-        "{text}"
-    );
-    check = CHECK;
-    check[4] = "huge.bin";
-    let text = message(&folder, &check, 2);
-    assert!(
-        text.contains("refused 2: ") && text.contains(bytes),
-        "{text}"
-    );
-    let text = message(&folder, &["post", "master.bin", "huge.bin"], 2);
-    assert!(
-        text.contains("refused 22: ") && text.contains(bytes),
-        "{text}"
-    );
-    let contacts = ["contacts", "table.bin", "huge.bin", "--new"];
-    let text = message(&folder, &contacts, 2);
-    assert!(
-        text.contains("refused 18: ") && text.contains(bytes),
-        "{text}"
-    );
-    let codes = ["codes", "huge.bin", "--state", "OH", "--out", "out.bin"];
-    let text = message(&folder, &codes, 2);
-    assert!(
-        text.contains("refused 18: ") && text.contains(bytes),
-        "{text}"
-    );
+    let commands = [
+        (
+            "check huge.bin batch.bin --locals locals.bin --year 2007",
+            3,
+            bytes,
+        ),
+        (
+            "check master.bin huge.bin --locals locals.bin --year 2007",
+            5,
+            bytes,
+        ),
+        (
+            "check master.bin batch.bin --locals huge.bin --year 2007",
+            2,
+            bytes,
+        ),
+        ("post master.bin huge.bin", 22, bytes),
+        ("contacts table.bin huge.bin --new", 18, bytes),
+        ("codes huge.bin --state OH --out out.bin", 18, bytes),
+        // a device that never ends
+        (
+            "check master.bin batch.bin --locals /dev/zero --year 2007",
+            2,
+            "",
+        ),
+        ("codes /dev/zero --state OH --out out.bin", 18, ""),
+    ];
+    refused(&folder, &commands);
     let text = message(&folder, &["show", "rejects", "huge.bin"], 3);
     assert!(text.contains(bytes), "{text}");
-    // a device that never ends
-    check = CHECK;
-    check[4] = "/dev/zero";
-    assert!(message(&folder, &check, 2).contains("refused 2: "));
-    let codes = ["codes", "/dev/zero", "--state", "OH", "--out", "out.bin"];
-    assert!(message(&folder, &codes, 2).contains("refused 18: "));
     assert!(start.elapsed() < Duration::from_secs(20));
 }
+
+/// Files with one record more than the library takes: the widths of their records, and how many.
+const ONE_ABOVE: [(&str, u64, u64); 4] = [
+    ("rows", 200, 16_777_216),
+    ("batch", 245, 16_777_217),
+    ("weekly", 240, 16_777_217),
+    ("contacts", 220, 16_777_216),
+];
 
 /// One record more than the library takes: files with holes, which are not read.
 #[test]
 fn one_above_the_limits() {
     let folder = Folder::with_master("lengths-one-above");
-    let most = 16_777_215;
     let start = Instant::now();
-    for (name, width, records) in [
-        ("rows", 200, most + 1),
-        ("batch", 245, most + 2),
-        ("weekly", 240, most + 2),
-        ("contacts", 220, most + 1),
-    ] {
+    for (name, width, records) in ONE_ABOVE {
         let file = File::create(folder.path(name)).expect("it can be made");
         file.set_len(width * records).expect("the disk takes holes");
     }
-    let mut check = CHECK;
-    check[1] = "rows";
-    let text = message(&folder, &check, 2);
-    let bytes = "3,355,443,200 bytes: beyond the 16,777,215 rows of 200 bytes";
-    assert!(
-        text.contains("refused 3: ") && text.contains(bytes),
-        "{text}"
-    );
-    for (arguments, refusal, records) in [
+    let rows = "3,355,443,200 bytes: beyond the 16,777,215 rows of 200 bytes";
+    let records = "16,777,216 records of 245";
+    let commands = [
         (
-            &with(
-                &CHECK[..2],
-                &["batch", "--locals", "locals.bin", "--year", "2007"],
-            )[..],
-            "5",
-            "16,777,216 records of 245",
+            "check rows batch.bin --locals locals.bin --year 2007",
+            3,
+            rows,
         ),
         (
-            &["post", "master.bin", "weekly"],
-            "22",
-            "16,777,216 lines of 240",
+            "check master.bin batch --locals locals.bin --year 2007",
+            5,
+            records,
         ),
+        ("post master.bin weekly", 22, "16,777,216 lines of 240"),
         (
-            &["contacts", "table", "contacts", "--new"],
-            "18",
+            "contacts table contacts --new",
+            18,
             "16,777,215 records of 220",
         ),
-        (
-            &["find", "rows", "OH123456789N"],
-            "3",
-            "16,777,215 rows of 200",
-        ),
-        (
-            &["pages", "rows", "--out", "pages"],
-            "3",
-            "16,777,215 rows of 200",
-        ),
-        (&["add-cents", "rows"], "3", "16,777,215 rows of 200"),
-        (
-            &["split", "batch", "--records", "9", "--out", "part"],
-            "5",
-            "16,777,216 records of 245",
-        ),
-        (
-            &["merge", "batch.bin", "batch", "--out", "merged"],
-            "5",
-            "16,777,216 records of 245",
-        ),
-    ] {
-        let text = message(&folder, arguments, 2);
-        let refused = format!("refused {refusal}: ");
-        assert!(text.contains(&refused) && text.contains(records), "{text}");
-    }
+        ("find rows OH123456789N", 3, "16,777,215 rows of 200"),
+        ("pages rows --out pages", 3, "16,777,215 rows of 200"),
+        ("add-cents rows", 3, "16,777,215 rows of 200"),
+        ("split batch --records 9 --out part", 5, records),
+        ("merge batch.bin batch --out merged", 5, records),
+    ];
+    refused(&folder, &commands);
     assert!(start.elapsed() < Duration::from_secs(20));
 }
 

@@ -49,76 +49,77 @@ fn batches_of_lines() {
     assert!(ran.status == 0 && ran.out.contains("SMYTH"), "{ran:?}");
 }
 
+/// Sees that each of these commands ends with a status and leaves a file.
+fn leave(folder: &Folder, commands: &[(&str, i32, &str, Vec<u8>)]) {
+    for (command, status, file, bytes) in commands {
+        let ran = folder.run(&words(command));
+        assert_eq!(ran.status, *status, "{command}: {ran:?}");
+        assert!(folder.read(file) == *bytes, "{command}");
+    }
+}
+
 #[test]
-fn other_commands() {
-    let folder = Folder::new("lines-others");
+fn other_files() {
+    let folder = Folder::new("lines-files");
     folder.write("two.bin", &two_rows("00"));
     folder.write("weekly.txt", &lines(&weekly(), 240, "\r\n", true));
     folder.write("contacts.txt", &lines(&contact_file(), 220, "\n", true));
+    let codes = b"001\n007\n".to_vec();
+    let commands = [
+        (
+            "post two.bin weekly.txt --lines",
+            1,
+            "two.bin",
+            two_rows_posted(),
+        ),
+        (
+            "contacts table.bin contacts.txt --new --lines",
+            1,
+            "table.bin",
+            contact_table(),
+        ),
+        (
+            "codes table.bin --state OH --out codes.txt --lines",
+            0,
+            "codes.txt",
+            codes,
+        ),
+    ];
+    leave(&folder, &commands);
+    let show = folder.run(&["show", "master", "two.bin", "--lines"]);
+    assert_eq!(show.status, 3);
+}
+
+#[test]
+fn other_commands_over_batches() {
+    let folder = Folder::new("lines-batches");
     folder.write("batch.txt", &lines(&paper_batch(), 245, "\n", true));
-    assert_eq!(
-        folder
-            .run(&["post", "two.bin", "weekly.txt", "--lines"])
-            .status,
-        1
-    );
-    assert_eq!(folder.read("two.bin"), two_rows_posted());
-    let contacts = ["contacts", "table.bin", "contacts.txt", "--new", "--lines"];
-    assert_eq!(folder.run(&contacts).status, 1);
-    assert_eq!(folder.read("table.bin"), contact_table());
-    let codes = [
-        "codes",
-        "table.bin",
-        "--state",
-        "OH",
-        "--out",
-        "codes.txt",
-        "--lines",
+    let split = folder.run(&words("split batch.txt --at 1 --out part --lines"));
+    assert_eq!(split.status, 0);
+    let export = folder.run(&words("export batch batch.txt --lines --out batch.csv"));
+    assert_eq!(export.status, 0);
+    let whole = lines(&paper_batch(), 245, "\n", false);
+    let commands = [
+        (
+            "merge part001 part002 --out merged.txt --lines",
+            0,
+            "merged.txt",
+            whole.clone(),
+        ),
+        (
+            "control batch.txt --out control.txt --lines",
+            0,
+            "control.txt",
+            whole.clone(),
+        ),
+        (
+            "build batch.csv --out built.txt --lines",
+            0,
+            "built.txt",
+            whole,
+        ),
     ];
-    assert_eq!(folder.run(&codes).status, 0);
-    assert_eq!(folder.read("codes.txt"), b"001\n007\n");
-    let split = [
-        "split",
-        "batch.txt",
-        "--at",
-        "1",
-        "--out",
-        "part",
-        "--lines",
-    ];
-    assert_eq!(folder.run(&split).status, 0);
-    let merge = [
-        "merge",
-        "part001",
-        "part002",
-        "--out",
-        "merged.txt",
-        "--lines",
-    ];
-    assert_eq!(folder.run(&merge).status, 0);
-    assert_eq!(
-        folder.read("merged.txt"),
-        lines(&paper_batch(), 245, "\n", false)
-    );
-    let control = ["control", "batch.txt", "--out", "control.txt", "--lines"];
-    assert_eq!(folder.run(&control).status, 0);
-    assert_eq!(folder.read("control.txt"), folder.read("merged.txt"));
-    let export = [
-        "export",
-        "batch",
-        "batch.txt",
-        "--lines",
-        "--out",
-        "batch.csv",
-    ];
-    assert_eq!(folder.run(&export).status, 0);
-    let build = ["build", "batch.csv", "--out", "built.txt", "--lines"];
-    assert_eq!(folder.run(&build).status, 0);
-    assert_eq!(folder.read("built.txt"), folder.read("merged.txt"));
-    assert_eq!(
-        folder.run(&["show", "master", "two.bin", "--lines"]).status,
-        3
-    );
+    leave(&folder, &commands);
 }
 
 #[test]

@@ -208,12 +208,9 @@ fn empty_logs_say_so() {
     assert!(ran.out.contains("no run is logged"), "{}", ran.out);
 }
 
-/// A run that is killed somewhere: by the log it was carried out exactly where the master is the new one.
-#[test]
-fn killed_runs_are_told() {
-    let folder = folder("log-killed");
-    // more rows and lines take longer, so that kills come at every stage
-    let rows: Vec<u8> = (0..8_000)
+/// Many rows, and a file with lines for some: they take longer, so that kills come at every stage.
+fn many_rows_and_lines() -> (Vec<u8>, Vec<u8>) {
+    let rows = (0..8_000)
         .flat_map(|n| row(&format!("OH{:09}N", 900_000_001 + n), "00000100", "00"))
         .collect();
     let none = "00000000000";
@@ -221,7 +218,14 @@ fn killed_runs_are_told() {
         let ssn = format!("{:09}", 900_000_001 + n);
         line(&ssn, "N", "00000000100", none)
     });
-    let file: Vec<u8> = lines.chain(total(0, 2_000)).collect();
+    (rows, lines.chain(total(0, 2_000)).collect())
+}
+
+/// A run that is killed somewhere: by the log it was carried out exactly where the master is the new one.
+#[test]
+fn killed_runs_are_told() {
+    let folder = folder("log-killed");
+    let (rows, file) = many_rows_and_lines();
     folder.write("weekly.bin", &file);
     folder.write("two.bin", &rows);
     let start = Instant::now();

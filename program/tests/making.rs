@@ -40,9 +40,9 @@ fn the_papers_batch() {
     }
 }
 
-#[test]
-fn what_does_not_fit() {
-    for (csv, words) in [
+/// CSV files that are wrong, each with what is said of it.
+fn wrong_texts() -> Vec<(String, &'static str)> {
+    vec![
         (
             PAPER.replace("SMYTH", "Smyth"),
             "line 3, column obligor_last_name: 'Smyth' has 'm', a lower case letter",
@@ -76,7 +76,12 @@ fn what_does_not_fit() {
             PAPER.lines().next().expect("a line").to_string(),
             "give the state with --state",
         ),
-    ] {
+    ]
+}
+
+#[test]
+fn what_does_not_fit() {
+    for (csv, words) in wrong_texts() {
         let folder = folder("making-wrong", &csv);
         let ran = folder.run(&BUILD);
         assert_eq!((ran.status, ran.out.as_str()), (3, ""), "{csv}: {ran:?}");
@@ -84,6 +89,10 @@ fn what_does_not_fit() {
         assert!(text.contains(words), "{words}: {}", ran.err);
         assert!(!folder.has("made.bin"));
     }
+}
+
+#[test]
+fn what_is_no_batch_or_no_text() {
     let ran = folder("making-state", &PAPER.replace("OH", "XX")).run(&BUILD);
     assert_eq!(ran.status, 2, "{ran:?}");
     let folder = folder("making-bytes", "");
@@ -123,6 +132,20 @@ fn the_template() {
     }
 }
 
+/// Some details, with more and more changed.
+fn changed_details(round: usize, next: &mut impl FnMut() -> usize) -> Vec<u8> {
+    let mut details: Vec<u8> = Vec::new();
+    for _ in 0..1 + next() % 5 {
+        let mut detail = paper_batch()[..245].to_vec();
+        for _ in 0..next() % (3 * round + 1) {
+            let place = 2 + next() % 243;
+            detail[place] = [0x40, 0xF0, 0x00, 0xC1, 0x6B, 0x7D, 0xFF, next() as u8][next() % 8];
+        }
+        details.extend(detail);
+    }
+    details
+}
+
 /// build of export gives the same bytes, whatever stands in the details.
 #[test]
 fn exported_and_built_again() {
@@ -133,38 +156,13 @@ fn exported_and_built_again() {
         (seed >> 33) as usize
     };
     for round in 0..30 {
-        let mut details: Vec<u8> = Vec::new();
-        for _ in 0..1 + next() % 5 {
-            let mut detail = paper_batch()[..245].to_vec();
-            for _ in 0..next() % (3 * round + 1) {
-                let place = 2 + next() % 243;
-                detail[place] =
-                    [0x40, 0xF0, 0x00, 0xC1, 0x6B, 0x7D, 0xFF, next() as u8][next() % 8];
-            }
-            details.extend(detail);
-        }
-        folder.write("details.bin", &details);
-        let ran = folder.run(&[
-            "control",
-            "details.bin",
-            "--out",
-            "batch.bin",
-            "--force",
-            "--state",
-            "OH",
-        ]);
-        if ran.status != 0 {
+        folder.write("details.bin", &changed_details(round, &mut next));
+        let control = "control details.bin --out batch.bin --force --state OH";
+        if folder.run(&words(control)).status != 0 {
             continue;
         }
-        let export = [
-            "export",
-            "batch",
-            "batch.bin",
-            "--out",
-            "details.csv",
-            "--force",
-        ];
-        let ran = folder.run(&export);
+        let export = "export batch batch.bin --out details.csv --force";
+        let ran = folder.run(&words(export));
         assert_eq!(ran.status, 0, "{ran:?}");
         assert!(
             ran.out.contains("left out; `build` makes the same"),
@@ -180,6 +178,29 @@ fn exported_and_built_again() {
     }
 }
 
+/// Kinds of files, each with a file, its lines in CSV and the beginning of the first record.
+const KINDS: [(&str, &str, usize, &str); 4] = [
+    (
+        "master",
+        "two.bin",
+        3,
+        "OH,123456789,N,000,,SMITH,JOHN,00000025,,,0000,00000000,,,,,,,,,00,",
+    ),
+    (
+        "rejects",
+        "rejects.bin",
+        2,
+        "OH,,123456789,,SMYTH,,00000100,M,N,,,,,,,,,,,17,SMIT,,",
+    ),
+    (
+        "collections",
+        "weekly.bin",
+        5,
+        "OH,,123456789,,SMITH,JOHN,,00000001001,00000000000,,,,N,",
+    ),
+    ("contacts", "contacts.bin", 5, "OH"),
+];
+
 #[test]
 fn every_kind_is_exported() {
     let folder = folder("making-kinds", "");
@@ -187,27 +208,7 @@ fn every_kind_is_exported() {
     folder.write("rejects.bin", &paper_rejects());
     folder.write("weekly.bin", &weekly());
     folder.write("contacts.bin", &contact_file());
-    for (kind, file, lines, first) in [
-        (
-            "master",
-            "two.bin",
-            3,
-            "OH,123456789,N,000,,SMITH,JOHN,00000025,,,0000,00000000,,,,,,,,,00,",
-        ),
-        (
-            "rejects",
-            "rejects.bin",
-            2,
-            "OH,,123456789,,SMYTH,,00000100,M,N,,,,,,,,,,,17,SMIT,,",
-        ),
-        (
-            "collections",
-            "weekly.bin",
-            5,
-            "OH,,123456789,,SMITH,JOHN,,00000001001,00000000000,,,,N,",
-        ),
-        ("contacts", "contacts.bin", 5, "OH"),
-    ] {
+    for (kind, file, lines, first) in KINDS {
         let ran = folder.run(&["export", kind, file, "--out", "-"]);
         assert_eq!(ran.status, 0, "{ran:?}");
         assert_eq!(ran.out.lines().count(), lines, "{kind}");
@@ -261,6 +262,17 @@ fn control_records() {
         "{}",
         ran.out
     );
+}
+
+#[test]
+fn control_records_of_other_files() {
+    let folder = folder("making-other-control", "");
+    let run = |bytes: &[u8], more: &[&str]| {
+        folder.write("batch.bin", bytes);
+        let control = ["control", "batch.bin", "--out", "made.bin", "--force"];
+        folder.run(&with(&control, more))
+    };
+    let details = &paper_batch()[..490];
     // none at all, in ASCII, and another state
     assert_eq!(run(details, &[]).status, 0);
     assert_eq!(folder.read("made.bin"), paper_batch());

@@ -257,36 +257,19 @@ fn states_and_amounts() {
 fn command_lines_and_places() {
     let folder = folder("merging-arguments");
     for (arguments, message) in [
-        (&["merge", "--out", "x"][..], "FIRST is missing"),
-        (&["merge", "first.bin", "--out", "x"], "SECOND is missing"),
+        ("merge --out x", "FIRST is missing"),
+        ("merge first.bin --out x", "SECOND is missing"),
+        ("merge first.bin second.bin", "--out FILE is missing"),
+        ("merge - second.bin - --out x", "one of the inputs alone"),
+        ("merge first.bin no.bin --out x", "no.bin: can't be read"),
         (
-            &["merge", "first.bin", "second.bin"],
-            "--out FILE is missing",
-        ),
-        (
-            &["merge", "-", "second.bin", "-", "--out", "x"],
-            "one of the inputs alone",
-        ),
-        (
-            &["merge", "first.bin", "no.bin", "--out", "x"],
-            "no.bin: can't be read",
-        ),
-        (
-            &[
-                "merge",
-                "first.bin",
-                "second.bin",
-                "third.bin",
-                "--out",
-                "third.bin",
-                "--force",
-            ],
+            "merge first.bin second.bin third.bin --out third.bin --force",
             "the run reads third.bin",
         ),
     ] {
-        let ran = folder.run(arguments);
-        assert_eq!(ran.status, 3, "{arguments:?}: {ran:?}");
-        assert!(ran.err.contains(message), "{arguments:?}: {}", ran.err);
+        let ran = folder.run(&words(arguments));
+        assert_eq!(ran.status, 3, "{arguments}: {ran:?}");
+        assert!(ran.err.contains(message), "{arguments}: {}", ran.err);
     }
     let help = folder.run(&["merge", "--help"]).out;
     let usage = "usage: fantanolive merge FIRST SECOND [MORE ..] --out FILE";

@@ -26,6 +26,24 @@ fn text(folder: &Folder) -> String {
     String::from_utf8(folder.read("pages.txt")).expect("it is ASCII")
 }
 
+/// The lines of two cases by their columns.
+const FIRST: [(usize, &str); 6] = [
+    (1, "OH123456789N"),
+    (14, "000"),
+    (18, "SMITH"),
+    (39, "JOHN"),
+    (55, "00000025"),
+    (64, "0"),
+];
+const SECOND: [(usize, &str); 6] = [
+    (1, "WY900010001A"),
+    (14, "123"),
+    (18, "ABCDEFGHIJKLMNOPQRST"),
+    (39, "ABCDEFGHIJKLMNO"),
+    (55, "12345678"),
+    (64, "8"),
+];
+
 #[test]
 fn a_page_by_its_columns() {
     let mut second = row("WY900010001A", "12345678", "99");
@@ -41,28 +59,8 @@ fn a_page_by_its_columns() {
     assert!(ran.out.contains(counts), "{}", ran.out);
     let wanted = [
         filled(132, &[(1, "CASES"), (7, "000001")]),
-        filled(
-            132,
-            &[
-                (1, "OH123456789N"),
-                (14, "000"),
-                (18, "SMITH"),
-                (39, "JOHN"),
-                (55, "00000025"),
-                (64, "0"),
-            ],
-        ),
-        filled(
-            132,
-            &[
-                (1, "WY900010001A"),
-                (14, "123"),
-                (18, "ABCDEFGHIJKLMNOPQRST"),
-                (39, "ABCDEFGHIJKLMNO"),
-                (55, "12345678"),
-                (64, "8"),
-            ],
-        ),
+        filled(132, &FIRST),
+        filled(132, &SECOND),
         filled(132, &[(1, "TOTAL"), (7, "0002")]),
     ];
     assert_eq!(folder.read("pages.bin"), wanted.concat());

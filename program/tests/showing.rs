@@ -48,6 +48,35 @@ fn fields_that_are_asked_for() {
     assert_eq!(batch.out.lines().count(), 4, "{}", batch.out);
 }
 
+/// Searches, each with the numbers of the rows that are shown, and what is said of their count.
+const SEARCHES: [(&[&str], &str, &str); 13] = [
+    (
+        &["--where", "obligor_last_name=smith"],
+        "1,2",
+        "2 rows found",
+    ),
+    (&["--where", "ssn=987-65-4321"], "2", "1 row found"),
+    (&["--where", "ssn=987654322"], "3", "1 row found"),
+    (
+        &["--where", "case_type_indicator=n,obligor_last_name=Doe"],
+        "3",
+        "1 row found",
+    ),
+    (&["--where", "case_id="], "1,2", "2 rows found"),
+    (&["--where", "case_id=x"], "", "0 rows found"),
+    (&["--search", "smi"], "1,2", "2 rows found"),
+    (&["--search", "123-45-6789"], "1", "1 row found"),
+    (&["--search", "a-7"], "3", "1 row found"),
+    (&["--search", "john"], "1,2,3", "3 rows found"),
+    (&["--search", "john", "--count", "2"], "1,2", "2 rows found"),
+    (&["--search", "john", "--from", "2"], "2,3", "2 rows found"),
+    (
+        &["--search", "987654321", "--where", "case_type_indicator=A"],
+        "2",
+        "1 row found",
+    ),
+];
+
 #[test]
 fn records_by_their_values() {
     let folder = folder("showing-where");
@@ -58,33 +87,7 @@ fn records_by_their_values() {
         let count = lines.last().cloned().unwrap_or_default();
         (numbers.join(","), count)
     };
-    for (more, numbers, count) in [
-        (
-            &["--where", "obligor_last_name=smith"][..],
-            "1,2",
-            "2 rows found",
-        ),
-        (&["--where", "ssn=987-65-4321"], "2", "1 row found"),
-        (&["--where", "ssn=987654322"], "3", "1 row found"),
-        (
-            &["--where", "case_type_indicator=n,obligor_last_name=Doe"],
-            "3",
-            "1 row found",
-        ),
-        (&["--where", "case_id="], "1,2", "2 rows found"),
-        (&["--where", "case_id=x"], "", "0 rows found"),
-        (&["--search", "smi"], "1,2", "2 rows found"),
-        (&["--search", "123-45-6789"], "1", "1 row found"),
-        (&["--search", "a-7"], "3", "1 row found"),
-        (&["--search", "john"], "1,2,3", "3 rows found"),
-        (&["--search", "john", "--count", "2"], "1,2", "2 rows found"),
-        (&["--search", "john", "--from", "2"], "2,3", "2 rows found"),
-        (
-            &["--search", "987654321", "--where", "case_type_indicator=A"],
-            "2",
-            "1 row found",
-        ),
-    ] {
+    for (more, numbers, count) in SEARCHES {
         assert_eq!(
             found(more),
             (numbers.to_string(), count.to_string()),

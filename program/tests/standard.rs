@@ -194,7 +194,12 @@ fn every_key_of_standard_input_is_answered() {
         "{out}"
     );
     assert!(out.contains("OH*****6789N"), "{out}");
-    let json = with(&find, &["--json"]);
+}
+
+#[test]
+fn keys_of_standard_input_as_json() {
+    let folder = folder("standard-keys-json");
+    let json = ["find", "two.bin", "-", "--json"];
     let (status, out, error) = run(&folder, &json, b"OH900000001N\nOH123456789N\n");
     let out = String::from_utf8(out).expect("it is text");
     assert_eq!((status, error.as_str()), (6, ""));

@@ -48,22 +48,13 @@ fn commands() -> Vec<(Vec<&'static str>, Vec<usize>)> {
     let edit = ["edit", "master.bin", "OH123456789N"];
     let records = ["records", "master.bin", "master.bin"];
     let merge = ["merge", "batch.bin", "batch.bin", "batch.bin"];
-    let reconcile = [
-        "reconcile",
-        "master.bin",
-        "--state",
-        "OH",
-        "--date",
-        "20071231",
-        "--out",
-        "out.bin",
-    ];
+    let reconcile = "reconcile master.bin --state OH --date 20071231 --out out.bin";
     vec![
         (APPLY.to_vec(), vec![1, 2, 4]),
         (CHECK.to_vec(), vec![1, 2, 4]),
         (vec!["find", "master.bin", "OH123456789N"], vec![1]),
         (vec!["find", "master.bin", "--keys", "keys.txt"], vec![1, 3]),
-        (reconcile.to_vec(), vec![1]),
+        (words(reconcile), vec![1]),
         (vec!["post", "two.bin", "weekly.bin"], vec![1, 2]),
         (vec!["add-cents", "old.bin"], vec![1]),
         (

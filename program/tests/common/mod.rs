@@ -146,6 +146,11 @@ pub const CHECK: [&str; 7] = [
     "2007",
 ];
 
+/// Arguments in a text, a space between them.
+pub fn words(text: &str) -> Vec<&str> {
+    text.split(' ').collect()
+}
+
 /// Arguments with more behind them.
 pub fn with<'a>(arguments: &[&'a str], more: &[&'a str]) -> Vec<&'a str> {
     [arguments, more].concat()
