@@ -8,13 +8,14 @@ use super::amounts::money;
 use super::columns::line;
 use super::field::Form;
 use super::key_map::{Key, KeyMap};
-use super::posting::{fault_of, Case, Fault};
+use super::posting::{fault_of, Case, Fault, AMOUNTS};
 use crate::failure::{grouped, Failure};
 
 /// Why a line is not posted.
 #[derive(Clone, Debug, PartialEq, Eq)]
 pub enum Reason {
-    NoAmount,
+    /// Which of the collection and the adjustment are no amounts.
+    NoAmount([bool; 2]),
     TwoAmounts,
     /// No row has the key.
     NoCase,
@@ -30,7 +31,7 @@ impl Reason {
     /// Its name in JSON and in charts.
     pub fn name(&self) -> &'static str {
         match self {
-            Reason::NoAmount => "no amount",
+            Reason::NoAmount(_) => "no amount",
             Reason::TwoAmounts => "two amounts",
             Reason::NoCase => "no case",
             Reason::ClosedBefore => "closed before",
@@ -42,7 +43,7 @@ impl Reason {
     /// Writes what is to be known of a line with this reason.
     pub fn put_words(&self, form: &Form, record: &[u8], out: &mut String) {
         match self {
-            Reason::NoAmount => put_no_amounts(form, record, out),
+            Reason::NoAmount(wrong) => put_no_amounts(*wrong, form, record, out),
             Reason::TwoAmounts => out.push_str("a collection and an adjustment in one line"),
             Reason::NoCase => out.push_str("no case has this key"),
             Reason::ClosedBefore => out.push_str("the case was closed before this file"),
@@ -63,13 +64,10 @@ impl Reason {
 }
 
 /// The amounts that are none, as they stand.
-fn put_no_amounts(form: &Form, record: &[u8], out: &mut String) {
-    let Some(Fault::NoAmount(fields)) = fault_of(record) else {
-        return;
-    };
+fn put_no_amounts(wrong: [bool; 2], form: &Form, record: &[u8], out: &mut String) {
     out.push_str("not eleven digits: ");
     let mut between = "";
-    for field in &fields {
+    for (field, _) in AMOUNTS.iter().zip(wrong).filter(|(_, wrong)| *wrong) {
         out.push_str(between);
         out.push_str(field.name);
         out.push_str(" '");
@@ -120,7 +118,7 @@ impl Posted<'_> {
         let mut reasons: Vec<Option<Reason>> = faults
             .map(|fault| {
                 fault.map(|fault| match fault {
-                    Fault::NoAmount(_) => Reason::NoAmount,
+                    Fault::NoAmount(wrong) => Reason::NoAmount(wrong),
                     Fault::TwoAmounts => Reason::TwoAmounts,
                 })
             })
@@ -346,7 +344,7 @@ mod tests {
             let amounts = [line::COLLECTION, line::ADJUSTMENT].map(|field| cents(field.of(record)));
             let case = cases.get_mut(&key_of(record)[..]);
             let reason = match (amounts, case) {
-                ([None, _] | [_, None], _) => Reason::NoAmount,
+                ([None, _] | [_, None], _) => Reason::NoAmount(amounts.map(|a| a.is_none())),
                 ([Some(1..), Some(1..)], _) => Reason::TwoAmounts,
                 (_, None) => Reason::NoCase,
                 (_, Some((_, false, None, _))) => Reason::ClosedBefore,

@@ -21,27 +21,33 @@ pub struct Case {
     pub is_live: bool,
 }
 
-/// A line of the case that is made up, and behind it a last record.
+/// A line of the case that is made up, and behind it a last record that counts nothing.
 static FILE: LazyLock<[u8; 2 * LINE]> = LazyLock::new(|| {
     let own = [
         (line::STATE, STATE),
         (line::SSN, SSN),
         (line::CASE_TYPE, CASE_TYPE),
     ];
-    let records = [
-        text_in(LINE, &own),
-        text_in(LINE, &[(total::MARK, "TOTAL")]),
+    let last = [
+        (total::MARK, "TOTAL"),
+        (total::ADJUSTMENTS, "000000000000000"),
+        (total::COLLECTIONS, "000000000000000"),
     ];
+    let records = [text_in(LINE, &own), text_in(LINE, &last)];
     let mut bytes = [0; 2 * LINE];
     bytes.copy_from_slice(&records.concat());
     bytes
 });
 
+/// The digits from 0 on.
+static DIGITS: LazyLock<[u8; 10]> = LazyLock::new(|| b"0123456789".map(code));
+
 /// Puts a number into a field, in digits from its end on.
 fn set_number(field: &Field, number: u64, record: &mut [u8]) {
+    let digits = &*DIGITS;
     let mut rest = number;
     for place in record[field.first - 1..field.last].iter_mut().rev() {
-        *place = code(b'0' + (rest % 10) as u8);
+        *place = digits[(rest % 10) as usize];
         rest /= 10;
     }
 }
@@ -77,9 +83,9 @@ impl Case {
         let is_above = |field: &Field| cents_of(field.of(record)).is_some_and(|cents| cents > 0);
         let likely = [is_above(&line::ADJUSTMENT), is_above(&line::COLLECTION)];
         for other in [[false, false], [false, true], [true, false], [true, true]] {
-            let last = &mut file[LINE..];
-            set_number(&total::ADJUSTMENTS, u64::from(likely[0] ^ other[0]), last);
-            set_number(&total::COLLECTIONS, u64::from(likely[1] ^ other[1]), last);
+            let counts = [likely[0] ^ other[0], likely[1] ^ other[1]].map(usize::from);
+            file[LINE + total::ADJUSTMENTS.last - 1] = DIGITS[counts[0]];
+            file[LINE + total::COLLECTIONS.last - 1] = DIGITS[counts[1]];
             match post(&mut bytes, 1, &file, &mut list) {
                 // the counts are others
                 Err(Refusal::WrongTotal) => {}
@@ -106,11 +112,14 @@ fn with_amounts(record: &[u8], collection: &[u8], adjustment: &[u8]) -> [u8; LIN
     other
 }
 
+/// The amounts of a line.
+pub const AMOUNTS: [Field; 2] = [line::COLLECTION, line::ADJUSTMENT];
+
 /// What keeps a line from being posted whatever its case.
 #[derive(Debug, PartialEq, Eq)]
 pub enum Fault {
-    /// These fields are no amounts.
-    NoAmount(Vec<Field>),
+    /// Which of them, the collection and the adjustment, are no amounts.
+    NoAmount([bool; 2]),
     /// A collection and an adjustment above zero.
     TwoAmounts,
 }
@@ -125,15 +134,13 @@ pub fn fault_of(record: &[u8]) -> Option<Fault> {
         let line = with_amounts(record, one, other);
         USUAL.posted(&line).is_some()
     };
-    let fields = [line::COLLECTION, line::ADJUSTMENT];
-    let is_no_amount = |field: &Field| !is_posted(field.of(record), &zero);
-    let wrong: Vec<Field> = fields.into_iter().filter(is_no_amount).collect();
-    if !wrong.is_empty() {
+    let wrong = AMOUNTS.map(|field| !is_posted(field.of(record), &zero));
+    if wrong != [false, false] {
         return Some(Fault::NoAmount(wrong));
     }
     // beside a cent the other way what is above zero is not posted
     let is_above = |field: &Field| !is_posted(field.of(record), &cent);
-    fields.iter().all(is_above).then_some(Fault::TwoAmounts)
+    AMOUNTS.iter().all(is_above).then_some(Fault::TwoAmounts)
 }
 
 #[cfg(test)]
@@ -159,15 +166,18 @@ mod tests {
             fault_of(&a_line(CENT, "99999999999")),
             Some(Fault::TwoAmounts)
         );
-        for (collection, adjustment, first) in [
-            ("0000000000", ZERO, line::COLLECTION.first),
-            (ZERO, "0000000000X", line::ADJUSTMENT.first),
-            ("0000000000X", "99999999999", line::COLLECTION.first),
+        for (collection, adjustment, wrong) in [
+            ("0000000000", ZERO, [true, false]),
+            (ZERO, "0000000000X", [false, true]),
+            ("0000000000X", "99999999999", [true, false]),
+            ("X", "0000E000000", [true, true]),
         ] {
-            let Some(Fault::NoAmount(fields)) = fault_of(&a_line(collection, adjustment)) else {
-                panic!("{collection} {adjustment}");
-            };
-            assert_eq!((fields.len(), fields[0].first), (1, first));
+            let fault = fault_of(&a_line(collection, adjustment));
+            assert_eq!(
+                fault,
+                Some(Fault::NoAmount(wrong)),
+                "{collection} {adjustment}"
+            );
         }
     }
 
