@@ -54,7 +54,11 @@ fn count_in(case_type: u8, rec: &[u8]) -> u64
     requires { ⌜ length (now rec) ≡ 245 ⌝ }
     ensures { λ r. ⌜ r ≡ countIn «case_type» (now (rec .entry)) ⌝ }
 {
-    if rec[73] == case_type { 1 } else { 0 }
+    if rec[chart_a1::CASE_TYPE_AT] == case_type {
+        1
+    } else {
+        0
+    }
 }
 
 // Whether a detail is of a type whose amount counts: A or M.
@@ -62,7 +66,7 @@ fn has_amount(rec: &[u8]) -> bool
     requires { ⌜ length (now rec) ≡ 245 ⌝ }
     ensures { λ r. ⌜ r ≡ hasAmount (now (rec .entry)) ⌝ }
 {
-    let t = rec[72];
+    let t = rec[chart_a1::TYPE_AT];
     (t == record::ADD) | (t == record::MODIFY)
 }
 
@@ -72,7 +76,9 @@ fn amount_in(case_type: u8, rec: &[u8]) -> u64
     ensures { λ r. ⌜ r ≡ amountIn «case_type» (now (rec .entry)) ⌝ }
 {
     let amount = fields::field(rec, chart_a1::ARREARAGE);
-    if (rec[73] == case_type) & (has_amount(rec) & fields::are_digits(amount, 8)) {
+    if (rec[chart_a1::CASE_TYPE_AT] == case_type)
+        & (has_amount(rec) & fields::are_digits(amount, 8))
+    {
         fields::number_of(amount)
     } else {
         0

@@ -17,7 +17,7 @@ pub const NO_RANK: u64 = 2147483648;
 fn type_rank(b: u8) -> u64
     ensures { λ r. ⌜ r ≡ cond (eqb b Characters.N) 1 0 ⌝ }
 {
-    if b == 0xD5 { 1 } else { 0 }
+    if b == key::NON_TANF { 1 } else { 0 }
 }
 
 // The rank of a sound key of the state: its SSN and its case type; the state is there for the promise alone.

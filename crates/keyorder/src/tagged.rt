@@ -6,6 +6,7 @@ use crate::bits::RANK_PLACE;
 use crate::rank;
 use judging::front;
 use judging::warnings;
+use layout::chart_a1;
 use layout::record;
 use layout::records;
 use sorting::sorting::sort;
@@ -103,7 +104,7 @@ fn tag_detail(batch: &[u8], i: usize, state: &[u8], year: u64, list: &[u8]) -> u
     let set = f.set;
     let wrong = set != 0;
     let local = warnings::has_51(&rec, list);
-    let t = rec[72];
+    let t = rec[chart_a1::TYPE_AT];
     let kind = kind_of(t);
     let gives = (kind == 1) & !wrong;
     tag(rank, i as u64, kind, gives, local, wrong)
