@@ -75,6 +75,8 @@ fn build(edit: &Edit, work: &Path) -> Result<PathBuf, String> {
     let _ = fs::remove_dir_all(&copy);
     edit.plant(&sources.join("reference/src"), &copy)?;
     let rustc = env::var("RUSTC").unwrap_or("rustc".to_string());
+    // what a fault leaves as it was isn't compiled again
+    let parts = format!("incremental={}", work.join("parts").display());
     let rlib = work.join("libreference.rlib");
     let library = work.join("libfaulty.so");
     let options = [
@@ -88,9 +90,13 @@ fn build(edit: &Edit, work: &Path) -> Result<PathBuf, String> {
         "warnings",
     ];
     let mut reference = Command::new(&rustc);
-    reference
-        .args(options)
-        .args(["--crate-type", "rlib", "--crate-name", "reference", "-o"]);
+    reference.args(options).args(["-C", &parts]).args([
+        "--crate-type",
+        "rlib",
+        "--crate-name",
+        "reference",
+        "-o",
+    ]);
     let built = run(reference.arg(&rlib).arg(copy.join("lib.rs")))?;
     let mut engine = Command::new(&rustc);
     engine.args(options).args([
