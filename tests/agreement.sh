@@ -136,6 +136,12 @@ done
 printf 'no library\n' >"$work/broken.so"
 "$program" agree "$work/broken.so" >/dev/null 2>"$work/err"
 want 'a file that is no library' "$?" 3
+printf 'no program\n' >"$work/broken"
+for mode in 644 755; do
+    chmod "$mode" "$work/broken"
+    "$program" agree "$work/broken" >/dev/null 2>"$work/err"
+    want "a file that is no program, mode $mode" "$? $(sed 's/^.*: //' "$work/err")" '3 it is neither a shared library (by its name, *.so) nor a program that may be run'
+done
 
 if [ "$failed" != 0 ]; then
     echo "agreement: $failed failed, $passed passed"

@@ -62,9 +62,17 @@ apply(book, "counts", ["then the control record of Chart 0-2", "accepted include
       [[], [8], [], [9], [51], [51], [4]], space=6, result=[4, 2, 2, 1, 5],
       reject={5: {6: digits(2, 9) + digits(1, 9) + digits(2, 9) + digits(1, 9) + digits(1, 9) + digits(1, 9)}})
 apply(book, "bytes-behind-kept", ["bytes past the last row, verdict and reject record", "bytes that a call doesn't write are kept"], [M], [[]], space=2, rejects=600, verdicts=3)
+KEEPS = ["bytes past the last row, verdict and reject record", "bytes that a call doesn't write are kept"]
+apply(book, "bytes-behind-kept-without-details", KEEPS, [], [], space=2, rejects=735, verdicts=2)
+apply(book, "bytes-behind-kept-without-rows", KEEPS, [], [], rows=[], space=2, rejects=735, verdicts=2)
+apply(book, "bytes-behind-kept-behind-a-new-row", KEEPS, [detail("A")], [[]], rows=[], space=3, rejects=980, verdicts=3)
+apply(book, "bytes-behind-kept-behind-a-reject", KEEPS, [detail("M", {228: "X"})], [[18]], space=2, rejects=980, verdicts=3)
 apply(book, "rows-in-key-order", "the machine runs on each detail in turn",
       [detail("A", ssn="999999999"), detail("A", ssn="001010001"), detail("A", ssn="123456789", case="N")], [[], [], []], space=3,
       result=[3, 0, 0, 0, 4], after={0: {3: "001010001A"}, 1: {3: "123456789A"}, 2: {3: "123456789N"}, 3: {3: "999999999A"}})
+apply(book, "rows-of-other-states-stay", ["the machine runs on each detail in turn", "a deleted row keeps its place"], [detail("A", ssn=NEW), detail("D")], [[], []],
+      rows=[row(state="AK", owed=0), row(state="NY"), row(), row("222334444", owed=0), row(state="WY", owed=0)], result=[2, 0, 0, 0, 6],
+      after={0: {1: "AK", 196: "D"}, 1: {1: "NY", 196: " "}, 2: {3: NEW, 196: " "}, 3: {3: "123456789", 196: "D"}, 4: {3: "222334444", 196: "D"}, 5: {1: "WY", 196: "D"}})
 apply(book, "judged-at-its-turn", ["the machine runs on each detail in turn", "Proved table|judging a record against the master",
                                    "one working the first detail", "under a key they stand in the batch order"],
       [detail("A", ssn=NEW), detail("M", ssn=NEW), detail("D", ssn=NEW), detail("M", ssn=NEW)], [[], [], [], [9]], space=2, result=[3, 1, 0, 0, 2])
@@ -92,6 +100,12 @@ for name, sentences, details, codes in [
     apply(book, "names-" + name, sentences, details, codes)
 apply(book, "names-b-with-09", ["that has none of errors 01 to 06 or 18", "the one-case machine now also reads"],
       [detail("D"), B, detail("A"), J], [[], [9], [], []])
+for name, rows in [("no-row", []), ("a-deleted-row", [row(owed=0)])]:
+    apply(book, "names-b-with-09-of-" + name, ["that has none of errors 01 to 06 or 18", "anywhere in the batch"], [B, detail("A"), J], [[9], [], []], rows=rows)
+    apply(book, "names-b-behind-of-" + name, [GIVEN, "anywhere in the batch"], [detail("A"), J, B], [[], [], []], rows=rows)
+apply(book, "names-stored-told-before-b", "(the four characters stay the stored ones)", [detail("M", last="BROWN"), B], [[17], []], reject={0: {240: "SMIT"}})
+apply(book, "names-stored-told-beside-two", "(the four characters stay the stored ones)", [detail("M", last="BROWN"), B, detail("B", last="ADAMS")], [[17], [], []],
+      reject={0: {240: "SMIT"}})
 apply(book, "names-stored-told", "(the four characters stay the stored ones)", [B, detail("M", last="BROWN")], [[], [17]], reject={0: {240: "JONE"}})
 
 # Refusals.
@@ -121,6 +135,9 @@ for name, sums in [("tanf-more", [2, 0, 100, 0]), ("tanf-less", [0, 0, 100, 0]),
     apply(book, "count-" + name, "7 a count differs", [M], answer=7, whole=M + control("OH", sums))
 for name, sums in [("tanf-more", [1, 0, 101, 0]), ("tanf-less", [1, 0, 99, 0]), ("non-tanf-more", [1, 0, 100, 1]), ("exchanged", [1, 0, 0, 100])]:
     apply(book, "amount-" + name, "8 an amount differs", [M], answer=8, whole=M + control("OH", sums))
+# Both counts come before either amount.
+for name, sums in [("tanf-count-non-tanf-amount", [2, 0, 100, 1]), ("non-tanf-count-tanf-amount", [1, 1, 101, 0]), ("both-counts-both-amounts", [2, 1, 101, 1])]:
+    apply(book, "count-before-amount-" + name, ["7 a count differs", "refused, in order: 1 to 11"], [M], answer=7, whole=M + control("OH", sums))
 wide = [detail("M", {65: "99999999"})] * 1001
 apply(book, "amount-above-eleven-digits", "8 an amount differs", wide, answer=8, whole=b"".join(wide) + control("OH", [1001, 0, 99998998, 0]))
 

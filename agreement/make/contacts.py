@@ -11,8 +11,8 @@ def contact(state="OH", code="001", at=None):
     return put(blank(220, columns), at or {})
 
 
-def update(name, sentences, file, faulty=(), table=(), keys=None, answer=0, space=None, room=None, raw_table=None, raw_file=None, count=None):
-    """By hand: the numbers of the faulty records, and the keys of the table afterwards."""
+def update(name, sentences, file, faulty=(), table=(), keys=None, answer=0, space=None, room=None, raw_table=None, raw_file=None, count=None, after=None):
+    """By hand: the numbers of the faulty records, the keys of the table afterwards, and its records (`after`)."""
     space = len(file) if space is None else space
     room = len(file) if room is None else room
     values = {"table": b"".join(table) + b"\xa5" * (220 * space) if raw_table is None else raw_table, "count": len(table) if count is None else count,
@@ -21,11 +21,13 @@ def update(name, sentences, file, faulty=(), table=(), keys=None, answer=0, spac
     def expect(found, left):
         hold("the answer", found, 0)
         told = numbers(left.get("result", values["result"]), 8)
-        after = left.get("table", values["table"])
+        whole = left.get("table", values["table"])
         hold("the faulty", numbers(left.get("faulty", values["faulty"]), 4)[:told[1]], list(faulty))
         hold("the result", told, [len(keys), len(faulty)])
-        found_keys = [after[220 * at:220 * at + 5] for at in range(told[0])]
+        found_keys = [whole[220 * at:220 * at + 5] for at in range(told[0])]
         hold("the keys", [key.hex() for key in found_keys], [text(key).hex() for key in keys])
+        if after is not None:
+            hold("the records", whole[:220 * told[0]].hex(), b"".join(after).hex())
 
     book.add("update-" + name, sentences, "contacts_update", values, refused(answer) if answer else expect)
 
@@ -81,6 +83,12 @@ bad = contact(code="002", at={217: "X"})
 update("rising", REPLACES, [c, a, b], keys=["OH001", "OH002", "OH003"])
 update("replaced", REPLACES, [other], table=[a, b, c], keys=["OH001", "OH002", "OH003"], space=0)
 update("last-good-one-stays", REPLACES, [b, other], keys=["OH002"])
+# Records that have every field, and that have only those which must be there, one in place of the other.
+most = contact(code="002", at={20: "1234", 24: "(410) 555-0000", 38: "56  ", 42: "FAMILY SUPPORT OFFICE   ", 77: "LINE 1" + " " * 7, 112: "LINE 2", 147: "LINE 3", 182: "LINE 4" + " " * 11})
+least = contact(code="002", at={77: " " * 35, 147: "3 THIRD STREET"})
+for name, old, new in [("most-by-least", most, least), ("least-by-most", least, most), ("most-by-one", most, b), ("one-by-least", b, least)]:
+    update("replaced-" + name, REPLACES, [new], table=[a, old, c], keys=["OH001", "OH002", "OH003"], space=0, after=[a, new, c])
+    update("replaced-in-the-file-" + name, REPLACES, [old, new], keys=["OH002"], after=[new])
 update("between", REPLACES, [b], table=[a, c], keys=["OH001", "OH002", "OH003"])
 update("states-in-order", REPLACES, [contact("WY"), contact("AK"), contact("OH")], keys=["AK001", "OH001", "WY001"])
 update("faulty-undoes-nothing", ["a faulty record is skipped", "and its number, from 1"], [b, bad], [2], keys=["OH002"])
@@ -96,6 +104,13 @@ TABLE = "or a table with a faulty record or out of"
 update("table-faulty", TABLE, [a], answer=18, table=[bad])
 update("table-falling", TABLE, [a], answer=18, table=[c, b])
 update("table-key-twice", TABLE, [a], answer=18, table=[b, b])
+FAULTS = [("state", {1: "ZZ"}), ("code", {3: "0 2"}), ("telephone-1", {6: " " * 14}), ("extension-1", {20: " 1"}), ("telephone-2", {24: "1"}), ("extension-2", {38: " 1"}),
+          ("name", {42: " " * 35}), ("irs-in-the-name", {42: "IRS CHILD SUPPORT      "}), ("fms-in-line-1", {77: "FMS          "}), ("irs-in-line-2", {112: "IRS"}),
+          ("fms-in-line-3", {147: "FMS"}), ("irs-in-line-4", {182: "IRS     "}), ("no-line", {77: " " * 35}), ("no-line-4", {182: " " * 35}), ("filler", {220: "X"})]
+for name, at in FAULTS:
+    update("table-faulty-by-" + name, TABLE, [], answer=18, table=[contact(code="002", at=at)])
+update("table-faulty-last", TABLE, [a], answer=18, table=[a, b, contact(code="003", at={217: "X"})])
+update("table-states-falling", TABLE, [a], answer=18, table=[contact("WY", "001"), contact("AK", "002")])
 update("table-faulty-behind-the-count", TABLE, [a], table=[b], keys=["OH001", "OH002"], raw_table=b + bytes(220))
 SPACE = "then 19, a table without space"
 update("space-none", SPACE, [a], answer=19, space=0)
@@ -105,6 +120,9 @@ update("space-faulty", SPACE, [bad], answer=19, space=0)
 update("space-of-a-key-in-the-table", SPACE, [a], table=[a], keys=["OH001"], space=0)
 update("list-short", "or a list shorter than the records", [a, b], answer=19, room=1)
 update("list-short-of-good-ones", "or a list shorter than the records", [a], answer=19, room=0)
+for name, table in [("no-table", []), ("a-table", [a])]:
+    update("kept-behind-without-records-and-" + name, "item 4|(demand 1) bytes behind", [], table=table, keys=["OH001"][:len(table)], space=2, room=2)
+update("kept-behind-a-good-record", "item 4|(demand 1) bytes behind", [a], keys=["OH001"], space=3, room=3)
 update("kept-behind", "item 4|(demand 1) bytes behind", [bad], [1], keys=[], space=2, room=3)
 
 
@@ -129,6 +147,10 @@ codes("of-another", CODES, FULL, "WY", ["999"])
 codes("none", CODES, FULL, "TX", [])
 codes("own-code-alone", ["000 is the state's own", "a second call writes"], [contact(code="000")], "OH", [], room=0)
 codes("empty-table", CODES, [], "OH", [])
+# States that have a letter in the same place.
+ALIKE = [contact("NH", "011"), contact("OH", "012"), contact("OK", "013"), contact("OR", "014"), contact("PR", "015")]
+for state, code in [("OH", "012"), ("OK", "013"), ("OR", "014"), ("PR", "015"), ("NH", "011")]:
+    codes("alike-" + state.lower(), CODES, ALIKE, state, [code], room=3)
 REFUSED = "it is refused by 18, by 12, and by 19"
 codes("state-zz", REFUSED, FULL, "ZZ", answer=12)
 codes("state-of-three", REFUSED, FULL, "OHX", answer=12)
@@ -136,4 +158,9 @@ codes("room-exact", REFUSED, FULL, "OH", ["001", "034"], room=6)
 codes("room-short", REFUSED, FULL, "OH", answer=19, room=5)
 codes("table-length", REFUSED, FULL, "OH", answer=18, raw=b"".join(FULL) + b"\x40")
 codes("table-faulty", REFUSED, [bad], "OH", answer=18)
+for name, at in FAULTS:
+    codes("table-faulty-by-" + name, REFUSED, [contact(code="002", at=at)], "OH", answer=18)
+codes("table-falling", REFUSED, [c, b], "OH", answer=18)
+codes("table-key-twice", REFUSED, [b, b], "OH", answer=18)
+codes("table-states-falling", REFUSED, [contact("WY", "001"), contact("AK", "002")], "WY", answer=18)
 codes("count-above", REFUSED, FULL, "OH", answer=18, count=6)

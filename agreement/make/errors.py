@@ -41,6 +41,9 @@ several("03-unknown", "03: type (73)",
         [detail("D", {73: kind}) for kind in ("E", "F", "K", "N", "O", "U", "X", "Y", " ", "0", b"\x81", b"\0")], [3])
 one("03-alone", "with 03, only 01, 02, 04, 05, 18", detail("D", {73: "X", 50: "1", 65: "ABCDEFGH", 80: "XXXX", 169: "ZZ", 180: "BAD DATE",
                                                                  188: "NONE"}, last="JONES"), [3])
+for name, others in [("no-row", {"ssn": NEW}), ("another-case-type", {"case": "N"}), ("another-name", {"last": "JONES"})]:
+    one("03-without-09-and-17-" + name, "with 03, only 01, 02, 04, 05, 18", detail("D", {73: "X"}, **others), [3])
+one("03-without-09-a-deleted-row", "with 03, only 01, 02, 04, 05, 18", detail("D", {73: "X"}), [3], rows=[row(owed=0)])
 one("03-with-the-five", "with 03, only 01, 02, 04, 05, 18",
     detail("D", {1: "ZZ", 6: "000000000", 30: "    ", 73: "X", 74: "X", 228: "X"}), [1, 2, 3, 4, 5, 18])
 one("03-name-without-letter", ["with 03, only 01, 02, 04, 05, 18", "05, for A and B also without a letter"],
@@ -193,6 +196,14 @@ for name, record, codes in [("same", detail("A"), []), ("last-name", detail("A",
     one("52-" + name, LAST, record, codes)
 one("52-no-row", LAST, detail("A", ssn=NEW, last="JONES"), [])
 one("52-deleted-row", LAST, detail("A", last="JONES"), [], rows=[row(owed=0)])
+# The row's names are those at the record's turn.
+for name, rows, details, codes in [
+        ("new-case-then-another-name", [], [detail("A"), detail("A", last="JONES")], [[], [52]]),
+        ("new-case-then-the-same", [], [detail("A"), detail("A")], [[], []]), ("b-then-its-name", None, [detail("B", last="JONES"), detail("A", last="JONES")], [[], []]),
+        ("b-then-the-old-name", None, [detail("B", last="JONES"), detail("A")], [[], [52]]),
+        ("a-then-its-name", None, [detail("A", last="JONES"), detail("A", last="JONES")], [[52], []]),
+        ("deleted-before", None, [detail("D"), detail("A", last="JONES")], [[], []])]:
+    apply(book, "52-" + name, [LAST, "Proved table|judging a record against the master"], details, codes, rows=rows, space=2)
 one("52-with-51", [LAST, "51 (A)"], detail("A", {3: "013"}, last="JONES"), [51, 52])
 one("52-not-beside-an-error", [LAST, "warnings come only without errors"], detail("A", {228: "X"}, last="JONES"), [18])
 

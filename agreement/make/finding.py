@@ -56,9 +56,12 @@ many("mixed", "the answers, 32-bit", ["AK111223333A", "OH222334444A", "OH2223344
 many("no-keys", "a call centre brings a rising list of keys", [], [], 0)
 many("no-rows", "an equal one gives its place", KEYS[:2], [NONE, NONE], 0, rows=[])
 many("room-behind-kept", "the answers, 32-bit", KEYS[:1], [0], 1, room=3)
+many("room-behind-no-keys-kept", "the answers, 32-bit", [], [], 0, room=3)
 many("deleted-row-found", "the answers, 32-bit", KEYS[1:2], [1], 2)
 for name, keys in [("twice", [KEYS[0], KEYS[0]]), ("falling", [KEYS[1], KEYS[0]]), ("unsound", ["OH666223333A"]), ("n-before-a", [KEYS[2], KEYS[1]])]:
     many("keys-" + name, "refusal 27, keys unsound", keys, answer=27)
+for name, key in [("state", "ZZ222334444A"), ("ssn", "OH666223333A"), ("case-type", "OH222334444B")]:
+    many("keys-unsound-behind-by-" + name, "refusal 27, keys unsound", [KEYS[0], key], answer=27)
 many("keys-cut", "refusal 27, keys unsound", [], answer=27, raw="OH11122333", room=1)
 many("keys-and-a-byte", "refusal 27, keys unsound", [], answer=27, raw="OH111223333A0", room=2)
 many("list-short", "and before 28", KEYS, answer=28, room=3)

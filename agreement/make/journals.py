@@ -40,6 +40,10 @@ for length, number in [(216, 25), (217, 0), (12, 25), (0, 25)]:
     apply(book, "room-of-%d" % length, ["refusal 25 is a journal buffer", "and Item 8's buffer becomes"], [detail("M", {65: "00000200"})], [[]], journal=length, answer=number)
 apply(book, "room-without-details-11", "refusal 25 is a journal buffer", [], [], journal=11, answer=25)
 apply(book, "room-without-details-12", "refusal 25 is a journal buffer", [], [], journal=12, entries=b"\1\1")
+for length in (217 + 1, 217 + 205, 217 + 410):
+    apply(book, "room-of-%d-behind-kept" % length, ["refusal 25 is a journal buffer", "applying may write a journal"], [detail("M", {65: "00000200"})], [[]], journal=length,
+          entries=b"\1\1\0\1" + OLD)
+apply(book, "room-without-details-behind-kept", "refusal 25 is a journal buffer", [], [], journal=422, entries=b"\1\1")
 apply(book, "as-without-a-journal", "applying may write a journal", [detail("A", ssn=NEW), detail("M", last="SMYTH")], [[], [17]], journal=422, space=2,
       result=[1, 1, 0, 0, 2], reject={0: {240: "SMIT"}})
 
@@ -70,15 +74,29 @@ back("all-new", TAKEN, [a, b], b"\0\2\0\0\1\0", [])
 back("new-and-changed", TAKEN, [a, b2, c], b"\2\3\0\0\1\1" + b, [b, c])
 back("old-row-of-another-key", "it fits only a master of its count after", [a, b], b"\2\2\1\1" + c, [a, c])
 back("no-room-behind", TAKEN, [a, b], b"\1\2\1\0", [a], space=0)
+FULL = row("222334444", at={13: "012", 16: "CASE ID", 74: "NY077", 79: "200500000050", 91: "LINE 1", 121: "LINE 2", 151: "CITY", 176: "NY123456789", 187: "20050131",
+                            195: b"\x42", 197: "75"}, last="JONES", first="JANE", owed=7)
+back("every-field", TAKEN, [a, FULL, c], b"\3\3\1\1" + b, [a, b, c])
+back("every-field-turned-round", TAKEN, [a, b, c], b"\3\3\1\1" + FULL, [a, FULL, c])
+back("deleted", TAKEN, [a, row("222334444", owed=0), c], b"\3\3\1\1" + FULL, [a, FULL, c])
+back("live-again", TAKEN, [a, FULL, c], b"\3\3\1\1" + row("222334444", owed=0), [a, row("222334444", owed=0), c])
 FORM = "refusal 26, after 3 and 4, is a journal that isn't of this byte form"
 for name, given in [("empty", b""), ("one-number", b"\2"), ("number-cut", b"\2\x82"), ("byte-behind", b"\2\2\0"), ("mark-missing", b"\2\2\0"), ("mark-02", b"\2\2\0\2"),
                     ("old-row-cut", b"\2\2\0\1" + a[:199]), ("old-row-and-a-byte", b"\2\2\0\1" + a + b"\0"), ("longer-form", b"\x82\0\2"),
                     ("longer-form-of-the-count-after", b"\2\x82\0"), ("longer-form-of-a-place", b"\2\2\x80\0\1" + a)]:
     back("form-" + name, [FORM, "shortest form only"] if "longer" in name else FORM, [a, b], given, answer=26)
+# Marks of as many new rows as the count grew.
+for mark in (2, 0x40, 0x80, 0xFF):
+    back("form-mark-%02x-of-a-new-row" % mark, [FORM, MARK], [a, b], b"\1\2\1" + bytes([mark]), answer=26)
 FIT = ["doesn't fit the master", "it fits only a master of its count after"]
 for name, given in [("count-after-less", b"\1\1"), ("count-after-more", b"\3\3"), ("place-of-the-count", b"\1\2\2\0"), ("place-far-off", b"\1\2\xff\xff\xff\xff\x0f\0"),
                     ("marks-too-few", b"\1\2"), ("marks-too-many", b"\2\2\0\0"), ("count-shrinks", b"\3\2"), ("number-above-64-bits", b"\1" + b"\xff" * 9 + b"\x7f")]:
     back("fit-" + name, FIT, [a, b], given, answer=26)
+# Numbers that are right in their low bits alone.
+for bits in (32, 64):
+    far = bytes([0x82] + [0x80] * (bits // 7 - 1) + [1 << bits % 7])
+    for name, given in [("count-before", far + b"\2"), ("count-after", b"\2" + far), ("both-counts", far + far), ("place", b"\2\3" + far + b"\0")]:
+        back("fit-%s-above-%d-bits" % (name, bits), FIT, [a, b, c] if name == "place" else [a, b], given, answer=26)
 RISE = "has places out of strictly rising order"
 back("places-twice", RISE, [a, b2], b"\2\2\1\1" + b + b"\1\1" + b, answer=26)
 back("places-falling", RISE, [a, b], b"\0\2\1\0\0\0", answer=26)
@@ -86,4 +104,7 @@ LEFT = "or would leave an unsound master"
 back("left-unsound-row", LEFT, [a, b], b"\2\2\1\1" + row("222334444", at={13: "  1"}), answer=26)
 back("left-out-of-order", LEFT, [a, b], b"\2\2\1\1" + row("001010001"), answer=26)
 back("left-a-key-twice", LEFT, [a, b], b"\2\2\1\1" + a, answer=26)
+for name, at in [("deleted-with-a-balance", {196: "D"}), ("live-without-one", {66: "00000000"}), ("cents-and-deleted", {66: "00000000", 196: "D50"}), ("status", {196: "E"}),
+                 ("name", {31: "--   "}), ("state", {1: "ZZ"}), ("ssn", {3: "666223333"}), ("case-type", {12: "B"}), ("payment", {90: " "}), ("column-200", {200: "0"})]:
+    back("left-unsound-by-" + name, LEFT, [a, b], b"\2\2\1\1" + row("222334444", at=at), answer=26)
 back("left-old-form-row", LEFT, [a, b], b"\2\2\1\1" + row("222334444", at={197: "    "}), answer=26)

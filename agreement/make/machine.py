@@ -27,7 +27,12 @@ step("a-on-a-deleted-row", FRESH, [detail("A", A)], rows=[row(owed=0, at=over(FU
 step("a-blank-on-a-deleted-row", FRESH, [detail("A")], rows=[row(owed=0, at=over(FULL, {197: "00"}))],
      after={13: "000" + " " * 15, 74: "     000000000000" + " " * 104, 195: b"\0", 196: " 00  "})
 step("a-blank-without-a-row", FRESH, [detail("A")], rows=[], after={13: "000" + " " * 15, 91: " " * 104, 195: b"\0", 196: " 00  "})
+# Columns of other types in an A.
+OTHERS = {75: "NY123", 80: "2006"}
+for name, rows in [("without-a-row", []), ("on-a-deleted-row", [row(owed=0, at=over(FULL, {197: "00"}))])]:
+    step("a-with-columns-of-others-" + name, FRESH, [detail("A", OTHERS)], rows=rows, after={74: "     000000000000"})
 LIVE = "on a live row: names, arrearage and exclusions replaced"
+step("a-with-columns-of-others-on-a-live-row", LIVE, [detail("A", OTHERS)], after=KEPT)
 step("a-on-a-live-row", LIVE, [detail("A", A, first="JANE")], [[52]],
      after=over(KEPT, {13: "034", 16: "NEW CASE ID", 51: "JANE", 66: "00000250", 91: "NEW LINE 1", 121: "NEW LINE 2", 151: "NEW CITY",
                          176: "WY99999    ", 187: "20070131", 195: b"\x10", 196: " 00"}))
@@ -69,6 +74,7 @@ step("r-adm", ["R: the set", "A and R store the widened set"], [detail("R", {188
 step("a-adm", "A and R store the widened set", [detail("A", {188: "ADM"})], rows=[], after={195: b"\x0f"})
 step("z", "Z: the address", [detail("Z", {84: "1" + " " * 29, 114: "2" + " " * 29, 144: "3" + " " * 24, 169: "WY", 171: "123456789"})],
      after=left(c91="1" + " " * 29 + "2" + " " * 29 + "3" + " " * 24 + "WY123456789", c121="2" + " " * 29, c151="3", c176="WY", c178="123456789"))
+step("z-line-1-alone", "Z: the address", [detail("Z")], after=left(c91="1 MAIN STREET" + " " * 47, c121=" " * 30, c151="COLUMBUS" + " " * 17, c176="OH", c178="43004    "))
 step("z-line-2-alone", "Z: the address", [detail("Z", {84: " " * 30, 114: "X"})], after={91: " " * 30 + "X"})
 step("m", ["M: arrearage; zero", "A, D and M set the cents to 00"], [detail("M", {65: "00000250"})], after=left(c66="00000250", c196=" 00"))
 step("m-of-1", "M: arrearage; zero", [detail("M", {65: "00000001"})], after=left(c66="00000001", c196=" 00"))
@@ -82,6 +88,16 @@ step("t-blank-code", "T: transfer state", [detail("T", {75: "WY"})], after=left(
 step("t-code-partly-blank", "T: transfer state", [detail("T", {75: "WY", 77: "  1"})], after=left(c74="WY", c76="  1"))
 for kind in "BCDLMRSTZ":
     step("error-changes-nothing-" + kind.lower(), "an error changes nothing", [detail(kind, {228: "X"})], [[18]])
+STEPS = "each step gets the row or none that the one before returned"
+step("a-twice", [STEPS, "case ID and date replaced unless blank"], [detail("A", A), detail("A")], rows=[], space=2,
+     after={13: "000", 16: "NEW CASE ID", 66: "00000100", 91: "NEW LINE 1", 121: "NEW LINE 2", 151: "NEW CITY", 176: "WY99999    ", 187: "20070131", 195: b"\0"})
+step("a-s-t-a", [STEPS, "on a live row: names, arrearage"], [detail("A"), detail("S", {65: "00000010"}), detail("T", {77: "123"}), detail("A")], rows=[], space=2,
+     after={74: "NY123200700000010"})
+step("s-twice", [STEPS, "S: payment year and amount"], [detail("S", {65: "00000010"}), detail("S", {65: "00000005"})], after={79: "200700000005"})
+step("s-of-the-stored-year", "S: payment year and amount", [detail("S", {65: "00000005", 80: "2005"})], after={79: "200500000005"})
+step("s-of-zero", "S: payment year and amount", [detail("S", {65: "00000000", 80: "2005"})], after={66: "00000100", 79: "200500000000", 196: " 75"})
+step("t-twice", [STEPS, "T: transfer state"], [detail("T", {75: "NY", 77: "123"}), detail("T", {75: "PA"})], after={74: "PA123"})
+step("r-twice", [STEPS, "R: the set"], [detail("R", {188: "TAX"}), detail("R", {188: "RET"})], after={195: b"\2"})
 step("each-step-on-the-row-before", ["each step gets the row or none that the one before returned", "a key's starting row is"],
      [detail("M", {65: "00000200"}), detail("M", {65: "00000300"}), detail("S", {65: "00000001"})], after={66: "00000300", 83: "00000001"})
 step("reads-nothing-else", "its step reads the record, the control record's state", [detail("L", {3: "034"}, ssn="123456789")],

@@ -32,6 +32,9 @@ merge("none", BOTH, batch([]), batch([]), control("OH", [0, 0, 0, 0]))
 merge("neither-case-type", "with summed totals", batch([X]), batch([S]), X + S + control("OH", [1, 0, 0, 0]))
 merge("details-with-errors", BOTH, batch([detail("M", {1: "ZZ", 228: "X"})]), batch([M]), detail("M", {1: "ZZ", 228: "X"}) + M + control("OH", [2, 0, 200, 0]))
 merge("room-behind-kept", "and 33 an output shorter", batch([M]), batch([N]), M + N + control("OH", [1, 1, 100, 250]), room=800)
+for name, first, second, merged in [("none", [], [], control("OH", [0, 0, 0, 0])), ("one", [M], [], M + control("OH", [1, 0, 100, 0])), ("two", [M], [N], M + N + control("OH", [1, 1, 100, 250]))]:
+    for more in (1, 245, 490):
+        merge("room-of-%d-behind-%s" % (more, name), "and 33 an output shorter", batch(first), batch(second), merged, room=len(merged) + more)
 FIRST = "the first input, then the second"
 for name, fault, number in [("empty", b"", 5), ("length", batch([M])[:-1], 5), ("ctl", batch([M], at={3: "XXX"}), 6), ("state", batch([M], at={1: "ZZ"}), 20),
                             ("total", batch([M], at={6: " "}), 21), ("filler", batch([M], at={245: "X"}), 21), ("count", batch([M], at={15: "000000001"}), 7),
@@ -40,7 +43,12 @@ for name, fault, number in [("empty", b"", 5), ("length", batch([M])[:-1], 5), (
     merge("second-" + name, FIRST, batch([N]), fault, answer=number, room=735)
 merge("first-8-before-second-5", FIRST, batch([M], at={45: "1"}), b"", answer=8, room=735)
 merge("second-5-before-32", FIRST, batch([M], state="NY"), b"", answer=5, room=735)
+for name, at, number in [("ctl", {3: "XXX"}, 6), ("filler", {46: "0"}, 21), ("count", {15: "000000001"}, 7), ("amount", {45: "1"}, 8)]:
+    merge("second-%d-before-32" % number, FIRST, batch([N]), batch([M], state="NY", at=at), answer=number, room=735)
 CANNOT = "then refusal 32 is two different states"
+for name, first, second in [("no-details", [], []), ("details-in-both", [M], [N]), ("details-in-the-second", [], [N])]:
+    merge("two-states-" + name, CANNOT, batch(first), batch(second, state="NY"), answer=32)
+    merge("two-states-turned-" + name, CANNOT, batch(first, state="NY"), batch(second), answer=32)
 merge("two-states", CANNOT, batch([M]), batch([], state="NY"), answer=32)
 for case in "AN":
     most = detail("M", {65: "99999999"}, case=case)

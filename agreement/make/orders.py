@@ -62,6 +62,12 @@ pairs("pages", "after 3 and 4 comes refusal 31", [3, 4, 31],
       lambda faults: master_values(faults, {"out": b"\xa5" * (395 if 31 in faults else 396), "pages": words([9], 8)}))
 pairs("take_back", "refusal 26, after 3 and 4", [3, 4, 26],
       lambda faults: master_values(faults, {"journal": b"\1\2" if 26 in faults else b"\1\1", "rows_after": words([9], 8)}))
+# Each cause of 26 behind 3 and 4.
+for name, given in [("empty", b""), ("cut", b"\1"), ("mark", b"\0\1\0\2"), ("count", b"\2\2"), ("place", b"\0\1\1\0"), ("marks", b"\0\1"), ("order", b"\1\1\0\0\0\0"),
+                    ("unsound", b"\1\1\0\1" + BAD_ROW)]:
+    for first in (3, 4):
+        book.add("take-back-%d-before-26-by-%s" % (first, name), "refusal 26, after 3 and 4", "take_back",
+                 master_values({first}, {"journal": given, "rows_after": words([9], 8)}), refused(first))
 pairs("add_cents", "a conversion, refused by 3 and 4", [3, 4],
       lambda faults: {"master": row(at={197: "    ", 13: "  1" if 4 in faults else "000"}) + (b"\x40" if 3 in faults else b""), "rows": 1})
 
@@ -112,6 +118,20 @@ def update_values(faults):
 
 
 pairs("contacts_update", "then 19, a table without space", [18, 19], update_values)
+
+
+def update_by(early, late):
+    """A cause of 18 with a cause of 19."""
+    from contacts import contact
+    table = contact(code="003", at={217: "X"} if early == "record" else {}) + contact(code="001" if early == "order" else "004")
+    table += b"" if late == "space" else b"\xa5" * 220
+    return {"table": table + (b"\x40" if early == "table" else b""), "count": 4 if early == "count" else 2,
+            "file": contact(code="002") + (b"\x40" if early == "file" else b""), "faulty": words([7] * (late != "list"), 4), "result": words([9, 9], 8)}
+
+
+for early in ("file", "table", "count", "record", "order"):
+    for late in ("space", "list"):
+        book.add("contacts-update-18-by-%s-before-19-by-%s" % (early, late), "then 19, a table without space", "contacts_update", update_by(early, late), refused(18))
 
 
 def merge_values(faults):

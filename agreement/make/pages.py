@@ -52,4 +52,9 @@ pages("room-one-short", SHORT, [ROW], answer=31, room=395)
 pages("room-none", SHORT, [ROW], answer=31, room=0)
 pages("room-none-for-no-rows", SHORT, [row(owed=0)], 0, room=0)
 pages("room-behind-kept", SHORT, [ROW], 1, {3: {1: b"\xa5" * 4}}, room=400)
+# Room for lines and pages that aren't there.
+for lines in (1, 2, 60, 61):
+    pages("room-of-%d-lines-for-no-rows" % lines, SHORT, [], 0, {place: {1: b"\xa5" * 132} for place in (0, lines - 1)}, room=132 * lines)
+    pages("room-of-%d-lines-for-no-live-rows" % lines, SHORT, [row(owed=0)], 0, {0: {1: b"\xa5" * 132}}, room=132 * lines)
+    pages("room-of-%d-lines-behind" % lines, SHORT, [ROW], 1, {2: foot(1), 3: {1: b"\xa5" * 132}, 2 + lines: {1: b"\xa5" * 132}}, room=132 * (3 + lines))
 pages("room-of-a-page-not-asked", SHORT, [ROW, row("222334444")], 1, room=528)

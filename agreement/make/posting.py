@@ -60,6 +60,11 @@ post("adjustment", "a collection (76–86) lowers", [line(0, 1)], after=owes(100
 post("adjustment-carries", "a collection (76–86) lowers", [line(0, 50)], rows=[row(cents="75")], after=owes(101, 25))
 post("two-zeros", "a line with both above zero", [line()], after=owes(100, 0))
 post("cents-and-dollars", "there are dollars on the master, cents in the collection file", [line(250)], rows=[row(owed=5, cents="25")], after=owes(2, 75))
+# A row of 1.50.
+for cents, left in [(49, (1, 1)), (50, (1, 0)), (51, (0, 99)), (100, (0, 50)), (149, (0, 1)), (150, (0, 0, "D")), (151, (0, 0, "D")), (200, (0, 0, "D"))]:
+    post("collection-of-%d-from-150" % cents, LOWERS, [line(cents)], rows=[row(owed=1, cents="50")], after=owes(*left))
+for cents, left in [(49, (1, 99)), (50, (2, 0)), (51, (2, 1)), (100, (2, 50)), (150, (3, 0))]:
+    post("adjustment-of-%d-to-150" % cents, LOWERS, [line(0, cents)], rows=[row(owed=1, cents="50")], after=owes(*left))
 MOST = "so is an adjustment that would pass"
 post("adjustment-to-the-most", MOST, [line(0, 1)], rows=[row(owed=99999999, cents="98")], after=owes(99999999, 99))
 post("adjustment-past-the-most", MOST, [line(0, 2)], [1], rows=[row(owed=99999999, cents="98")], after=owes(99999999, 98))
@@ -81,6 +86,8 @@ DIGIT = "each is ten digits and a last digit"
 for byte, is_good in [(0xC0, 1), (0xC1, 1), (0xC9, 1), (0xCA, 0), (0xBF, 0), (0xD0, 0), (0xD5, 0), (0xF0, 1), (0xF9, 1), (0xFA, 0), (0xE5, 0), (0x40, 0)]:
     cents = byte & 15
     post("last-digit-%02x" % byte, DIGIT, [line(10, at={86: bytes([byte])})], [] if is_good else [1], after=owes(99, 90 - cents) if is_good else owes(100, 0))
+    post("adjustment-last-digit-%02x" % byte, DIGIT, [line(0, 10, at={97: bytes([byte])})], [] if is_good else [1],
+         after=owes(100, 10 + cents) if is_good else owes(100, 0))
 for name, at in [("first-column", {76: " "}), ("tenth-column", {85: " "}), ("letter", {80: "A"}), ("sign-in-the-middle", {80: b"\xc1"}), ("adjustment", {87: " "}),
                  ("adjustment-last", {97: b"\xd0"})]:
     post("bad-" + name, [DIGIT, "a line with both above zero"], [line(10, at=at)], [1])
@@ -99,6 +106,8 @@ for name, end in [("no-total", last(0, 1, {6: "         "})), ("total-shifted", 
 post("rest-of-the-last-record-free", TOTAL, [LINE], end=last(0, 1, {1: "ZZ", 15: b"\0" * 20, 65: b"\xff" * 176}), after=owes(99, 0))
 post("list-short", "then 24 a line list", [LINE, LINE], answer=24, room=1)
 post("list-short-of-posted-lines", "then 24 a line list", [LINE], answer=24, room=0)
+post("list-longer-for-no-lines", ["then 24 a line list", "the list is of"], [], [], room=3)
+post("list-longer-for-posted-lines", ["then 24 a line list", "the list is of"], [LINE], room=3, after=owes(99, 0))
 post("list-longer", ["then 24 a line list", "the list is of"], [line(1, 1)], [1], room=4)
 
 

@@ -34,6 +34,13 @@ reconcile("other-state", REC, state="AK", records=1, out={1: "RECAK000111223333"
 reconcile("no-case", ["then RCT", REC], state="WY", records=0, out={1: rct("WY", 0, 0, "20070131"), 246: b"\xa5"})
 reconcile("no-rows", "then RCT", rows=[], records=0, out={1: rct("OH", 0, 0, "20070131")})
 reconcile("deleted-alone", REC, rows=[row(owed=0)], records=0, out={1: rct("OH", 0, 0, "20070131")})
+reconcile("deleted-of-both-case-types", ["then RCT", REC], rows=[row("111223333", owed=0), row("111223333", case="N", owed=0), row("222334444"), row("222334444", case="N")],
+          records=2, out={1: "RECOH000222334444", 491: rct("OH", 1, 1, "20070131")})
+reconcile("deleted-n-alone", ["then RCT", REC], rows=[row(case="N", owed=0)], records=0, out={1: rct("OH", 0, 0, "20070131")})
+# States that have a letter in the same place.
+ALIKE = [row(state=state) for state in ("NH", "OH", "OK", "OR", "PR")]
+for state in ("NH", "OH", "OK", "OR", "PR"):
+    reconcile("alike-" + state.lower(), REC, state=state, rows=ALIKE, records=1, out={1: "REC" + state, 246: rct(state, 1, 0, "20070131")})
 reconcile("blank-fields", "fields as in the row", rows=[row()], records=1, out={18: " " * 15, 72: " " * 10})
 for state in ("ZZ", "  ", "O", "OHX", "", "AB"):
     reconcile("state-" + (state.replace(" ", "_") or "empty"), "12 state not in the table", state=state, answer=12)
@@ -42,6 +49,9 @@ for date in ("20070230", "19000229", "18991231", "20071301", "20070100", "      
 for date in ("20000229", "19000101", "99991231", "20040229"):
     reconcile("date-" + date, ["13 no calendar date", "item 2|the dates accepted are the same"], date=date, records=3)
 reconcile("room-exact", "11 buffer below 245", room=980, records=3)
+for more in (1, 245, 490):
+    reconcile("room-of-%d-behind" % more, "bytes behind RCT are kept", rows=[row()], room=490 + more, records=1, out={491: b"\xa5" * more})
+    reconcile("room-of-%d-behind-no-rows" % more, "bytes behind RCT are kept", rows=[], room=245 + more, records=0, out={246: b"\xa5" * more})
 reconcile("room-one-short", "11 buffer below 245", room=979, answer=11)
 reconcile("room-none", "11 buffer below 245", room=0, answer=11, rows=[])
 reconcile("room-by-records-not-rows", "11 buffer below 245", state="AK", room=490, records=1)

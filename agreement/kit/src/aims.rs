@@ -8,11 +8,14 @@ use generator::rows::ROW;
 use generator::text::{digits, number, put, put_text, EDGES, SPACE};
 use generator::world::World;
 
-use crate::breaks::{break_by, near_date, near_room, row_count, touch_contact, wide_amounts};
+use crate::breaks::{break_by, near_date, near_room, touch_contact, wide_amounts};
 use crate::calls::CALLS;
 use crate::case::Case;
 use crate::details::RULES;
+use crate::journals::other_numbers;
+use crate::room::{new_rows, row_count};
 use crate::scene::{self, apply, base, line, own, post, world};
+use crate::whole::whole_field;
 
 /// What a case is aimed at.
 #[derive(Clone, Copy, Debug, PartialEq, Eq, PartialOrd, Ord)]
@@ -37,6 +40,8 @@ const fn of(call: &'static str, name: &'static str, make: fn(&mut Rng, &mut Case
     Situation { call, name, make }
 }
 
+const WHOLE: &str = "a field of one character throughout";
+
 pub const SITUATIONS: &[Situation] = &[
     of("apply", "rows on both sides of being sound", near_row),
     of("apply", "years around the first and the last", near_year),
@@ -55,6 +60,11 @@ pub const SITUATIONS: &[Situation] = &[
     ),
     of("take_back", "rows on both sides of being sound", near_row),
     of("take_back", "a journal changed by a bit", flip_bit),
+    of(
+        "take_back",
+        "a journal of another master or with numbers too large",
+        other_numbers,
+    ),
     of(
         "take_back",
         "an old row on both sides of being sound",
@@ -117,6 +127,19 @@ pub const SITUATIONS: &[Situation] = &[
     ),
     of("records_to", "every set of exclusions", every_wanted_set),
     of("records_to", "cents", wanted_cents),
+    of("apply", WHOLE, whole_field),
+    of("apply_journaled", WHOLE, whole_field),
+    of("take_back", WHOLE, whole_field),
+    of("merge", WHOLE, whole_field),
+    of("find", WHOLE, whole_field),
+    of("find_many", WHOLE, whole_field),
+    of("reconcile", WHOLE, whole_field),
+    of("pages", WHOLE, whole_field),
+    of("add_cents", WHOLE, whole_field),
+    of("post", WHOLE, whole_field),
+    of("contacts_update", WHOLE, whole_field),
+    of("contacts_codes", WHOLE, whole_field),
+    of("records_to", WHOLE, whole_field),
 ];
 
 /// One aim: a call with its target.
@@ -192,7 +215,7 @@ fn roomy(rng: &mut Rng, call: &str, refusals: &[u64]) -> Case {
         let case = base(rng, call);
         let details = |name: &str| case.bytes(name).len() / RECORD > 1;
         let suits = |&number: &u64| match number {
-            9 => has_new(&case),
+            9 => new_rows(&case) > 0,
             10 => details("batch"),
             24 => case.bytes("file").len() > 240,
             28 => case.bytes("keys").len() >= 12,
@@ -207,22 +230,6 @@ fn roomy(rng: &mut Rng, call: &str, refusals: &[u64]) -> Case {
         }
     }
     base(rng, call)
-}
-
-fn has_new(case: &Case) -> bool {
-    let rows = row_count(case);
-    let master = case.bytes("master");
-    let keys: Vec<&[u8]> = master
-        .chunks(ROW)
-        .take(rows)
-        .map(|row| &row[..12])
-        .collect();
-    let details = case.bytes("batch").len() / RECORD - 1;
-    let mut records = case.bytes("batch").chunks_exact(RECORD).take(details);
-    records.any(|record| {
-        let key = [&record[..2], &record[5..14], &record[73..74]].concat();
-        record[72] == 0xC1 && !keys.contains(&&key[..])
-    })
 }
 
 /// A field of a row at an edge of what is sound.
@@ -340,8 +347,8 @@ fn last_detail(rng: &mut Rng, case: &mut Case) {
 
 /// A master of about 128 rows, changed at its end.
 fn two_groups(rng: &mut Rng, case: &mut Case) {
-    let count = rng.between(126, 130);
-    let world = World::new(rng, count, 3);
+    let mut world = World::new(rng, 140, 3);
+    world.known.truncate(rng.between(126, 130));
     let mut details = Vec::new();
     for known in world.known.iter().rev().take(3) {
         let mut known = known.clone();

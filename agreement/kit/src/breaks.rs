@@ -7,7 +7,8 @@ use generator::text::{digits, number, put, put_text, STATES};
 
 use crate::case::Case;
 use crate::details::date;
-use crate::scene::{pages_length, put_number};
+use crate::room::{asked, lacking, new_rows, row_count};
+use crate::scene::put_number;
 
 const BAD_STATES: [&str; 9] = ["ZZ", "  ", "AA", "O ", " H", "00", "KA", "WZ", "GY"];
 
@@ -97,12 +98,6 @@ fn break_master(rng: &mut Rng, case: &mut Case) {
         ),
         _ => case.set_count("rows", (length / ROW) as u64 + 1),
     }
-}
-
-/// How many rows a case has, as far as its master reaches.
-pub fn row_count(case: &Case) -> usize {
-    let most = case.bytes("master").len() / ROW;
-    (case.count("rows").min(most as u64)) as usize
 }
 
 /// A row that is surely unsound, or two out of order.
@@ -211,24 +206,6 @@ fn break_length(rng: &mut Rng, bytes: &mut Vec<u8>) {
     }
 }
 
-/// How many A records of a batch have the key of no row.
-fn new_rows(case: &Case) -> usize {
-    let rows = row_count(case);
-    let master = case.bytes("master");
-    let keys: Vec<&[u8]> = master
-        .chunks(ROW)
-        .take(rows)
-        .map(|row| &row[..12])
-        .collect();
-    let is_new = |record: &&[u8]| {
-        let key = [&record[..2], &record[5..14], &record[73..74]].concat();
-        record[72] == 0xC1 && !keys.contains(&&key[..])
-    };
-    let details = (case.bytes("batch").len() / RECORD).saturating_sub(1);
-    let records = case.bytes("batch").chunks_exact(RECORD).take(details);
-    records.filter(is_new).count()
-}
-
 /// Room for one row too few.
 fn break_room(rng: &mut Rng, case: &mut Case) {
     if rng.percent(50) {
@@ -270,26 +247,13 @@ pub fn near_room(rng: &mut Rng, case: &mut Case) {
 
 /// An output of one byte too few.
 fn break_output(rng: &mut Rng, case: &mut Case) {
-    let (name, needed) = match case.call().name {
-        "reconcile" => {
-            let state = case.bytes("state").to_vec();
-            let rows = case.bytes("master").chunks_exact(ROW).take(row_count(case));
-            let listed = rows.filter(|row| row[195] == 0x40 && row[..2] == state[..]);
-            ("out", RECORD * (listed.count() + 1))
-        }
-        "pages" => {
-            let rows = case.bytes("master").chunks_exact(ROW).take(row_count(case));
-            (
-                "out",
-                pages_length(rows.filter(|row| row[195] == 0x40).count()),
-            )
-        }
-        "merge" => {
-            let records = (case.bytes("first").len() + case.bytes("second").len()) / RECORD;
-            ("out", RECORD * records.saturating_sub(1))
-        }
-        _ => ("rejects", RECORD * (case.bytes("batch").len() / RECORD)),
+    let name = if case.has("rejects") {
+        "rejects"
+    } else {
+        "out"
     };
+    let asked = asked(case).into_iter().find(|(output, _)| *output == name);
+    let needed = asked.map_or(0, |(_, needed)| needed);
     let short = match rng.percent(75) {
         true => needed.saturating_sub(1),
         false => rng.below(needed + 1).min(needed.saturating_sub(1)),
@@ -454,36 +418,19 @@ fn break_contacts(rng: &mut Rng, case: &mut Case) {
 }
 
 fn break_contact_room(rng: &mut Rng, case: &mut Case) {
-    if !case.has("file") {
-        let count = case
-            .count("count")
-            .min((case.bytes("table").len() / 220) as u64);
-        let state = case.bytes("state").to_vec();
-        let records = case.bytes("table").chunks_exact(220).take(count as usize);
-        let listed = records.filter(|one| one[..2] == state[..] && one[2..5] != [0xF0; 3]);
-        let needed = 3 * listed.count();
-        case.bytes_mut("out").truncate(needed.saturating_sub(1));
-        return;
-    }
-    let records = case.bytes("file").len() / 220;
-    if rng.percent(50) {
-        case.bytes_mut("faulty")
-            .truncate(4 * records.saturating_sub(1));
-        return;
-    }
-    let count = case.count("count") as usize;
-    let table = case.bytes("table");
-    let keys: Vec<&[u8]> = table
-        .chunks_exact(220)
-        .take(count)
-        .map(|one| &one[..5])
-        .collect();
-    let lacks = |record: &&[u8]| !keys.contains(&&record[..5]);
-    let lacking = case.bytes("file").chunks_exact(220).filter(lacks).count();
-    if lacking > 0 {
-        case.bytes_mut("table")
-            .truncate(220 * (count + lacking - 1));
-    }
+    let is_update = case.has("file");
+    let lacks = is_update && lacking(case) > 0;
+    let asked = asked(case);
+    let (name, needed) = match is_update && lacks && rng.percent(50) {
+        true => asked[1],
+        false => asked[0],
+    };
+    let unit = match name {
+        "out" => 1,
+        "faulty" => 4,
+        _ => 220,
+    };
+    case.bytes_mut(name).truncate(needed.saturating_sub(unit));
 }
 
 fn break_total(rng: &mut Rng, case: &mut Case) {

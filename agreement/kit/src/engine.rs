@@ -81,6 +81,8 @@ impl Engine for Linked {
     }
 }
 
+/// What is said of an engine that takes longer than it may.
+pub const NO_ANSWER: &str = "it gave no answer in the time limit";
 /// How long an engine may take for a limit.
 const LIMIT_TIME: Duration = Duration::from_secs(600);
 
@@ -171,7 +173,7 @@ impl Remote {
             .stdout(Stdio::piped())
             .stderr(Stdio::null())
             .spawn()
-            .map_err(|error| format!("it can't be started: {error}"))?;
+            .map_err(|error| self.unstarted(&error))?;
         let input = child.stdin.as_ref().map(AsRawFd::as_raw_fd);
         let output = child.stdout.as_ref().map(AsRawFd::as_raw_fd);
         let (Some(input), Some(output)) = (input, output) else {
@@ -186,6 +188,25 @@ impl Remote {
             output,
             buffered: Vec::new(),
         })
+    }
+
+    /// Why no process came of it. The name decided already that it is no shared library.
+    fn unstarted(&self, error: &io::Error) -> String {
+        const NO_PROGRAM: i32 = 8;
+        let is_program = !matches!(
+            (error.kind(), error.raw_os_error()),
+            (io::ErrorKind::PermissionDenied, _) | (_, Some(NO_PROGRAM))
+        );
+        match (&self.speech, error.kind()) {
+            (Speech::Lines, _) if !is_program => {
+                "it is neither a shared library (by its name, *.so) nor a program that may be run"
+                    .to_string()
+            }
+            (Speech::Lines, io::ErrorKind::NotFound) => {
+                "it can't be started: the program named in its first line isn't there".to_string()
+            }
+            _ => format!("it can't be started: {error}"),
+        }
     }
 
     fn ask_calls(&self, process: &mut Process) -> Result<Vec<usize>, String> {
@@ -283,7 +304,7 @@ impl Process {
     /// What an error of its pipes means.
     fn words(&mut self, error: &io::Error) -> String {
         if error.kind() == io::ErrorKind::TimedOut {
-            return "it gave no answer in the time limit".to_string();
+            return NO_ANSWER.to_string();
         }
         // its pipes close before its end is known
         for _ in 0..100 {

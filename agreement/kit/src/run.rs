@@ -10,7 +10,7 @@ use crate::calls::CALLS;
 use crate::case::{Answered, Case, Outcome};
 use crate::chains::CHAINS;
 use crate::compare::{compare, Difference, Kind};
-use crate::engine::Engine;
+use crate::engine::{Engine, NO_ANSWER};
 use crate::limits;
 use crate::older::Older;
 use crate::random;
@@ -22,6 +22,8 @@ pub const MOST_KINDS: usize = 10;
 /// How often, and how long in all, an engine may come to no answer in a call.
 const MOST_FAILURES: u32 = 50;
 const MOST_FAILING: Duration = Duration::from_secs(15);
+/// How long a difference is made smaller with an engine that takes long over each case; with others it is done in seconds.
+const MOST_SHRINKING: Duration = Duration::from_secs(120);
 
 pub struct Options {
     /// The calls to be tried, by their places in `CALLS`.
@@ -179,13 +181,21 @@ impl Running<'_, '_> {
     fn smaller(&mut self, case: &Case, large: Found) -> Found {
         let kind = &large.difference.kind;
         let pair = &mut *self.pair;
-        // blanks that bring about other codes make nothing simpler
-        let mut most = codes(&large.case, &large.ours);
+        // blanks that bring about other codes make nothing simpler, fewer details do
+        let mut most = details_and_codes(&large.case, &large.ours);
+        // each answer that doesn't come takes the whole time limit
+        let start = Instant::now();
+        let mut is_late = false;
         let mut keeps = |candidate: &Case| {
+            if is_late {
+                return false;
+            }
             let Some(both) = pair.run(candidate) else {
                 return false;
             };
-            let count = codes(&both.case, &both.wanted);
+            is_late = matches!(&both.theirs, Answered::Failed(words) if words == NO_ANSWER)
+                || start.elapsed() > MOST_SHRINKING;
+            let count = details_and_codes(&both.case, &both.wanted);
             let is_same = both
                 .difference
                 .is_some_and(|difference| difference.kind == *kind);
@@ -201,15 +211,15 @@ impl Running<'_, '_> {
     }
 }
 
-/// How many codes the details of a case got.
-fn codes(case: &Case, ours: &Outcome) -> u32 {
+/// How many details a case has that was carried out, and how many codes they got.
+fn details_and_codes(case: &Case, ours: &Outcome) -> (usize, u32) {
     match ours.answer == 0 && case.has("verdicts") {
         true => {
             let details = case.bytes("batch").len() / 245 - 1;
             let verdicts = ours.numbers(case, "verdicts").into_iter().take(details);
-            verdicts.map(u64::count_ones).sum()
+            (details, verdicts.map(u64::count_ones).sum())
         }
-        false => 0,
+        false => (0, 0),
     }
 }
 

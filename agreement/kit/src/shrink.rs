@@ -2,26 +2,29 @@
 //! emptied, then fields made blank or as simple as they can be. Names are made the same first, where that keeps the difference.
 
 use std::ops::Range;
-use std::time::{Duration, Instant};
 
 use generator::records::{totals, Record, RECORD};
+use generator::rows::ROW;
 use generator::text::{digits, number, put};
 
 use crate::calls::{Argument, Content};
 use crate::case::{bytes_of, Case, Value};
 use crate::fields::{layout, Field};
-use crate::scene::put_number;
+use crate::journals::forget_place;
+use crate::room::{fitted, row_count};
 use crate::text::record_width;
 
 const SPACE: u8 = 0x40;
 const ZERO: u8 = 0xF0;
-/// How long a case is made smaller, and of how many records any two are tried.
-const MOST_TIME: Duration = Duration::from_secs(6);
+const DELETED: u8 = 0xC4;
+/// How many cases are tried at most, and how many bytes they lend in all. Not a time: what is found is the same on a busy machine.
+const MOST_TRIES: usize = 20_000;
+const MOST_LENT: usize = 1_000_000_000;
+/// Of how many records any two are tried, and of how many all numbers of them.
 const FEW: usize = 8;
+const MANY: usize = 256;
 /// Columns 30 to 49 of a detail.
 const LAST_NAME: Range<usize> = 29..49;
-/// A fresh row is sound, and nothing in it can be left out.
-const ROW: usize = 200;
 
 /// The columns of the totals in a last record, each with its width.
 fn total_columns(content: Content) -> &'static [(usize, usize)] {
@@ -71,7 +74,8 @@ fn mend_lines(file: &mut [u8]) {
     }
 }
 
-fn mend(content: Content, bytes: &mut [u8]) {
+/// The same of either.
+pub fn mend(content: Content, bytes: &mut [u8]) {
     match content {
         Content::Batch => mend_totals(bytes),
         Content::Lines => mend_lines(bytes),
@@ -100,12 +104,12 @@ fn mend_as(content: Content, before: &[u8], bytes: &mut [u8]) -> bool {
     all
 }
 
-/// What is tried, and for how long.
+/// The smallest case so far, and what was tried.
 pub struct Shrinker<'a> {
     keeps: &'a mut dyn FnMut(&Case) -> bool,
     case: Case,
     tries: usize,
-    end: Instant,
+    lent: usize,
 }
 
 /// The smallest case that `keeps` still takes.
@@ -114,7 +118,7 @@ pub fn shrink(case: &Case, keeps: &mut dyn FnMut(&Case) -> bool) -> Case {
         keeps,
         case: case.clone(),
         tries: 0,
-        end: Instant::now() + MOST_TIME,
+        lent: 0,
     };
     for _ in 0..6 {
         let before = shrinker.case.clone();
@@ -129,31 +133,6 @@ pub fn shrink(case: &Case, keeps: &mut dyn FnMut(&Case) -> bool) -> Case {
     shrinker.case
 }
 
-/// A case with outputs as much shorter as so many records less ask for.
-fn fitted(case: &Case, name: &str, records: usize) -> Case {
-    let outputs: &[(&str, usize)] = match (case.call().name, name) {
-        ("apply" | "apply_journaled", "batch") => {
-            &[("verdicts", 8), ("rejects", 245), ("journal", 205)]
-        }
-        ("merge", _) => &[("out", 245)],
-        ("post", "file") => &[("lines", 4)],
-        ("contacts_update", "file") => &[("faulty", 4)],
-        ("find_many", "keys") => &[("places", 4)],
-        ("reconcile", "master") => &[("out", 245)],
-        ("pages", "master") => &[("out", 132)],
-        ("contacts_codes", "table") => &[("out", 3)],
-        _ => &[],
-    };
-    let mut fitted = case.clone();
-    for &(output, width) in outputs {
-        if fitted.has(output) {
-            let length = fitted.bytes(output).len().saturating_sub(width * records);
-            fitted.bytes_mut(output).truncate(length);
-        }
-    }
-    fitted
-}
-
 /// The number that goes with a buffer of records, if one does.
 fn counter(name: &str) -> Option<&'static str> {
     match name {
@@ -165,7 +144,7 @@ fn counter(name: &str) -> Option<&'static str> {
 
 impl Shrinker<'_> {
     fn is_over(&self) -> bool {
-        self.tries > 20_000 || Instant::now() > self.end
+        self.tries >= MOST_TRIES || self.lent >= MOST_LENT
     }
 
     /// Takes a candidate where the difference is the same.
@@ -174,6 +153,7 @@ impl Shrinker<'_> {
             return false;
         }
         self.tries += 1;
+        self.lent += candidate.size();
         let kept = (self.keeps)(&candidate);
         if kept {
             self.case = candidate;
@@ -231,25 +211,61 @@ impl Shrinker<'_> {
         candidate
     }
 
+    /// Records, those of a master or table last: a detail may be needed only where its row isn't there.
     fn leave_out(&mut self) {
-        for (at, name, content, written) in self.buffers() {
+        let mut buffers = self.buffers();
+        buffers.sort_by_key(|(_, name, ..)| counter(name).is_some());
+        for (at, name, content, written) in buffers {
             let is_output = written && counter(name).is_none();
             let is_single = matches!(name, "row" | "wanted" | "key" | "state" | "date");
             if is_output || is_single || content == Content::Journal {
                 continue;
             }
+            self.leave_out_others(at, name, content);
+            self.leave_out_last(at, name, content);
             let mut step = self.records(at, name, content).next_power_of_two();
             while step > 0 {
-                let mut from = 0;
-                while from < self.records(at, name, content) && !self.is_over() {
-                    let until = (from + step).min(self.records(at, name, content));
-                    if !self.without(at, name, content, from, until) {
-                        from += step;
-                    }
-                }
+                self.leave_out_by(step, at, name, content);
                 step /= 2;
             }
             self.leave_out_pairs(at, name, content);
+            self.leave_out_and_move(at, name, content);
+            self.leave_out_and_delete(at, name, content);
+        }
+    }
+
+    /// Stretches of so many records, one behind the other.
+    fn leave_out_by(&mut self, step: usize, at: usize, name: &str, content: Content) {
+        let mut from = 0;
+        while from < self.records(at, name, content) && !self.is_over() {
+            let until = (from + step).min(self.records(at, name, content));
+            if !self.without(at, name, content, from, until) {
+                from += step;
+            }
+        }
+    }
+
+    /// All but one of several records.
+    fn leave_out_others(&mut self, at: usize, name: &str, content: Content) {
+        let all = self.records(at, name, content);
+        for one in 0..all {
+            if !(2..=MANY).contains(&self.records(at, name, content)) || self.is_over() {
+                return;
+            }
+            let behind = self.gone(&self.case, at, name, content, one + 1..all);
+            let alone = self.gone(&behind, at, name, content, 0..one);
+            let _ = self.take_mended(fitted(&self.case, &alone), at, content)
+                || self.take_mended(alone, at, content);
+        }
+    }
+
+    /// All but the first of many records, as few of them as it goes: what a number of records brings about may not be there between
+    /// that number and a larger one.
+    fn leave_out_last(&mut self, at: usize, name: &str, content: Content) {
+        let all = self.records(at, name, content);
+        if (FEW + 1..=MANY).contains(&all) {
+            let mut kept = 0..all;
+            kept.any(|kept| self.without(at, name, content, kept, all));
         }
     }
 
@@ -262,7 +278,7 @@ impl Shrinker<'_> {
             while second < self.records(at, name, content) && !left_out && !self.is_over() {
                 let gone = self.gone(&self.case, at, name, content, second..second + 1);
                 let gone = self.gone(&gone, at, name, content, first..first + 1);
-                left_out = self.take_mended(fitted(&gone, name, 2), at, content)
+                left_out = self.take_mended(fitted(&self.case, &gone), at, content)
                     || self.take_mended(gone, at, content);
                 second += 1;
             }
@@ -270,6 +286,49 @@ impl Shrinker<'_> {
             if self.is_over() {
                 return;
             }
+        }
+    }
+
+    /// One of few details, with another put elsewhere.
+    fn leave_out_and_move(&mut self, at: usize, name: &str, content: Content) {
+        let all = self.records(at, name, content);
+        if all > FEW || content != Content::Batch {
+            return;
+        }
+        let tries =
+            (0..all.pow(3)).map(|number| (number / all / all, number / all % all, number % all));
+        for (gone, moved, to) in tries.filter(|&(gone, moved, to)| gone != moved && moved != to) {
+            if self.records(at, name, content) < all {
+                return;
+            }
+            let mut candidate = self.gone(&self.case, at, name, content, gone..gone + 1);
+            if let Value::Bytes(bytes) = &mut candidate.values[at] {
+                let last = all - 2;
+                let moved = moved - usize::from(gone < moved);
+                let detail: Vec<u8> = bytes.drain(moved * RECORD..(moved + 1) * RECORD).collect();
+                let to = to.min(last) * RECORD;
+                bytes.splice(to..to, detail);
+            }
+            let _ = self.take_mended(fitted(&self.case, &candidate), at, content);
+        }
+    }
+
+    /// One of few details, with a row deleted from the beginning.
+    fn leave_out_and_delete(&mut self, at: usize, name: &str, content: Content) {
+        let all = self.records(at, name, content);
+        if all > FEW || content != Content::Batch || !self.case.has("rows") {
+            return;
+        }
+        let rows = row_count(&self.case).min(FEW);
+        for (gone, row) in (0..all * rows).map(|number| (number / rows, number % rows)) {
+            if self.records(at, name, content) < all {
+                return;
+            }
+            let mut candidate = self.gone(&self.case, at, name, content, gone..gone + 1);
+            let row = &mut candidate.bytes_mut("master")[row * ROW..(row + 1) * ROW];
+            put(row, 66, &[ZERO; 8]);
+            put(row, 196, &[DELETED, ZERO, ZERO]);
+            let _ = self.take_mended(fitted(&self.case, &candidate), at, content);
         }
     }
 
@@ -296,8 +355,10 @@ impl Shrinker<'_> {
         until: usize,
     ) -> bool {
         let candidate = self.gone(&self.case, at, name, content, from..until);
-        let fitted = fitted(&candidate, name, until - from);
-        self.take_mended(fitted, at, content) || self.take_mended(candidate, at, content)
+        let is_large = self.records(at, name, content) > MANY;
+        let fitted = fitted(&self.case, &candidate);
+        self.take_mended(fitted, at, content)
+            || !is_large && self.take_mended(candidate, at, content)
     }
 
     /// A case without some of its records.
@@ -415,6 +476,9 @@ impl Shrinker<'_> {
                 None => length,
             };
             for start in (0..kept).step_by(width) {
+                if self.is_over() {
+                    return;
+                }
                 let end = (start + width).min(length);
                 let record = match &self.case.values[at] {
                     Value::Bytes(bytes) => bytes[start..end].to_vec(),
@@ -496,59 +560,4 @@ fn simpler(content: Content, field: &Field, present: &[u8]) -> Vec<Vec<u8>> {
         return Vec::new();
     }
     vec![blank, zeros, one, letter, cut]
-}
-
-/// Takes a row's place out of a journal; what stands behind the last entry that can be read stays.
-fn forget_place(journal: &mut Vec<u8>, place: u64) {
-    let mut rest = &journal[..];
-    let (Some(before), Some(after)) = (take_number(&mut rest), take_number(&mut rest)) else {
-        return;
-    };
-    let mut entries = Vec::new();
-    while let Some(entry) = take_entry(&mut rest) {
-        entries.push(entry);
-    }
-    let entry = entries.iter().find(|(at, _)| *at == place);
-    let was_new = entry.is_some_and(|(_, old)| old.is_none());
-    let mut left = Vec::new();
-    put_number(&mut left, before - u64::from(!was_new && before > 0));
-    put_number(&mut left, after.saturating_sub(1));
-    for (at, old) in entries.iter().filter(|(at, _)| *at != place) {
-        put_number(&mut left, at - u64::from(*at > place));
-        left.push(u8::from(old.is_some()));
-        left.extend(old.iter().flatten());
-    }
-    left.extend(rest);
-    *journal = left;
-}
-
-/// Takes an entry off the front: its place, and the old row of a changed one.
-fn take_entry(bytes: &mut &[u8]) -> Option<(u64, Option<Vec<u8>>)> {
-    let mut rest = *bytes;
-    let place = take_number(&mut rest)?;
-    let (&mark, behind) = rest.split_first()?;
-    let (old, behind) = match mark {
-        0 => (None, behind),
-        1 => {
-            let (old, behind) = behind.split_at_checked(ROW)?;
-            (Some(old.to_vec()), behind)
-        }
-        _ => return None,
-    };
-    *bytes = behind;
-    Some((place, old))
-}
-
-fn take_number(bytes: &mut &[u8]) -> Option<u64> {
-    let last = bytes
-        .iter()
-        .position(|&byte| byte < 0x80)
-        .filter(|&last| last < 9)?;
-    let (groups, rest) = bytes.split_at(last + 1);
-    *bytes = rest;
-    let value = groups
-        .iter()
-        .rev()
-        .fold(0, |higher, &byte| higher << 7 | u64::from(byte & 0x7F));
-    Some(value)
 }

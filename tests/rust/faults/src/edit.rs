@@ -1,5 +1,5 @@
 //! Faults as files: a line that names the wrong engine, then for each change `file:`, `old:` (lines that stand in the file once)
-//! and `new:`. A fault that no small case shows has a line `least:` before them, with the details and rows that it takes.
+//! and `new:`. A fault that no small case shows has a line `least:` before them, with the details and rows that it takes and why.
 
 use std::fs;
 use std::path::Path;
@@ -69,13 +69,12 @@ fn parsed(label: String, text: &str) -> Result<Edit, String> {
     })
 }
 
-/// `DETAILS details, ROWS rows`
+/// `DETAILS details, ROWS rows: WHY`
 fn two_numbers(text: &str) -> Option<(usize, usize)> {
-    let (details, rows) = text.split_once(" details, ")?;
-    Some((
-        details.parse().ok()?,
-        rows.strip_suffix(" rows")?.parse().ok()?,
-    ))
+    let (details, rest) = text.split_once(" details, ")?;
+    let (rows, why) = rest.split_once(" rows: ")?;
+    let numbers = (details.parse().ok()?, rows.parse().ok()?);
+    (!why.is_empty()).then_some(numbers)
 }
 
 impl Edit {

@@ -16,11 +16,12 @@ use std::process::{Command, ExitCode};
 
 use edit::Edit;
 
-/// Rounds of `agree`: the options, the second round only where the first finds nothing.
+/// Rounds of `agree`: the options, a later round only where those before find nothing. They have numbers of cases, so that a busy machine changes
+/// nothing.
 const ROUNDS: [&[&str]; 3] = [
     &["--cases", "2000", "--seed", "1"],
     &["--cases", "20000", "--seed", "2"],
-    &[],
+    &["--cases", "300000", "--seed", "3"],
 ];
 /// What a difference may have at most.
 const MOST_DETAILS: usize = 3;
@@ -68,51 +69,35 @@ fn run(command: &mut Command) -> Result<(i32, String), String> {
     }
 }
 
+/// rustc for a crate of one kind, without warnings.
+fn compiler(kind: &str, name: &str, source: &Path, made: &Path) -> Command {
+    let mut command = Command::new(env::var("RUSTC").unwrap_or("rustc".to_string()));
+    command
+        .args(["--edition", "2021", "-A", "warnings"])
+        .args(["-C", "opt-level=1", "-C", "overflow-checks=on"])
+        .args(["--crate-type", kind, "--crate-name", name])
+        .arg(source)
+        .arg("-o")
+        .arg(made);
+    command
+}
+
 /// A copy of the reference with a fault, as a shared library.
 fn build(edit: &Edit, work: &Path) -> Result<PathBuf, String> {
     let sources = root().join("tests/rust");
     let copy = work.join("reference");
     let _ = fs::remove_dir_all(&copy);
     edit.plant(&sources.join("reference/src"), &copy)?;
-    let rustc = env::var("RUSTC").unwrap_or("rustc".to_string());
     // what a fault leaves as it was isn't compiled again
     let parts = format!("incremental={}", work.join("parts").display());
     let rlib = work.join("libreference.rlib");
+    let mut reference = compiler("rlib", "reference", &copy.join("lib.rs"), &rlib);
+    let built = run(reference.args(["-C", &parts]))?;
     let library = work.join("libfaulty.so");
-    let options = [
-        "--edition",
-        "2021",
-        "-C",
-        "opt-level=1",
-        "-C",
-        "overflow-checks=on",
-        "-A",
-        "warnings",
-    ];
-    let mut reference = Command::new(&rustc);
-    reference.args(options).args(["-C", &parts]).args([
-        "--crate-type",
-        "rlib",
-        "--crate-name",
-        "reference",
-        "-o",
-    ]);
-    let built = run(reference.arg(&rlib).arg(copy.join("lib.rs")))?;
-    let mut engine = Command::new(&rustc);
-    engine.args(options).args([
-        "--crate-type",
-        "cdylib",
-        "--crate-name",
-        "engine",
-        "-C",
-        "panic=abort",
-        "-o",
-    ]);
-    engine
-        .arg(&library)
-        .arg("--extern")
-        .arg(format!("reference={}", rlib.display()));
-    let linked = run(engine.arg(sources.join("engine/src/lib.rs")))?;
+    let source = sources.join("engine/src/lib.rs");
+    let mut engine = compiler("cdylib", "engine", &source, &library);
+    engine.args(["-C", "panic=abort", "--extern"]);
+    let linked = run(engine.arg(format!("reference={}", rlib.display())))?;
     match built.0 + linked.0 {
         0 => Ok(library),
         _ => Err(format!("{} doesn't compile", edit.label)),
