@@ -148,10 +148,10 @@ judged17 setting row rec =
 abbrev pub code : ℕ → Bool → List ℕ
 code c holds = cond holds (c ∷ []) []
 
--- all that hold, rising, where 09 and 17 hold or not
-abbrev pub errorsWith : List ℕ → ℕ → List ℕ → Bool → Bool → List ℕ → List ℕ
-errorsWith state year list holds09 holds17 rec =
-    code 1 (error01 state rec)
+-- all that hold, rising
+unfoldable pub errors : Setting → Option (List ℕ) → List ℕ → List ℕ
+errors setting row rec =
+    code 1 (error01 (setting .state) rec)
     ++ (code 2 (error02 rec)
     ++ (code 3 (error03 rec)
     ++ (code 4 (error04 rec)
@@ -159,18 +159,13 @@ errorsWith state year list holds09 holds17 rec =
     ++ (code 6 (ifKnown rec (error06 rec))
     ++ (code 7 (ifKnown rec (error07 rec))
     ++ (code 8 (ifKnown rec (error08 rec))
-    ++ (code 9 holds09
-    ++ (code 10 (ifKnown rec (error10 list rec))
+    ++ (code 9 (judged09 setting row rec)
+    ++ (code 10 (ifKnown rec (error10 (setting .list) rec))
     ++ (code 11 (ifKnown rec (error11 rec))
     ++ (code 12 (ifKnown rec (error12 rec))
-    ++ (code 13 (ifKnown rec (error13 year rec))
+    ++ (code 13 (ifKnown rec (error13 (setting .year) rec))
     ++ (code 14 (ifKnown rec (error14 rec))
     ++ (code 15 (ifKnown rec (error15 rec))
     ++ (code 16 (ifKnown rec (error16 rec))
-    ++ (code 17 holds17
+    ++ (code 17 (judged17 setting row rec)
     ++ code 18 (error18 rec)))))))))))))))))
-
--- all that hold
-unfoldable pub errors : Setting → Option (List ℕ) → List ℕ → List ℕ
-errors setting row rec =
-    errorsWith (setting .state) (setting .year) (setting .list) (judged09 setting row rec) (judged17 setting row rec) rec
