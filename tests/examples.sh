@@ -1,13 +1,15 @@
 #!/usr/bin/env bash
 # Builds each example, runs it and compares what it prints with what was worked out by hand. A line for each; status 1 at the first that
-# differs or fails. The library is built where it is missing or older than a file of crates/.
+# differs or fails. The library and apply-batch are built where they are missing or older than a file of crates/.
 set -eu
 cd -- "$(dirname -- "$(readlink -f -- "$0")")/.."
 library=target/staticlib/libfantanolive.a
 log=target/examples/build.log
 mkdir -p target/examples
 if [ -f "$library" ] && [ -z "$(find crates crates.txt -newer "$library")" ]; then only=--examples; else only=; fi
-if ! bin/build-library $only >"$log" 2>&1; then
+# shellcheck source=tests/fresh-apply-batch.sh
+. tests/fresh-apply-batch.sh
+if ! { bin/build-library $only && fresh_apply_batch; } >"$log" 2>&1; then
     cat "$log"
     echo "examples: not built"
     exit 1

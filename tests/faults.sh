@@ -1,15 +1,16 @@
 #!/usr/bin/env bash
 # Faults of apply-batch: files that are missing, can't be read or are too long; folders and disks that can't be written; an output that takes nothing; runs
 # that are cut off or fail at each system call. Whatever happens, master.bin is the old or the new one, whole, and the next run is right.
-# Assumes bash, coreutils and a built program. strace, mount and a second user (for root) are used where they are there; else a line says what is skipped.
+# Assumes bash and coreutils; the program is proved and built where it is missing or older than crates/. strace, mount and a second user (for root) are used where
+# they are there; else a line says what is skipped.
 # It prints a line for each case that fails, and at the end `faults: N cases passed`. It writes in a temporary folder alone.
 set -u
 export LC_ALL=C
 umask 022
 root=$(dirname -- "$(dirname -- "$(readlink -f -- "$0")")")
-if [ ! -x "$root/target/bin/apply_batch" ]; then
-    (cd -- "$root" && rt check apply_batch) >&2 || exit 2
-fi
+# shellcheck source=tests/fresh-apply-batch.sh
+. "$root/tests/fresh-apply-batch.sh"
+(cd -- "$root" && fresh_apply_batch) >&2 || exit 2
 work=$(mktemp -d) || exit 2
 small=$work/small
 

@@ -1,18 +1,26 @@
 #!/usr/bin/env bash
 # Holds the contents of docs/MANUAL.md against its headings, and its tables against the rest: codes and refusals against include/fantanolive_text.h, the orders of refusals against
 # include/fantanolive.h, columns and states against the definitions in crates/*/specs, names of theorems against those that are there, the version
-# against the header. Prints each difference, and then status 1.
+# against the header. Prints each difference, and each list that is empty since a heading or a file has another name, and then status 1. Wants the built program.
 set -u
 export LC_ALL=C
 cd -- "$(dirname -- "$(readlink -f -- "$0")")/.." || exit 2
 manual=docs/MANUAL.md
+program=target/program/fantanolive
+if [ ! -x "$program" ]; then
+    echo "manual: $program is not built (bin/build-program)" >&2
+    exit 1
+fi
 work=$(mktemp -d) || exit 2
 trap 'rm -rf -- "$work"' EXIT
 failed=
 
-# compare WHAT FOUND WANTED: two texts
+# compare WHAT FOUND WANTED: two texts, neither of them empty
 compare() {
-    if ! diff <(printf '%s\n' "$2") <(printf '%s\n' "$3") >"$work/diff"; then
+    if [ -z "$2$3" ]; then
+        echo "manual: $1: there is nothing to compare"
+        failed=yes
+    elif ! diff <(printf '%s\n' "$2") <(printf '%s\n' "$3") >"$work/diff"; then
         echo "manual: $1 (< the manual, > the rest):"
         cat "$work/diff"
         failed=yes
@@ -32,16 +40,17 @@ anchors() {
 }
 compare contents "$(sed -nE 's/^([0-9]+)\. \[(.*)\]\(#(.*)\)$/\1 \2 \3/p' "$manual")" \
     "$(grep '^## ' "$manual" | sed 's/^## //' | paste -d' ' - <(grep '^## ' "$manual" | anchors) | awk '{ print NR, $0 }')"
-compare 'links that lead nowhere' "$(grep -oE '\]\(#[^)]*\)' "$manual" | sed -E 's/^\]\(#(.*)\)$/\1/' | sort -u | comm -23 - <(grep -E '^##+ ' "$manual" | anchors | sort -u))" ''
+links=$(grep -oE '\]\(#[^)]*\)' "$manual" | sed -E 's/^\]\(#(.*)\)$/\1/' | sort -u)
+compare 'links, and those that lead somewhere' "$links" "$(comm -12 <(echo "$links") <(grep -E '^##+ ' "$manual" | anchors | sort -u))"
 
 # --- Codes and refusals.
 
 # rows_of TABLE FORMAT: the entries of fantanolive_text.h as rows of a table
 rows_of() {
-    local number wrong where mend
+    local number wrong where fix
     sed -n "/ $1\[\] = {\$/,/^};\$/p" include/fantanolive_text.h | sed '1d;$d' |
         sed -E 'N;N;N;s/^    \{([0-9]+),\n     "(.*)",\n     "(.*)",\n     "(.*)"\},$/\1|\2|\3|\4/' |
-        while IFS='|' read -r number wrong where mend; do printf "| $2 | %s | %s | %s |\n" "$number" "$wrong" "$where" "$mend"; done
+        while IFS='|' read -r number wrong where fix; do printf "| $2 | %s | %s | %s |\n" "$number" "$wrong" "$where" "$fix"; done
 }
 compare codes "$(section '## Codes' | grep '^| [0-9]')" "$(rows_of fantanolive_code_texts %02d)"
 compare refusals "$(section '## Refusals' | grep '^| [0-9]')" "$(rows_of fantanolive_refusal_texts %d)"
@@ -72,8 +81,14 @@ table_of() {
 
 # columns_of HEADING WIDTH FILE: the table's columns follow each other up to the width, and each field of the file begins and ends with one of them
 columns_of() {
-    local shown next=1 first last
+    local shown fields next=1 first last
     shown=$(table_of "$1" "$2")
+    fields=$(sed -nE 's/^[a-zA-Z0-9]+ (rec|row|line|last) = columns ([0-9]+) ([0-9]+) .*/\2 \3/p' "crates/$3")
+    if [ -z "$shown" ] || [ -z "$fields" ]; then
+        echo "manual: $1: no table in the manual, or no field in crates/$3"
+        failed=yes
+        return
+    fi
     while read -r first last _; do
         compare "$1, columns" "$first" "$next"
         next=$((last + 1))
@@ -81,7 +96,7 @@ columns_of() {
     compare "$1, width" "$((next - 1))" "$2"
     while read -r first last; do
         compare "$1, a field of $3" "$(grep -c "^$first " <<<"$shown") $(grep -c "^[0-9]* $last " <<<"$shown")" '1 1'
-    done < <(sed -nE 's/^[a-zA-Z0-9]+ (rec|row|line|last) = columns ([0-9]+) ([0-9]+) .*/\2 \3/p' "crates/$3")
+    done <<<"$fields"
 }
 
 columns_of 'A row of the master' 200 casemaster/specs/Row.antt
@@ -105,33 +120,27 @@ names_of() {
     record=${record// /-}
     printf '%s' "$record$4${record:${#4}}" >"$work/file"
     [ "$3" = master ] || options+=(--ascii)
-    listed=$(target/program/fantanolive show "$3" "$work/file" "${options[@]}" | sed -nE \
+    listed=$("$program" show "$3" "$work/file" "${options[@]}" | sed -nE \
         -e 's/^  (.*[^ ])  +([0-9]+)-([0-9]+)(  .*)?$/\2 \3 \1/p' -e 's/^  (.*[^ ])  +([0-9]+)(  .*)?$/\2 \2 \1/p')
     compare "$1, names" "$(table_of "$1" "$2" | awk -v from="$from" '$1 >= from')" "$(awk -v from="$from" '$1 >= from' <<<"$listed")"
 }
 
-if [ -x target/program/fantanolive ]; then
-    names_of 'A row of the master' 200 master ''
-    names_of 'A detail of a batch' 245 batch ''
-    names_of 'The control record of a batch' 245 batch '--CTL'
-    names_of 'A reject record' 245 rejects '' 228
-    names_of 'The control record of a reject file' 245 rejects '--CTL'
-    names_of 'A REC record of a reconciliation file' 245 reconciliation 'REC'
-    names_of 'The RCT record of a reconciliation file' 245 reconciliation 'RCT'
-    names_of 'A contact record' 220 contacts ''
-    names_of 'A line of a collection file' 240 collections ''
-    names_of 'The TOTAL record of a collection file' 240 collections '-----TOTAL    '
-else
-    echo 'skipped: the program is not built, so the names of fields are not compared with those it shows'
-fi
+names_of 'A row of the master' 200 master ''
+names_of 'A detail of a batch' 245 batch ''
+names_of 'The control record of a batch' 245 batch '--CTL'
+names_of 'A reject record' 245 rejects '' 228
+names_of 'The control record of a reject file' 245 rejects '--CTL'
+names_of 'A REC record of a reconciliation file' 245 reconciliation 'REC'
+names_of 'The RCT record of a reconciliation file' 245 reconciliation 'RCT'
+names_of 'A contact record' 220 contacts ''
+names_of 'A line of a collection file' 240 collections ''
+names_of 'The TOTAL record of a collection file' 240 collections '-----TOTAL    '
 
 # --- Statuses: those of the help.
 
-if [ -x target/program/fantanolive ]; then
-    shown=$(section '### For other programs' | sed -nE 's/^\| ([0-9]) \| (.*) \|$/\1  \2/p')
-    helped=$(target/program/fantanolive --help | sed -n '/^Exit status:$/,$p' | sed 1d | sed -E -e ':join' -e '$!N' -e 's/\n {5}/ /' -e 't join' -e 'P' -e 'D' | sed 's/^  //')
-    compare statuses "$shown" "$helped"
-fi
+shown=$(section '### For other programs' | sed -nE 's/^\| ([0-9]) \| (.*) \|$/\1  \2/p')
+helped=$("$program" --help | sed -n '/^Exit status:$/,$p' | sed 1d | sed -E -e ':join' -e '$!N' -e 's/\n {5}/ /' -e 't join' -e 'P' -e 'D' | sed 's/^  //')
+compare statuses "$shown" "$helped"
 
 # --- Names of definitions and theorems.
 

@@ -1,6 +1,6 @@
 #!/usr/bin/env bash
 # Replays every command of the `console` blocks of docs/MANUAL.md, in order, in a temporary folder (tests/replay.sh), and compares what each prints with what is
-# shown there. Skipped where the program isn't built. Prints each difference, and then status 1.
+# shown there. Wants the built program. Prints each difference, and then status 1.
 # With --write it puts what the commands print now into the manual in place of what is shown; what has changed is then for a person to read.
 set -u
 export LC_ALL=C
@@ -15,8 +15,8 @@ case "$*" in
     ;;
 esac
 if [ ! -x "$root/target/program/fantanolive" ]; then
-    echo 'skipped: the program is not built'
-    exit 0
+    echo 'manual: target/program/fantanolive is not built (bin/build-program)' >&2
+    exit 1
 fi
 work=$(mktemp -d) || exit 2
 trap 'rm -rf -- "$work"' EXIT

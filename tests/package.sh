@@ -97,7 +97,7 @@ for arguments in '' --without-program --uninstall --unknown '-x somewhere' 'one 
 done
 want 'install --help' "$(bin/install --help | head -n 1)" 'usage: install [--without-program] PREFIX'
 
-# --- What is taken away: what was installed, and nothing else.
+# --- What is uninstalled: what was installed, and nothing else.
 
 mkdir -p "$work/place in use/lib"
 echo own >"$work/place in use/lib/own.txt"
@@ -108,7 +108,7 @@ echo '../outside.txt' >>"$work/place in use/share/fantanolive/installed.txt"
 touch "$work/place in use/lib/libfantanolive.so.0.9.9" "$work/outside.txt"
 bin/install "${with[@]}" "$work/place in use" >/dev/null
 want 'a file of a version before' "$([ -e "$work/place in use/lib/libfantanolive.so.0.9.9" ] && echo there)" ''
-want 'uninstall' "$(bin/install --uninstall "$work/place in use")" "install: taken away from $work/place in use"
+want 'uninstall' "$(bin/install --uninstall "$work/place in use")" "install: uninstalled from $work/place in use"
 want 'what is left' "$(cd -- "$work/place in use" && find . | sort)" '.
 ./lib
 ./lib/own.txt'

@@ -9,8 +9,8 @@ root=$(dirname -- "$(dirname -- "$(readlink -f -- "$0")")")
 cd -- "$root" || exit 2
 unset DESTDIR PREFIX FANTANOLIVE_LIBRARY LD_LIBRARY_PATH FANTANOLIVE_LIB_DIR FANTANOLIVE_INCLUDE_DIR PKG_CONFIG_PATH
 if [ ! -x target/program/fantanolive ]; then
-    echo 'skipped: the program is not built'
-    exit 0
+    echo 'packages: target/program/fantanolive is not built (bin/build-program)' >&2
+    exit 1
 fi
 work=$(mktemp -d) || exit 2
 trap 'rm -rf -- "$work"' EXIT

@@ -1,7 +1,7 @@
 #!/usr/bin/env bash
 # Replays the quick start of README.md with the tarball of bin/package, in an empty folder, without the program of the repository and without the Rattle kit on the
 # path, and compares what each command prints with what is shown there; and holds that of the manual against it. It must take less than five minutes, and takes
-# seconds. Skipped where the program isn't built. Prints each difference, and then status 1. With --write it puts what the commands print now into both.
+# seconds. Wants the built program. Prints each difference, and then status 1. With --write it puts what the commands print now into both.
 set -u
 export LC_ALL=C PYTHONDONTWRITEBYTECODE=1
 umask 022
@@ -15,8 +15,8 @@ case "$*" in
     ;;
 esac
 if [ ! -x target/program/fantanolive ]; then
-    echo 'skipped: the program is not built'
-    exit 0
+    echo 'quick-start: target/program/fantanolive is not built (bin/build-program)' >&2
+    exit 1
 fi
 work=$(mktemp -d) || exit 2
 trap 'rm -rf -- "$work"' EXIT

@@ -1,15 +1,15 @@
 #!/usr/bin/env bash
 # Builds everything from a copy of the source in another folder, in another time zone and with another mask, and compares the packages (bin/package) with those of this folder:
 # the same bytes in every file, and no path of either folder in the program or the libraries. The archive is built there over the proved crates of this folder; it is copied, with a
-# line, where the Rattle kit is missing or a crate has changed since it was built. Skipped where the program isn't built. Prints what differs, and then status 1.
+# line, where the Rattle kit is missing or a crate has changed since it was built. Wants the built program. Prints what differs, and then status 1.
 set -u
 export LC_ALL=C PYTHONDONTWRITEBYTECODE=1
 root=$(dirname -- "$(dirname -- "$(readlink -f -- "$0")")")
 cd -- "$root" || exit 2
 unset DESTDIR SOURCE_DATE_EPOCH
 if [ ! -x target/program/fantanolive ]; then
-    echo 'skipped: the program is not built'
-    exit 0
+    echo 'same-bytes: target/program/fantanolive is not built (bin/build-program)' >&2
+    exit 1
 fi
 work=$(mktemp -d) || exit 2
 trap 'rm -rf -- "$work"' EXIT

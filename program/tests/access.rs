@@ -112,7 +112,7 @@ fn attributes_and_acls_are_kept() {
         set_mode(&folder, "two.bin", 0o600);
         let path = folder.path("two.bin");
         if !set(&path, name, &value) {
-            println!("skipped: the disk takes no {name}");
+            skipped(&format!("the disk takes no {name}"));
             continue;
         }
         let before = (mode(&folder, "two.bin"), get(&path, name));
@@ -128,7 +128,7 @@ fn an_acl_of_the_folder_widens_nothing() {
     let path = folder.path("two.bin");
     set_mode(&folder, "two.bin", 0o640);
     if !set(&folder.path("."), "system.posix_acl_default", &acl()) {
-        println!("skipped: the disk takes no ACL");
+        skipped("the disk takes no ACL");
         return;
     }
     assert_eq!(folder.run(&POST).status, 1);
@@ -140,7 +140,7 @@ fn an_acl_of_the_folder_widens_nothing() {
 fn owners_are_kept() {
     let folder = folder("access-owner");
     if chown(folder.path("two.bin"), Some(4711), Some(4712)).is_err() {
-        println!("skipped: files can't be given away here");
+        skipped("files can't be given away here");
         return;
     }
     assert_eq!(folder.run(&POST).status, 1);
@@ -159,7 +159,7 @@ fn a_file_whose_owner_can_not_be_kept_is_refused() {
     let mut command = folder.command(&POST);
     command.uid(65_534).gid(65_534);
     let Ok(output) = command.output() else {
-        println!("skipped: no other user can run the program");
+        skipped("no other user can run the program");
         return;
     };
     let ran: Ran = output.into();
@@ -177,13 +177,13 @@ fn a_group_that_can_not_be_kept_is_refused() {
     set_mode(&folder, "two.bin", 0o660);
     set_mode(&folder, "weekly.bin", 0o644);
     if chown(folder.path("two.bin"), Some(65_534), Some(4712)).is_err() {
-        println!("skipped: files can't be given away here");
+        skipped("files can't be given away here");
         return;
     }
     let mut command = folder.command(&POST);
     command.uid(65_534).gid(65_534);
     let Ok(output) = command.output() else {
-        println!("skipped: no other user can run the program");
+        skipped("no other user can run the program");
         return;
     };
     let ran: Ran = output.into();
@@ -200,13 +200,13 @@ fn a_label_that_can_not_be_kept_is_refused() {
     set_mode(&folder, "weekly.bin", 0o644);
     let given = chown(&path, Some(65_534), Some(65_534)).is_ok();
     if !given || !set(&path, "security.label", b"secret") {
-        println!("skipped: the disk takes no security label");
+        skipped("the disk takes no security label");
         return;
     }
     let mut command = folder.command(&POST);
     command.uid(65_534).gid(65_534);
     let Ok(output) = command.output() else {
-        println!("skipped: no other user can run the program");
+        skipped("no other user can run the program");
         return;
     };
     let ran: Ran = output.into();

@@ -62,7 +62,7 @@ fn a_line_for_each_run() {
     ];
     for (member, print) in prints {
         let Some(print) = print else {
-            println!("skipped: there is no sha256sum");
+            skipped("there is no sha256sum");
             return;
         };
         assert!(

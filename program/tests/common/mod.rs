@@ -2,12 +2,22 @@
 #![allow(dead_code)] // each test uses a part
 
 use std::fs;
-use std::io::Write;
+use std::io::{stderr, Write};
 use std::path::{Path, PathBuf};
 use std::process::{Command, Output, Stdio};
 use std::sync::atomic::{AtomicUsize, Ordering};
 
 pub const PROGRAM: &str = env!("CARGO_BIN_EXE_fantanolive");
+
+/// Says what can't be tested on this machine, with the number of such lines so far. Standard error itself
+/// is written to: what `println!` prints is held back where a test passes.
+pub fn skipped(why: &str) {
+    static COUNT: AtomicUsize = AtomicUsize::new(0);
+    let count = COUNT.fetch_add(1, Ordering::Relaxed) + 1;
+    let thread = std::thread::current();
+    let test = thread.name().unwrap_or("a test");
+    writeln!(stderr(), "skipped ({count}): {test}: {why}").expect("standard error takes it");
+}
 
 /// A folder of a test, removed at its end.
 pub struct Folder(PathBuf);
