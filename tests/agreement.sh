@@ -1,5 +1,5 @@
 #!/usr/bin/env bash
-# Agreement with another engine, with the program target/program/fantanolive and the reference behind the C interface as the other engine:
+# Agreement with another engine, with the program target/program/fantanolive, which starts fantanolive-agree, and the reference behind the C interface as the other engine:
 # `agree` finds no difference and sees everything; every fixed case holds over the library, the reference and the example in Python; faults
 # planted in copies of the reference are found by `agree` and by the fixed cases; crashes, hangs and writing outside are told; what is
 # saved is replayed; the run in the manual is as it is shown there. With --long all faults are planted, a million cases are run and
@@ -44,6 +44,13 @@ want 'what was never seen' "$(grep 'not seen' "$work/out")" ''
 want 'the library itself' "$? $(grep -c '"outcome":"no difference' "$work/out")" '0 1'
 "$program" agree "$reference" --calls find,merge --cases 2000 --seed 3 >"$work/out"
 want 'some calls' "$? $(grep -c '^apply' "$work/out") $(grep -c '^merge' "$work/out")" '0 0 1'
+
+# --- The kit is in the second program alone, which takes the same arguments.
+
+want 'the kit in the first program' "$(grep -ac FANTANOLIVE_AGREE_LIBRARY "$program")" 0
+want 'the kit in the second program' "$(grep -ac FANTANOLIVE_AGREE_LIBRARY "$program-agree" | sed 's/^[1-9][0-9]*$/there/')" there
+"$program-agree" "$reference" --calls find,merge --cases 2000 --seed 3 >"$work/own"
+want 'the second program by itself' "$? $(diff <(sed 's/, [0-9.]* seconds$//' "$work/out") <(sed 's/, [0-9.]* seconds$//' "$work/own"))" '0 '
 
 if [ "${1-}" = --long ]; then
     "$program" agree "$reference" --cases 1 --limits --json >"$work/out"

@@ -55,7 +55,7 @@ listing() {
 
 expected() {
     if [ ${#with[@]} -eq 0 ]; then
-        echo '755 bin/fantanolive'
+        printf '755 %s\n' bin/fantanolive libexec/fantanolive/fantanolive-agree
         for file in target/docs/man/man1/*; do echo "644 share/man/man1/${file##*/}"; done
         printf '644 share/%s\n' bash-completion/completions/fantanolive zsh/site-functions/_fantanolive fish/vendor_completions.d/fantanolive.fish
     fi
@@ -131,6 +131,12 @@ cp target/staticlib/libfantanolive.a "$work/unbuilt/target/staticlib"
 "$work/unbuilt/bin/install" --without-program "$work/nothing" >"$work/out" 2>"$work/err"
 want 'install of an old shared library' "$? $(cat "$work/err")" "2 install: $library is older than the archive: run bin/build-shared"
 want 'what it installs then' "$([ -e "$work/nothing" ] && echo something)" ''
+touch "$work/unbuilt/$library"
+mkdir "$work/unbuilt/target/program" && touch "$work/unbuilt/target/program/fantanolive"
+"$work/unbuilt/bin/install" "$work/nothing" >"$work/out" 2>"$work/err"
+want 'install of one program alone' "$? $(sed 's/ is not built: .*//' "$work/err" | tr '\n' ' ')" '2 install: target/program/fantanolive-agree install: target/docs/man/man1/fantanolive.1 '
+"$work/unbuilt/bin/install" --without-program "$work/without" >"$work/out"
+want 'programs without the program' "$(cd -- "$work/without" && find . -name bin -o -name libexec -o -name man1)" ''
 rm "$work/unbuilt/target/staticlib/libfantanolive.a"
 "$work/unbuilt/bin/build-shared" >"$work/out" 2>"$work/err"
 want 'build-shared without the archive' "$? $(cat "$work/err")" '2 build-shared: target/staticlib/libfantanolive.a is not built: run bin/build-library'
@@ -245,6 +251,7 @@ else
 fi
 if [ ${#with[@]} -eq 0 ]; then
     want 'the program' "$("$prefix/bin/fantanolive" --version)" "fantanolive $version"
+    want 'its command agree' "$(cd / && "$prefix/bin/fantanolive" agree "$prefix/lib/$soname" --calls find --cases 50 --seed 1 | head -n 1 | sed 's/ [0-9]* cases.*//')" 'no difference in'
 fi
 
 if [ "$failed" != 0 ]; then

@@ -38,6 +38,7 @@ want 'files with a checksum' "$(cd -- "$packages" && sed 's/^[0-9a-f]*  //' SHA2
 # used WHERE PREFIX: the program, the headers and the archive of a package
 used() {
     want "$1: the program" "$("$2/bin/fantanolive" --version)" "fantanolive $version"
+    want "$1: its command agree" "$("$2/bin/fantanolive" agree "$2/lib/libfantanolive.so" --calls find --cases 50 --seed 1 | head -n 1 | sed 's/ [0-9]* cases.*//')" 'no difference in'
     ${CC:-cc} -std=c99 -I"$2/include" -o "$work/example" examples/c/apply.c "$2/lib/libfantanolive.a"
     want "$1: the archive" "$("$work/example" | diff examples/c/expected.txt - && echo same)" same
     ${CC:-cc} -std=c99 -I"$2/include" -o "$work/example" examples/c/apply.c -L"$2/lib" -lfantanolive -Wl,-rpath,"$2/lib"

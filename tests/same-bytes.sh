@@ -1,7 +1,7 @@
 #!/usr/bin/env bash
 # Builds everything from a copy of the source in another folder, in another time zone and with another mask, and compares the packages (bin/package) with those of this folder:
-# the same bytes in every file, and no path of either folder in the program or the libraries. The archive is built there over the proved crates of this folder; it is copied, with a
-# line, where the Rattle kit is missing or a crate has changed since it was built. Wants the built program. Prints what differs, and then status 1.
+# the same bytes in every file, and no path of either folder in the programs or the libraries. The archive is built there over the proved crates of this folder; it is copied, with a
+# line, where the Rattle kit is missing or a crate has changed since it was built. Wants the built programs. Prints what differs, and then status 1.
 set -u
 export LC_ALL=C PYTHONDONTWRITEBYTECODE=1
 root=$(dirname -- "$(dirname -- "$(readlink -f -- "$0")")")
@@ -48,17 +48,19 @@ if ! cmp "$archive" "$other/$archive"; then
     echo 'same-bytes: another folder gives another archive'
     failed=yes
 fi
-if ! cmp target/program/fantanolive "$other/target/program/fantanolive"; then
-    echo 'same-bytes: another folder gives another program (was bin/build-program run on this source?)'
-    failed=yes
-fi
+for program in target/program/fantanolive{,-agree}; do
+    if ! cmp "$program" "$other/$program"; then
+        echo 'same-bytes: another folder gives another program (was bin/build-program run on this source?)'
+        failed=yes
+    fi
+done
 if ! diff target/packages/SHA256SUMS "$other/target/packages/SHA256SUMS"; then
     echo 'same-bytes: another folder gives other packages'
     failed=yes
 fi
 for path in "$root" "$work" "${HOME:-/root}/"; do
-    if grep -aqF -- "$path" {,"$other/"}{target/program/fantanolive,target/sharedlib/libfantanolive.so,"$archive"}; then
-        echo "same-bytes: the program or a library has the path $path in it"
+    if grep -aqF -- "$path" {,"$other/"}{target/program/fantanolive,target/program/fantanolive-agree,target/sharedlib/libfantanolive.so,"$archive"}; then
+        echo "same-bytes: a program or a library has the path $path in it"
         failed=yes
     fi
 done

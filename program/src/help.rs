@@ -74,9 +74,9 @@ pub fn of_program() -> String {
     text
 }
 
-/// `fantanolive VERSION`.
-pub fn version() -> String {
-    format!("fantanolive {VERSION}\n")
+/// The name of a program and the version.
+pub fn version(program: &str) -> String {
+    format!("{program} {VERSION}\n")
 }
 
 /// The table of statuses, or those of a command.

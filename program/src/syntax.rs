@@ -5,6 +5,9 @@ use crate::commands;
 use crate::failure::{Failure, Status};
 use crate::progress::Progress;
 
+/// What runs a command.
+pub type Run = fn(&Arguments, &Progress) -> Result<Status, Failure>;
+
 pub struct Command {
     pub name: &'static str,
     /// What it is for, in a line of the overall help.
@@ -21,7 +24,7 @@ pub struct Command {
     pub help: &'static str,
     /// The statuses with which it ends.
     pub statuses: &'static [Status],
-    pub run: fn(&Arguments, &Progress) -> Result<Status, Failure>,
+    pub run: Run,
 }
 
 /// An option: with the name of its value, or a flag.

@@ -8,7 +8,7 @@ use std::os::unix::ffi::OsStrExt;
 
 use common::*;
 
-const COMMANDS: [&str; 23] = [
+const COMMANDS: [&str; 24] = [
     "apply",
     "check",
     "build",
@@ -31,6 +31,7 @@ const COMMANDS: [&str; 23] = [
     "to-ebcdic",
     "to-ascii",
     "show",
+    "agree",
     "explain",
 ];
 

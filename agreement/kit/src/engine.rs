@@ -128,7 +128,7 @@ impl Remote {
             (serve::LIBRARY, path.into_os_string()),
             (serve::PREFIX, prefix.into()),
         ];
-        let arguments = vec!["agree".into(), "-".into()];
+        let arguments = vec!["-".into()];
         Remote::start(program, arguments, variables, Speech::Frames, limit)
     }
 
