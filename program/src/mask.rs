@@ -58,32 +58,22 @@ fn masked_with(text: &str, longer: bool) -> Cow<'_, str> {
     }
 }
 
-/// Whether a digit, a hyphen or what stands between them in ASCII is one of the bytes looked at, every ninth: most texts have none,
-/// and one in which nine such bytes stand in a row has one.
+/// Whether nine digits, hyphens or what stands between them in ASCII stand in a row: of the bytes behind one that is none, every
+/// ninth is looked at.
 fn may_have_ssn(bytes: &[u8]) -> bool {
+    let is_part = |byte: u8| matches!(byte, b'-'..=b'9');
     let mut at = DIGITS - 1;
-    while let Some(byte) = bytes.get(at) {
-        if matches!(byte, b'-'..=b'9') {
-            return has_row(bytes, at);
+    while let Some(&byte) = bytes.get(at) {
+        if is_part(byte) {
+            let before = bytes[..at].iter().rev();
+            let before = before.take_while(|&&byte| is_part(byte)).count();
+            let behind = run(&bytes[at..], is_part);
+            if before + behind >= DIGITS {
+                return true;
+            }
+            at += behind;
         }
         at += DIGITS;
-    }
-    false
-}
-
-/// Whether nine of these bytes stand in a row, the first of those looked at being one: from there on every ninth behind one that
-/// is none is looked at.
-fn has_row(bytes: &[u8], first: usize) -> bool {
-    let is_part = |byte: u8| matches!(byte, b'-'..=b'9');
-    let mut at = first;
-    while at < bytes.len() {
-        let behind = run(&bytes[at..], is_part);
-        let before = bytes[..at].iter().rev();
-        let before = before.take_while(|&&byte| is_part(byte)).count();
-        if behind > 0 && before + behind >= DIGITS {
-            return true;
-        }
-        at += behind + DIGITS;
     }
     false
 }
@@ -175,5 +165,25 @@ mod tests {
             masked_typed(&"1".repeat(64)),
             format!("{}1111", "*".repeat(60))
         );
+    }
+
+    #[test]
+    fn nine_in_a_row_are_seen_at_every_place() {
+        let mut chance = 7u64;
+        for _ in 0..20_000 {
+            chance = chance.wrapping_mul(6_364_136_223_846_793_005);
+            chance = chance.wrapping_add(1);
+            let bits = chance >> 20;
+            // 44 bytes, of which three in four are parts of an SSN
+            let byte = |place: u64| match (bits >> place) & (bits >> ((place + 7) % 44)) & 1 {
+                0 => b"0189-./5"[place as usize % 8],
+                _ => b' ',
+            };
+            let bytes: Vec<u8> = (0..44).map(byte).collect();
+            let is_part = |byte: &u8| matches!(byte, b'-'..=b'9');
+            let mut rows = bytes.windows(DIGITS);
+            let has_row = rows.any(|row| row.iter().all(is_part));
+            assert_eq!(may_have_ssn(&bytes), has_row, "{bytes:?}");
+        }
     }
 }

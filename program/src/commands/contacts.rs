@@ -51,10 +51,8 @@ pub fn run(arguments: &Arguments, progress: &Progress) -> Result<Status, Failure
     let updated = Updated::of(arguments, &file, progress)?;
     let summary = updated.summary(file.records() as u64);
     let form = form_of(arguments, Charset::Ebcdic);
-    let faults = RefCell::new(ContactFaults::new());
-    let reason = |_, record: &[u8], out: &mut String| {
-        put_reason(&form, &mut faults.borrow_mut(), record, out)
-    };
+    let reasons = RefCell::new(Reasons::new(&form));
+    let reason = |_, record: &[u8], out: &mut String| reasons.borrow_mut().put(record, out);
     let listed = Listed {
         most_in_files: listing.most_in_files,
         ..faulty(arguments, &updated.faulty, &file, &reason)
@@ -202,13 +200,40 @@ fn chart_of(numbers: &[u32], file: &Input) -> Vec<(String, u64, String)> {
         .collect()
 }
 
+/// Why records are faulty.
+struct Reasons<'a> {
+    form: &'a Form,
+    faults: ContactFaults,
+    /// The last record, and what was written of it: many that are alike, as blank ones, may stand one behind the other.
+    record: Vec<u8>,
+    words: String,
+}
+
+impl<'a> Reasons<'a> {
+    fn new(form: &'a Form) -> Reasons<'a> {
+        Reasons {
+            form,
+            faults: ContactFaults::new(),
+            record: Vec::new(),
+            words: String::new(),
+        }
+    }
+
+    /// Writes the reason of a record; the answer is its name.
+    fn put(&mut self, record: &[u8], out: &mut String) -> &'static str {
+        if record != self.record {
+            self.words.clear();
+            put_reason(self.form, &mut self.faults, record, &mut self.words);
+            self.record.clear();
+            self.record.extend_from_slice(record);
+        }
+        out.push_str(&self.words);
+        "wrong fields"
+    }
+}
+
 /// Writes the fields that are wrong by themselves, with their values.
-fn put_reason(
-    form: &Form,
-    faults: &mut ContactFaults,
-    record: &[u8],
-    out: &mut String,
-) -> &'static str {
+fn put_reason(form: &Form, faults: &mut ContactFaults, record: &[u8], out: &mut String) {
     out.push_str("wrong: ");
     for (place, field) in faults.wrong_fields(record).enumerate() {
         if place > 0 {
@@ -224,7 +249,6 @@ fn put_reason(
             }
         }
     }
-    "wrong fields"
 }
 
 /// `OH003  COUNTY CHILD SUPPORT AGENCY`.

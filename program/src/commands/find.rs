@@ -177,7 +177,7 @@ impl Found<'_> {
         &self,
         arguments: &Arguments,
         progress: &Progress,
-        counted: &str,
+        counted: &'static str,
     ) -> Result<Status, Failure> {
         let summary = self.counts();
         printed(
@@ -240,7 +240,7 @@ impl Found<'_> {
         Ok(())
     }
 
-    fn put_json<W: Write>(&self, json: &mut Json<W>, counted: &str) -> io::Result<()> {
+    fn put_json<W: Write>(&self, json: &mut Json<W>, counted: &'static str) -> io::Result<()> {
         let members = Members::of(row::FIELDS);
         json.name("answers")?;
         json.begin_array()?;

@@ -103,7 +103,8 @@ impl Run {
         json.name("counts")?;
         json.begin_object()?;
         for (name, count) in &self.counts {
-            json.number_of(name, *count)?;
+            json.any_name(name)?;
+            json.number(*count)?;
         }
         json.end_object()
     }

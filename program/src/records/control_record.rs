@@ -8,14 +8,21 @@ use crate::code_page::argument;
 /// A batch of details for a state: behind them the control record with the totals that the library adds up.
 pub fn batch_of(state: &[u8], details: &[u8]) -> Result<(Vec<u8>, Totals), Refusal> {
     let mut batch = details.to_vec();
-    batch.resize(details.len() + RECORD, argument(b" ")[0]);
-    let totals = totals(&batch)?;
-    let record = control_record(state, &totals).ok_or(Refusal::WrongAmount)?;
-    batch[details.len()..].copy_from_slice(&record);
+    let totals = add_control(state, &mut batch)?;
     match refusal_of(&batch) {
         None => Ok((batch, totals)),
         Some(refusal) => Err(refusal),
     }
+}
+
+/// Adds the control record to details. What the library says of the batch is to be seen yet.
+pub fn add_control(state: &[u8], batch: &mut Vec<u8>) -> Result<Totals, Refusal> {
+    let details = batch.len();
+    batch.resize(details + RECORD, argument(b" ")[0]);
+    let totals = totals(batch)?;
+    let record = control_record(state, &totals).ok_or(Refusal::WrongAmount)?;
+    batch[details..].copy_from_slice(&record);
+    Ok(totals)
 }
 
 /// The control record of a state with these totals; none where one is wider than its field.

@@ -127,25 +127,27 @@ impl Form {
 
     /// Writes an amount with its point where it is digits, else as it stands.
     fn put_amount(&self, bytes: &[u8], out: &mut String) {
-        let digits: Option<Vec<u8>> = self.amount_digits(bytes);
-        let Some(digits) = digits.filter(|_| !self.digits_masked) else {
+        let digit = |place: usize| self.amount_digit(bytes, place);
+        let is_amount = bytes.len() > 2 && (0..bytes.len()).all(|place| digit(place).is_some());
+        if !is_amount || self.digits_masked {
             return self.put_typed(bytes, out);
-        };
-        let whole = &digits[..digits.len() - 2];
-        let zeros = whole.iter().take_while(|&&digit| digit == b'0').count();
-        let start = zeros.min(whole.len() - 1);
-        out.extend(whole[start..].iter().map(|&digit| char::from(digit)));
+        }
+        let point = bytes.len() - 2;
+        let zeros = (0..point - 1).take_while(|&place| digit(place) == Some(b'0'));
+        let start = zeros.count();
+        out.extend((start..point).filter_map(digit).map(char::from));
         out.push('.');
-        out.extend(digits[whole.len()..].iter().map(|&digit| char::from(digit)));
+        out.extend((point..bytes.len()).filter_map(digit).map(char::from));
     }
 
-    /// The digits of an amount, the last one with or without a positive sign.
-    fn amount_digits(&self, bytes: &[u8]) -> Option<Vec<u8>> {
-        let digit = |&byte: &u8| self.decoder.character(byte).filter(u8::is_ascii_digit);
-        let (last, front) = bytes.split_last()?;
-        let mut digits: Vec<u8> = front.iter().map(digit).collect::<Option<_>>()?;
-        digits.push(digit(last).or_else(|| self.signed_digit(*last))?);
-        Some(digits)
+    /// A digit of an amount, the last one with or without a positive sign.
+    fn amount_digit(&self, bytes: &[u8], place: usize) -> Option<u8> {
+        let byte = bytes[place];
+        let digit = self.decoder.character(byte).filter(u8::is_ascii_digit);
+        match place + 1 == bytes.len() {
+            true => digit.or_else(|| self.signed_digit(byte)),
+            false => digit,
+        }
     }
 
     /// The digit of a byte with a positive sign: C0 to C9 in EBCDIC, of which C1 to C9 are A to I.

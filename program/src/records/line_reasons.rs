@@ -2,13 +2,15 @@
 //! up; else it is the case at the line's turn: from the row before the file on, the library posts the lines of its key one by
 //! one.
 
-use fantanolive::{find, find_many, Refusal, KEY, LINE, NO_PLACE};
+use std::collections::hash_map::Entry;
+
+use fantanolive::{KEY, LINE, ROW};
 
 use super::amounts::money;
 use super::columns::line;
 use super::field::Form;
 use super::key_map::{Key, KeyMap};
-use super::posting::{fault_of, Case, Fault, AMOUNTS};
+use super::posting::{Case, Fault, LineFaults, AMOUNTS};
 use crate::failure::{grouped, Failure};
 
 /// Why a line is not posted.
@@ -111,18 +113,14 @@ impl Posted<'_> {
 
     /// The reason of each line that is not posted.
     pub fn reasons(&self) -> Result<Vec<Reason>, Failure> {
-        let faults = self
-            .listed
-            .iter()
-            .map(|&number| fault_of(self.line(number)));
-        let mut reasons: Vec<Option<Reason>> = faults
-            .map(|fault| {
-                fault.map(|fault| match fault {
-                    Fault::NoAmount(wrong) => Reason::NoAmount(wrong),
-                    Fault::TwoAmounts => Reason::TwoAmounts,
-                })
+        let mut faults = LineFaults::default();
+        let of_line = |number: &u32| {
+            faults.of(self.line(*number)).map(|fault| match fault {
+                Fault::NoAmount(wrong) => Reason::NoAmount(wrong),
+                Fault::TwoAmounts => Reason::TwoAmounts,
             })
-            .collect();
+        };
+        let mut reasons: Vec<Option<Reason>> = self.listed.iter().map(of_line).collect();
         let mut turns = self.turns(&reasons)?;
         self.replay(&mut turns, &mut reasons);
         Ok(reasons
@@ -133,40 +131,29 @@ impl Posted<'_> {
 
     /// The cases before the file of the lines whose reasons are not known yet.
     fn turns(&self, reasons: &[Option<Reason>]) -> Result<KeyMap<Turn>, Failure> {
+        let mut turns: KeyMap<Turn> = KeyMap::default();
         let open = self.listed.iter().zip(reasons);
-        let open = open.filter(|(_, reason)| reason.is_none());
-        let mut keys: Vec<Key> = open.map(|(&number, _)| key_of(self.line(number))).collect();
-        keys.sort_unstable();
-        keys.dedup();
-        let (sound, unsound): (Vec<Key>, Vec<Key>) = keys
-            .into_iter()
-            .partition(|key| find(&[], 0, key) != Err(Refusal::UnsoundKey));
-        let mut places = vec![NO_PLACE; sound.len()];
-        let rows = self.rows.len() / fantanolive::ROW;
-        if !sound.is_empty() {
-            // the rows were sound a moment ago, and the keys rise
-            let _ = find_many(self.rows, rows, sound.as_flattened(), &mut places);
-        }
-        let none = |key| {
-            (
-                key,
-                Turn {
-                    case: None,
+        for (&number, _) in open.filter(|(_, reason)| reason.is_none()) {
+            let key = key_of(self.line(number));
+            if let Entry::Vacant(entry) = turns.entry(key) {
+                entry.insert(Turn {
+                    case: self.case_before(&key)?,
                     closed_by: None,
-                },
-            )
-        };
-        let mut turns: KeyMap<Turn> = unsound.into_iter().map(none).collect();
-        let mut row = [0; fantanolive::ROW];
-        for (key, place) in sound.into_iter().zip(places) {
-            let mut turn = none(key).1;
-            if place != NO_PLACE {
-                (self.read)(place as usize, &mut row)?;
-                turn.case = Some(Case::of(&row));
+                });
             }
-            turns.insert(key, turn);
         }
         Ok(turns)
+    }
+
+    /// The case of a key before the file; none where no row has it. The rows rise by their keys.
+    fn case_before(&self, key: &Key) -> Result<Option<Case>, Failure> {
+        let (rows, _) = self.rows.as_chunks::<ROW>();
+        let Ok(place) = rows.binary_search_by(|row| row[..KEY].cmp(key)) else {
+            return Ok(None);
+        };
+        let mut row = [0; ROW];
+        (self.read)(place, &mut row)?;
+        Ok(Some(Case::of(&row)))
     }
 
     /// Posts the lines of these cases in file order, and gives the reasons that are missing.

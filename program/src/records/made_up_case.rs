@@ -2,11 +2,12 @@
 
 use std::sync::LazyLock;
 
-use fantanolive::{apply, Refusal, RECORD, ROW};
+use fantanolive::{apply, RECORD, ROW};
 
 use super::columns::{detail, row, Field};
-use super::control_record::batch_of;
+use super::control_record::add_control;
 use super::field::text_in;
+use crate::code_page::argument;
 
 pub const STATE: &str = "OH";
 pub const SSN: &str = "900000001";
@@ -50,24 +51,57 @@ pub fn record_of(kind: &str, fields: &[(Field, &str)]) -> Vec<u8> {
 
 /// The verdict on a record of its key alone, and the row that it leaves.
 pub fn judged(record: &[u8]) -> (u64, [u8; ROW]) {
-    let state = detail::STATE.of(record);
-    let (batch, _) = batch_of(state, record).expect("one record is a batch");
-    applied(&batch).expect("the row is sound")
+    let mut judge = Judge::default();
+    judge.add(record);
+    let row = judge.apply();
+    (judge.verdicts[0], row)
 }
 
-/// The same of a batch of one record; a refusal where its totals are others.
-pub fn applied(batch: &[u8]) -> Result<(u64, [u8; ROW]), Refusal> {
-    let mut master = live_row();
-    let (mut verdicts, mut rejects) = ([0], [0; 2 * RECORD]);
-    let (locals, year) = (&[], 2000);
-    apply(
-        &mut master,
-        1,
-        batch,
-        locals,
-        year,
-        &mut verdicts,
-        &mut rejects,
-    )?;
-    Ok((verdicts[0], master))
+/// Records of its key that the library is asked about in one call. The buffers are used again.
+#[derive(Default)]
+pub struct Judge {
+    batch: Vec<u8>,
+    verdicts: Vec<u64>,
+    rejects: Vec<u8>,
+}
+
+impl Judge {
+    /// Adds a record, which may still be changed.
+    pub fn add(&mut self, record: &[u8]) -> &mut [u8] {
+        let start = self.batch.len();
+        self.batch.extend_from_slice(record);
+        &mut self.batch[start..]
+    }
+
+    /// The verdicts on the records that were added; none is left then.
+    pub fn verdicts(&mut self) -> &[u64] {
+        let count = self.batch.len() / RECORD;
+        if count > 0 {
+            self.apply();
+        }
+        &self.verdicts[..count]
+    }
+
+    fn apply(&mut self) -> [u8; ROW] {
+        let count = self.batch.len() / RECORD;
+        add_control(&argument(STATE.as_bytes()), &mut self.batch)
+            .expect("the records have no amounts");
+        self.verdicts.resize(count.max(self.verdicts.len()), 0);
+        self.rejects
+            .resize(self.batch.len().max(self.rejects.len()), 0);
+        let mut master = live_row();
+        let (locals, year) = (&[], 2000);
+        apply(
+            &mut master,
+            1,
+            &self.batch,
+            locals,
+            year,
+            &mut self.verdicts,
+            &mut self.rejects,
+        )
+        .expect("the row and the batch are sound");
+        self.batch.clear();
+        master
+    }
 }

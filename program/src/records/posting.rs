@@ -8,11 +8,7 @@ use super::amounts::{balance_of, cents_of};
 use super::columns::{line, row, total, Field};
 use super::field::text_in;
 use super::made_up_case::{live_row, CASE_TYPE, SSN, STATE};
-use crate::code_page::{argument, code};
-
-/// Amounts of nothing and of a cent.
-const ZERO: &str = "00000000000";
-const CENT: &str = "00000000001";
+use crate::code_page::code;
 
 /// What is left of a case: its balance in cents, and whether it is live.
 #[derive(Clone, Copy, Debug, PartialEq, Eq)]
@@ -73,28 +69,35 @@ impl Case {
 
     /// The case behind a line; none where the line is not posted.
     pub fn posted(self, record: &[u8]) -> Option<Case> {
-        let mut file = *FILE;
-        file[..LINE].copy_from_slice(record);
-        for field in [&line::STATE, &line::SSN, &line::CASE_TYPE] {
-            field.set(&mut file, field.of(&FILE[..]));
-        }
         let mut bytes = self.row();
-        let mut list = [0];
-        let is_above = |field: &Field| cents_of(field.of(record)).is_some_and(|cents| cents > 0);
-        let likely = [is_above(&line::ADJUSTMENT), is_above(&line::COLLECTION)];
-        for other in [[false, false], [false, true], [true, false], [true, true]] {
-            let counts = [likely[0] ^ other[0], likely[1] ^ other[1]].map(usize::from);
-            file[LINE + total::ADJUSTMENTS.last - 1] = DIGITS[counts[0]];
-            file[LINE + total::COLLECTIONS.last - 1] = DIGITS[counts[1]];
-            match post(&mut bytes, 1, &file, &mut list) {
-                // the counts are others
-                Err(Refusal::WrongTotal) => {}
-                Ok(0) => return Some(Case::of(&bytes)),
-                _ => return None,
-            }
-        }
-        None
+        let (_, is_posted) = post_line(&mut bytes, 1, record)?;
+        is_posted.then(|| Case::of(&bytes))
     }
+}
+
+/// Posts a line to rows with the key that is made up: posting reads nothing else of a line than its key and its amounts. The
+/// answer is which of the amounts, the collection and the adjustment, the library counts as above zero, and whether the line is
+/// posted; none where it is refused.
+fn post_line(rows: &mut [u8], count: usize, record: &[u8]) -> Option<([bool; 2], bool)> {
+    let mut file = *FILE;
+    for field in &AMOUNTS {
+        field.set(&mut file, field.of(record));
+    }
+    let mut list = [0];
+    let likely = AMOUNTS.map(|field| cents_of(field.of(record)).is_some_and(|cents| cents > 0));
+    for other in [[false, false], [true, false], [false, true], [true, true]] {
+        let above = [likely[0] ^ other[0], likely[1] ^ other[1]];
+        for (field, is_above) in [total::COLLECTIONS, total::ADJUSTMENTS].iter().zip(above) {
+            file[LINE + field.last - 1] = DIGITS[usize::from(is_above)];
+        }
+        match post(rows, count, &file, &mut list) {
+            // the counts are others
+            Err(Refusal::WrongTotal) => {}
+            Err(_) => return None,
+            Ok(listed) => return Some((above, listed == 0)),
+        }
+    }
+    None
 }
 
 /// A live case of 25 dollars, of which a small line can't be too much.
@@ -102,15 +105,6 @@ const USUAL: Case = Case {
     balance: 2500,
     is_live: true,
 };
-
-/// A line with other amounts.
-fn with_amounts(record: &[u8], collection: &[u8], adjustment: &[u8]) -> [u8; LINE] {
-    let mut other = [0; LINE];
-    other.copy_from_slice(record);
-    line::COLLECTION.set(&mut other, collection);
-    line::ADJUSTMENT.set(&mut other, adjustment);
-    other
-}
 
 /// The amounts of a line.
 pub const AMOUNTS: [Field; 2] = [line::COLLECTION, line::ADJUSTMENT];
@@ -124,28 +118,56 @@ pub enum Fault {
     TwoAmounts,
 }
 
-/// The fault of a line by itself; none where it has none.
-pub fn fault_of(record: &[u8]) -> Option<Fault> {
-    if USUAL.posted(record).is_some() {
-        return None;
+/// The faults of lines by themselves.
+#[derive(Default)]
+pub struct LineFaults {
+    /// The amounts of nothing that lines had. There are two, with a sign and without.
+    nothing: Vec<Vec<u8>>,
+}
+
+impl LineFaults {
+    /// The fault of a line; none where it has none. The rule knows no others than that an amount is none, or that both are above
+    /// zero.
+    pub fn of(&mut self, record: &[u8]) -> Option<Fault> {
+        // the library counts the amounts above zero before it looks for a case
+        let above = post_line(&mut [], 0, record).map_or([false; 2], |(above, _)| above);
+        if above == [true, true] {
+            return Some(Fault::TwoAmounts);
+        }
+        let mut wrong = [false; 2];
+        for (place, field) in AMOUNTS.iter().enumerate() {
+            // what is above zero is an amount
+            wrong[place] = !above[place] && !self.is_nothing(field.of(record));
+        }
+        (wrong != [false; 2]).then_some(Fault::NoAmount(wrong))
     }
-    let (zero, cent) = (argument(ZERO.as_bytes()), argument(CENT.as_bytes()));
-    let is_posted = |one: &[u8], other: &[u8]| {
-        let line = with_amounts(record, one, other);
-        USUAL.posted(&line).is_some()
-    };
-    let wrong = AMOUNTS.map(|field| !is_posted(field.of(record), &zero));
-    if wrong != [false, false] {
-        return Some(Fault::NoAmount(wrong));
+
+    /// Whether what is not above zero is an amount, of nothing: it is posted as a collection.
+    fn is_nothing(&mut self, amount: &[u8]) -> bool {
+        if self.nothing.iter().any(|known| known == amount) {
+            return true;
+        }
+        let mut line = [code(b'0'); LINE];
+        line::COLLECTION.set(&mut line, amount);
+        let is_amount = USUAL.posted(&line).is_some();
+        if is_amount {
+            self.nothing.push(amount.to_vec());
+        }
+        is_amount
     }
-    // beside a cent the other way what is above zero is not posted
-    let is_above = |field: &Field| !is_posted(field.of(record), &cent);
-    AMOUNTS.iter().all(is_above).then_some(Fault::TwoAmounts)
 }
 
 #[cfg(test)]
 mod tests {
     use super::*;
+
+    /// Amounts of nothing and of a cent.
+    const ZERO: &str = "00000000000";
+    const CENT: &str = "00000000001";
+
+    fn fault_of(record: &[u8]) -> Option<Fault> {
+        LineFaults::default().of(record)
+    }
 
     fn a_line(collection: &str, adjustment: &str) -> Vec<u8> {
         let fields = [
@@ -199,5 +221,50 @@ mod tests {
             case(9_999_999_998, true).posted(&a_line(ZERO, CENT)),
             Some(most)
         );
+    }
+
+    /// The fault of a line with each amount asked about by itself: as the collection of a line beside an adjustment of nothing,
+    /// and beside one of a cent, where what is above zero is not posted.
+    fn by_itself(record: &[u8]) -> Option<Fault> {
+        let is_posted = |field: &Field, other: &str| {
+            let mut line = a_line("", other);
+            line::COLLECTION.set(&mut line, field.of(record));
+            USUAL.posted(&line).is_some()
+        };
+        let wrong = AMOUNTS.map(|field| !is_posted(&field, ZERO));
+        if wrong != [false, false] {
+            return Some(Fault::NoAmount(wrong));
+        }
+        let is_above = |field: &Field| !is_posted(field, CENT);
+        AMOUNTS.iter().all(is_above).then_some(Fault::TwoAmounts)
+    }
+
+    #[test]
+    fn faults_as_of_each_amount_by_itself() {
+        let digits = [0xF0, 0xF0, 0xF0, 0xF9, 0xC0, 0xC5, 0xD0, 0x40, 0xFA];
+        let mut chance = 7u64;
+        let mut below = |limit: usize| {
+            chance = chance.wrapping_mul(6_364_136_223_846_793_005);
+            chance = chance.wrapping_add(1);
+            (chance >> 33) as usize % limit
+        };
+        let mut faults = LineFaults::default();
+        let mut found = [0; 3];
+        for _ in 0..3000 {
+            let mut record = a_line(ZERO, ZERO);
+            for field in AMOUNTS {
+                let place = field.last - 1 - below(2) * below(11);
+                record[place] = digits[below(digits.len())];
+            }
+            let fault = faults.of(&record);
+            assert_eq!(fault, by_itself(&record), "{record:?}");
+            found[match fault {
+                None => 0,
+                Some(Fault::TwoAmounts) => 1,
+                Some(Fault::NoAmount(_)) => 2,
+            }] += 1;
+        }
+        assert!(found.iter().all(|&count| count > 100), "{found:?}");
+        assert_eq!(faults.nothing.len(), 2);
     }
 }

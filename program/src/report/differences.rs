@@ -183,7 +183,7 @@ fn put_row<W: Write>(
 /// An array of rows by their places.
 fn put_json_rows<'a, W: Write>(
     json: &mut Json<W>,
-    member: &str,
+    member: &'static str,
     rows: impl Iterator<Item = (usize, &'a [u8])>,
     form: &Form,
 ) -> io::Result<()> {

@@ -61,7 +61,7 @@ impl Members {
             if is_left_out(field, &value) {
                 continue;
             }
-            json.name(name)?;
+            json.any_name(name)?;
             match field.kind {
                 Kind::Set => put_set(json, field.of(record)[0])?,
                 Kind::Number | Kind::Amount => json.number_or_text(&value)?,

@@ -16,21 +16,27 @@ const fn eight(byte: u8) -> u64 {
     u64::from_ne_bytes([byte; 8])
 }
 
-/// Whether one of eight bytes is below a limit of at most 128.
-fn has_below(bytes: u64, limit: u8) -> bool {
-    bytes.wrapping_sub(eight(limit)) & !bytes & eight(0x80) != 0
+/// Not zero where one of eight bytes is written otherwise. A byte below 128 is below a limit where it is less by it and its
+/// highest bit is set then; one is another where what differs between them is below 1.
+fn escaped_in(bytes: [u8; 8]) -> u64 {
+    let bytes = u64::from_ne_bytes(bytes);
+    let control = bytes.wrapping_sub(eight(b' '));
+    let quotation = (bytes ^ eight(b'"')).wrapping_sub(eight(1));
+    let backslash = (bytes ^ eight(b'\\')).wrapping_sub(eight(1));
+    (control | quotation | backslash) & !bytes & eight(0x80)
 }
 
-/// Whether a text has a byte that is written otherwise: eight bytes at a time.
+/// Whether a text has a byte that is written otherwise: eight bytes at a time, and then the last eight.
 fn has_escaped(text: &str) -> bool {
-    let (chunks, rest) = text.as_bytes().as_chunks();
-    let any = |chunk: &[u8; 8]| {
-        let bytes = u64::from_ne_bytes(*chunk);
-        has_below(bytes, b' ')
-            || has_below(bytes ^ eight(b'"'), 1)
-            || has_below(bytes ^ eight(b'\\'), 1)
+    let bytes = text.as_bytes();
+    let Some(last) = bytes.last_chunk() else {
+        return bytes.iter().any(|&byte| is_escaped(byte));
     };
-    chunks.iter().any(any) || rest.iter().any(|&byte| is_escaped(byte))
+    let (eights, _) = bytes.as_chunks();
+    let found = eights
+        .iter()
+        .fold(0, |found, eight| found | escaped_in(*eight));
+    found | escaped_in(*last) != 0
 }
 
 /// A writer of one JSON value. Commas are set by it; that names and values alternate in an object is the caller's part.
@@ -103,20 +109,38 @@ impl<W: Write> Json<W> {
         self.end(b"]")
     }
 
-    pub fn name(&mut self, name: &str) -> io::Result<()> {
+    /// A name of the program's own, in which nothing is written otherwise.
+    pub fn name(&mut self, name: &'static str) -> io::Result<()> {
         self.begin_name(name)?;
-        self.named = true;
-        self.out.write_all(b"\":")
+        self.end_name()
+    }
+
+    /// A name that was made or read.
+    pub fn any_name(&mut self, name: &str) -> io::Result<()> {
+        self.before_name()?;
+        self.escaped(name)?;
+        self.end_name()
     }
 
     /// The comma, and a name up to its last quotation mark.
-    fn begin_name(&mut self, name: &str) -> io::Result<()> {
+    fn begin_name(&mut self, name: &'static str) -> io::Result<()> {
+        debug_assert!(!has_escaped(name), "{name}");
+        self.before_name()?;
+        self.out.write_all(name.as_bytes())
+    }
+
+    /// The comma and the first quotation mark of a name.
+    fn before_name(&mut self) -> io::Result<()> {
         let before = self.open.last_mut();
         match before.is_some_and(|before| mem::replace(before, true)) {
-            true => self.out.write_all(b",\"")?,
-            false => self.out.write_all(b"\"")?,
+            true => self.out.write_all(b",\""),
+            false => self.out.write_all(b"\""),
         }
-        self.escaped(name)
+    }
+
+    fn end_name(&mut self) -> io::Result<()> {
+        self.named = true;
+        self.out.write_all(b"\":")
     }
 
     pub fn text(&mut self, text: &str) -> io::Result<()> {
@@ -151,9 +175,10 @@ impl<W: Write> Json<W> {
         self.separate()?;
         let front = whole.trim_start_matches('0');
         let front = if front.is_empty() { "0" } else { front };
+        self.out.write_all(front.as_bytes())?;
         match cents {
-            Some(cents) => write!(self.out, "{front}.{cents}"),
-            None => write!(self.out, "{front}"),
+            Some(_) => self.out.write_all(&value.as_bytes()[whole.len()..]),
+            None => Ok(()),
         }
     }
 
@@ -163,14 +188,14 @@ impl<W: Write> Json<W> {
     }
 
     /// A name with a text.
-    pub fn text_of(&mut self, name: &str, text: &str) -> io::Result<()> {
+    pub fn text_of(&mut self, name: &'static str, text: &str) -> io::Result<()> {
         self.begin_name(name)?;
         self.out.write_all(b"\":\"")?;
         self.rest_of(text)
     }
 
     /// A name with a text, or with null.
-    pub fn maybe_text_of(&mut self, name: &str, text: Option<&str>) -> io::Result<()> {
+    pub fn maybe_text_of(&mut self, name: &'static str, text: Option<&str>) -> io::Result<()> {
         self.name(name)?;
         match text {
             Some(text) => self.text(text),
@@ -179,7 +204,7 @@ impl<W: Write> Json<W> {
     }
 
     /// A name with a number.
-    pub fn number_of(&mut self, name: &str, number: u64) -> io::Result<()> {
+    pub fn number_of(&mut self, name: &'static str, number: u64) -> io::Result<()> {
         self.name(name)?;
         self.number(number)
     }

@@ -228,7 +228,7 @@ impl Summary {
             json.text_of("verdict", verdict)?;
         }
         for item in &self.items {
-            json.name(&member(item.name))?;
+            json.any_name(&member(item.name))?;
             item.value.put_json(json)?;
         }
         json.name("written")?;
@@ -273,14 +273,15 @@ impl Value {
             Value::Sum { total, parts } => {
                 json.begin_object()?;
                 for (name, number) in [total].into_iter().chain(parts) {
-                    json.number_of(&member(name), *number)?;
+                    json.any_name(&member(name))?;
+                    json.number(*number)?;
                 }
                 json.end_object()
             }
             Value::MoneySum { total, parts } => {
                 json.begin_object()?;
                 for (name, cents) in [total].into_iter().chain(parts) {
-                    json.name(&member(name))?;
+                    json.any_name(&member(name))?;
                     json.cents(*cents)?;
                 }
                 json.end_object()

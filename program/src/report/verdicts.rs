@@ -1,11 +1,11 @@
 //! What was found in a batch: how often each code, and each record with an error or a warning.
 
-use std::borrow::Cow;
 use std::cell::RefCell;
+use std::io;
 
 use fantanolive::{code_text, codes, has_code, ERRORS, RECORD, WARNINGS};
 
-use crate::records::address_faults::{AddressFaults, ADDRESS};
+use crate::records::address_faults::{AddressFaults, Parts, ADDRESS};
 use crate::records::code_fields::{fields_of, is_blank, name_of};
 use crate::records::columns::{detail, reject, Field};
 use crate::records::field::Form;
@@ -34,11 +34,16 @@ pub struct Coded<'a> {
     pub verdict: u64,
     pub detail: &'a [u8],
     pub reject: &'a [u8],
+    /// What of its address is wrong, where `each` gives it out.
+    wrong_parts: Parts,
 }
 
-impl Verdicts<'_> {
+/// How many details the library is asked about at once.
+const AT_ONCE: usize = 128;
+
+impl<'a> Verdicts<'a> {
     /// The details with a code of a set, in batch order. The reject file has a record for each detail with any code.
-    pub fn coded(&self, set: u64) -> impl Iterator<Item = Coded<'_>> {
+    pub fn coded(&self, set: u64) -> impl Iterator<Item = Coded<'a>> {
         let with_code = self.verdicts.iter().enumerate().filter(|(_, v)| **v != 0);
         let rejects = self.rejects.chunks_exact(RECORD);
         let coded = with_code
@@ -48,12 +53,13 @@ impl Verdicts<'_> {
                 verdict,
                 detail: &self.batch[number * RECORD..][..RECORD],
                 reject,
+                wrong_parts: Parts::default(),
             });
         coded.filter(move |coded| coded.verdict & set != 0)
     }
 
     /// The same with the details of each local office together, in order of its code.
-    pub fn coded_by_office(&self, set: u64) -> Vec<Coded<'_>> {
+    pub fn coded_by_office(&self, set: u64) -> Vec<Coded<'a>> {
         let mut list: Vec<Coded> = self.coded(set).collect();
         // the sort keeps the order of equal codes
         list.sort_by_key(|coded| detail::LOCAL_CODE.of(coded.detail));
@@ -100,20 +106,39 @@ impl Verdicts<'_> {
         list.into_iter().map(shown).collect()
     }
 
-    /// The fields that a code is about.
-    pub fn fields_of(&self, code: u32, coded: &Coded) -> Cow<'static, [Field]> {
-        if code != ADDRESS {
-            return Cow::Borrowed(fields_of(code));
+    /// Gives out details one by one with what of their addresses is wrong, which the library is asked about many at once.
+    pub fn each(
+        &self,
+        mut coded: impl Iterator<Item = Coded<'a>>,
+        mut put: impl FnMut(&Coded) -> io::Result<()>,
+    ) -> io::Result<()> {
+        let mut some: Vec<Coded> = Vec::new();
+        loop {
+            some.clear();
+            some.extend(coded.by_ref().take(AT_ONCE));
+            if some.is_empty() {
+                return Ok(());
+            }
+            self.find_wrong_parts(&mut some);
+            some.iter().try_for_each(&mut put)?;
         }
-        let mut address = self.address.borrow_mut();
-        Cow::Owned(address.wrong_fields(coded.detail))
+    }
+
+    fn find_wrong_parts(&self, coded: &mut [Coded]) {
+        let with_code = || coded.iter().filter(|coded| coded.has(ADDRESS));
+        let details: Vec<&[u8]> = with_code().map(|coded| coded.detail).collect();
+        let wrong = self.address.borrow_mut().wrong_parts(&details);
+        let with_code = coded.iter_mut().filter(|coded| coded.has(ADDRESS));
+        for (coded, parts) in with_code.zip(wrong) {
+            coded.wrong_parts = parts;
+        }
     }
 
     /// Writes `Obligor Last Name 'SMYTH', stored 'SMIT'`: the fields that a code is about as they were sent, and what is known
     /// beside them, the stored name or what is wrong with the SSN.
     pub fn put_sent_words(&self, code: u32, coded: &Coded, out: &mut String) {
         let mut between = "";
-        for field in self.fields_of(code, coded).iter() {
+        for field in coded.fields_of(code) {
             out.push_str(between);
             out.push_str(&name_of(field));
             self.put_value(field, coded.detail, out);
@@ -151,6 +176,15 @@ impl Verdicts<'_> {
 }
 
 impl Coded<'_> {
+    /// The fields that a code is about.
+    pub fn fields_of(&self, code: u32) -> impl Iterator<Item = &'static Field> {
+        let of_address = match code {
+            ADDRESS => self.wrong_parts,
+            _ => Parts::default(),
+        };
+        fields_of(code).iter().chain(of_address.fields())
+    }
+
     pub fn ssn_fault(&self) -> Option<String> {
         ssn_fault::of_ssn(detail::SSN.of(self.detail))
     }

@@ -45,11 +45,10 @@ pub fn put_json<W: Write>(
     }
     json.name("records")?;
     json.begin_array()?;
-    let coded = verdicts.coded(ERRORS | WARNINGS);
+    let first = verdicts.coded(ERRORS | WARNINGS);
+    let first = first.take(listing.most_in_files);
     let mut text = String::new();
-    for coded in coded.take(listing.most_in_files) {
-        put_record(verdicts, json, &coded, &mut text)?;
-    }
+    verdicts.each(first, |coded| put_record(verdicts, json, coded, &mut text))?;
     json.end_array()
 }
 
@@ -111,7 +110,7 @@ fn put_sent<W: Write>(
     json.name("sent")?;
     json.begin_array()?;
     for code in codes(coded.verdict) {
-        for field in verdicts.fields_of(code, coded).iter() {
+        for field in coded.fields_of(code) {
             json.begin_object()?;
             json.number_of("code", u64::from(code))?;
             json.text_of("field", &name_of(field))?;

@@ -75,12 +75,13 @@ impl Sheet for VerdictsSheet<'_> {
     fn put_lines(&self, put: &mut Put) -> io::Result<()> {
         let (set, most) = (ERRORS | WARNINGS, self.listing.most_in_files);
         if self.listing.by_office {
-            let list = self.verdicts.coded_by_office(set);
-            let mut first = list.iter().take(most);
-            return first.try_for_each(|coded| self.put_record(coded, put));
+            let first = self.verdicts.coded_by_office(set).into_iter();
+            let put = |coded: &Coded| self.put_record(coded, put);
+            return self.verdicts.each(first.take(most), put);
         }
-        let mut first = self.verdicts.coded(set).take(most);
-        first.try_for_each(|coded| self.put_record(&coded, put))
+        let first = self.verdicts.coded(set).take(most);
+        let put = |coded: &Coded| self.put_record(coded, put);
+        self.verdicts.each(first, put)
     }
 }
 

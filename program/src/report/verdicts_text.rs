@@ -99,12 +99,11 @@ fn put_list<W: Write>(
     listing.put_heading(screen, count, list.heading)?;
     let mut lines = Lines::new(verdicts, list.style);
     if listing.by_office {
-        let coded = verdicts.coded_by_office(list.set);
-        let mut first = coded.iter().take(listing.most);
-        first.try_for_each(|coded| lines.put(coded, screen))?;
+        let first = verdicts.coded_by_office(list.set).into_iter();
+        verdicts.each(first.take(listing.most), |coded| lines.put(coded, screen))?;
     } else {
-        let mut first = verdicts.coded(list.set).take(listing.most);
-        first.try_for_each(|coded| lines.put(&coded, screen))?;
+        let first = verdicts.coded(list.set).take(listing.most);
+        verdicts.each(first, |coded| lines.put(coded, screen))?;
     }
     listing.put_rest(screen, count)
 }

@@ -37,7 +37,8 @@ pub fn put_json<W: Write>(json: &mut Json<W>, done: &Done) -> io::Result<()> {
         let lines = section.refusals.iter().chain(&section.codes);
         let lines = lines.chain(&section.situations).chain(&section.pairs);
         for line in lines {
-            json.number_of(&line.name, line.count)?;
+            json.any_name(&line.name)?;
+            json.number(line.count)?;
         }
         json.end_object()?;
     }
@@ -45,7 +46,11 @@ pub fn put_json<W: Write>(json: &mut Json<W>, done: &Done) -> io::Result<()> {
     put_names(json, "not seen", &done.missing)
 }
 
-fn put_names<W: Write>(json: &mut Json<W>, name: &str, list: &[impl AsRef<str>]) -> io::Result<()> {
+fn put_names<W: Write>(
+    json: &mut Json<W>,
+    name: &'static str,
+    list: &[impl AsRef<str>],
+) -> io::Result<()> {
     json.name(name)?;
     json.begin_array()?;
     for one in list {
