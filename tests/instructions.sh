@@ -25,7 +25,7 @@ count() {
 }
 
 both="find find-10-names find-100-names reconcile 100-changes 8192-changes 16384-changes 32768-changes 65535-changes"
-both+=" 262144-changes in-order-changes 65535-adds 1000-codes 19660-adds mixed half-known-adds one-key post post-in-order post-one-row contacts to-ebcdic to-ascii"
+both+=" 262144-changes in-order-changes 65535-adds 1000-codes 1000-codes-blank 19660-adds mixed half-known-adds one-key post post-in-order post-one-row contacts to-ebcdic to-ascii"
 later=
 later+=" journaled-100-changes journaled-65535-changes journaled-65535-adds"
 later+=" take-back-100-changes take-back-65535-changes take-back-19660-adds"

@@ -15,7 +15,7 @@ use Rattle.text.proofs.BlocksLaws.{map-snoc, holds-over, blocks-snoc, kept-furt
 use Rattle.text.proofs.FieldsLaws.{and-left, and-right, every-columns}
 use Rattle.text.proofs.ColumnsLaws.{Put, put, length-written, columns-written, isFree, columns-free, AllFit, columns-of-columns}
 use Rattle.layout.specs.Key.{isSoundKey}
-use Rattle.casemaster.specs.Row.{rowKey, rowArrearage, balance, isBalanceZero, isLive, isDeleted, isDeletedAt, areFieldsSound, isEndSound, isSoundRow, isOldEndSound, isSoundOldRow}
+use Rattle.casemaster.specs.Row.{rowKey, rowArrearage, balance, isBalanceZero, isLive, isDeleted, isDeletedExactly, areFieldsSound, isEndSound, isSoundRow, isOldEndSound, isSoundOldRow}
 use Rattle.casemaster.specs.Master.{rowsOf}
 use Rattle.casemaster.specs.Refusals.{oldMasterRefusal}
 use Rattle.casemaster.specs.Search.{RowPut}
@@ -129,8 +129,8 @@ module _ (row : List ℕ) (l : length row ≡ 200) where
         zeros-digits,
         zeros-zero,
         and-true (isZero (columns 66 73 row)),
-        rest-blank (and-right (isDeletedAt (isZero (rowArrearage row)) row) (isBlank (columns 197 200 row)) t),
-        and-left (isDeletedAt (isZero (rowArrearage row)) row) (isBlank (columns 197 200 row)) t,
+        rest-blank (and-right (isDeletedExactly (isZero (rowArrearage row)) row) (isBlank (columns 197 200 row)) t),
+        and-left (isDeletedExactly (isZero (rowArrearage row)) row) (isBlank (columns 197 200 row)) t,
       )
 
   pub converted-sound : isSoundOldRow row ≡ true → isSoundRow (withZeroCents row) ≡ true

@@ -5,7 +5,7 @@ use mathlib.Core.Path.{_≡_}
 use mathlib.Core.Bool.{Bool, true, false, cond}
 use lib.Dec.{eqb}
 
--- refused, in order: the number of a refusal where it holds, else of the first behind it; behind the last one stands 0
+-- refused, in order: the number of a refusal where it holds, else what comes behind it: the next refusal, or 0 behind the last
 abbrev pub refuseIf : Bool → ℕ → ℕ → ℕ
 refuseIf holds number behind = cond holds number behind
 

@@ -45,7 +45,7 @@ EveryPosting = (c : PostCall) (o : PostOutcome) → IsPosting c o → isCarriedO
 
 -- the order of lines of different keys doesn't matter: two postings from the same rows, with the same lines in the same order under each key, leave
 -- the same rows and post the same lines under each key
-pub record SameEffect (g : PostCall) (o : PostOutcome) (h : PostCall) (p : PostOutcome) : Type 0 where
+pub record SamePosting (g : PostCall) (o : PostOutcome) (h : PostCall) (p : PostOutcome) : Type 0 where
   pub rows : rowsAfterPosting g o ≡ rowsAfterPosting h p
   pub posted-same : (key : List ℕ)
       → postedUnder key (rowsBefore g) (linesIn (g .file)) ≡ postedUnder key (rowsBefore h) (linesIn (h .file))
@@ -59,4 +59,4 @@ TwoPostings =
     → isCarriedOut (p .answer) ≡ true
     → rowsBefore g ≡ rowsBefore h
     → ((key : List ℕ) → linesUnder key (linesIn (g .file)) ≡ linesUnder key (linesIn (h .file)))
-    → SameEffect g o h p
+    → SamePosting g o h p

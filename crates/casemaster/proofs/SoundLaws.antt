@@ -12,7 +12,7 @@ use Rattle.text.specs.Characters.{isDigit, space, D}
 use Rattle.text.specs.Fields.{columns, isBlank, isZero, allDigits}
 use Rattle.layout.specs.Name.{isName, hasLetter}
 use Rattle.layout.specs.Key.{isSoundKey}
-use Rattle.casemaster.specs.Row.{isBalanceZero, isLive, isDeleted, isDeletedAt, areFieldsSound, isEndSound, isSoundRow}
+use Rattle.casemaster.specs.Row.{isBalanceZero, isLive, isDeleted, isDeletedExactly, areFieldsSound, isEndSound, isSoundRow}
 use Rattle.text.proofs.FieldsLaws.{and-left, and-right, length-columns}
 use Rattle.text.proofs.BoolLaws.{and-both}
 use Rattle.layout.proofs.LocalsLaws.{every-append}
@@ -51,7 +51,7 @@ module _ (row : List ℕ) where
       let t = and-right (isSoundKey (columns 1 12 row)) (areFieldsSound row && isEndSound row) t0 in
       let t1 = and-left (areFieldsSound row) (isEndSound row) t in
       let e1 = and-right (areFieldsSound row) (isEndSound row) t in
-      let e2 = and-right (isDeletedAt (isBalanceZero row) row) (allDigits (columns 197 198 row) && isBlank (columns 199 200 row)) e1 in
+      let e2 = and-right (isDeletedExactly (isBalanceZero row) row) (allDigits (columns 197 198 row) && isBlank (columns 199 200 row)) e1 in
       let t2 = and-right (allDigits (columns 13 15 row)) _ t1 in
       let t3 = and-right (allDigits (columns 66 73 row)) _ t2 in
       let t4 = and-right (allDigits (columns 79 90 row)) _ t3 in
@@ -65,7 +65,7 @@ module _ (row : List ℕ) where
         year-digits = and-left (allDigits (columns 79 82 row)) (allDigits (columns 83 90 row)) p;
         payment-digits = and-right (allDigits (columns 79 82 row)) (allDigits (columns 83 90 row)) p;
         status-right =
-            and-left (isDeletedAt (isBalanceZero row) row) (allDigits (columns 197 198 row) && isBlank (columns 199 200 row)) e1;
+            and-left (isDeletedExactly (isBalanceZero row) row) (allDigits (columns 197 198 row) && isBlank (columns 199 200 row)) e1;
         cents-digits = and-left (allDigits (columns 197 198 row)) (isBlank (columns 199 200 row)) e2;
         filler-blank = and-right (allDigits (columns 197 198 row)) (isBlank (columns 199 200 row)) e2;
       }

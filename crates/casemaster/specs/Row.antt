@@ -42,6 +42,10 @@ rowCaseId row = columns 16 30 row
 abbrev pub rowLastName : List ℕ → List ℕ
 rowLastName row = columns 31 50 row
 
+-- the first four columns of the last name
+abbrev pub rowNameFront : List ℕ → List ℕ
+rowNameFront row = columns 31 34 row
+
 -- first name
 abbrev pub rowFirstName : List ℕ → List ℕ
 rowFirstName row = columns 51 65 row
@@ -125,9 +129,9 @@ isLive row = eqb (getD (rowStatus row) 0 0) space
 unfoldable pub isDeleted : List ℕ → Bool
 isDeleted row = eqb (getD (rowStatus row) 0 0) D
 
--- D exactly when something is zero
-abbrev pub isDeletedAt : Bool → List ℕ → Bool
-isDeletedAt zero row = cond zero (isDeleted row) (isLive row)
+-- D exactly when the balance is zero
+abbrev pub isDeletedExactly : Bool → List ℕ → Bool
+isDeletedExactly isZeroBalance row = cond isZeroBalance (isDeleted row) (isLive row)
 
 -- digits in 13–15, 66–73, 79–90, and a last name free of 05 as for type A
 unfoldable pub areFieldsSound : List ℕ → Bool
@@ -135,11 +139,11 @@ areFieldsSound row =
     allDigits (rowLocalCode row)
     && (allDigits (rowArrearage row)
     && (allDigits (columns 79 90 row)
-    && (isName (columns 31 34 row) && hasLetter (columns 31 34 row))))
+    && (isName (rowNameFront row) && hasLetter (rowNameFront row))))
 
 -- deleted exactly when both parts of the balance are zero, digits in 197–198, and spaces in 199–200
 unfoldable pub isEndSound : List ℕ → Bool
-isEndSound row = isDeletedAt (isBalanceZero row) row && (allDigits (rowCents row) && isBlank (rowFiller row))
+isEndSound row = isDeletedExactly (isBalanceZero row) row && (allDigits (rowCents row) && isBlank (rowFiller row))
 
 -- a sound row has a key free of errors 01, 02 and 04, such fields and such an end; the other columns are free
 unfoldable pub isSoundRow : List ℕ → Bool
@@ -149,7 +153,7 @@ isSoundRow row = isSoundKey (rowKey row) && (areFieldsSound row && isEndSound ro
 
 -- deleted exactly when the arrearage is zero, and spaces in 197–200
 unfoldable pub isOldEndSound : List ℕ → Bool
-isOldEndSound row = isDeletedAt (isZero (rowArrearage row)) row && isBlank (columns 197 200 row)
+isOldEndSound row = isDeletedExactly (isZero (rowArrearage row)) row && isBlank (columns 197 200 row)
 
 unfoldable pub isSoundOldRow : List ℕ → Bool
 isSoundOldRow row = isSoundKey (rowKey row) && (areFieldsSound row && isOldEndSound row)

@@ -12,7 +12,7 @@ ghost use lib.ListN.{length, take, drop};
 ghost use Rattle.text.specs.Fields.{columns, isZero, allDigits};
 ghost use Rattle.text.specs.ByteNumbers.{bytesNumber};
 ghost use Rattle.layout.specs.StateCodes.{isStateCode};
-ghost use Rattle.casemaster.specs.Row.{isLive, isDeletedAt, areFieldsSound, isEndSound, isOldEndSound};
+ghost use Rattle.casemaster.specs.Row.{isLive, isDeletedExactly, areFieldsSound, isEndSound, isOldEndSound};
 ghost use Rattle.casemaster.specs.Forms.{isEndSoundIn, isSoundIn};
 
 // The key's columns are the first of a row.
@@ -162,7 +162,7 @@ pub fn is_live(row: &[u8]) -> bool
 // Whether the status is D exactly when something is zero, and else a space.
 fn is_deleted_at(row: &[u8], zero: bool) -> bool
     requires { ⌜ length (now row) ≡ 200 ⌝ }
-    ensures { λ r. ⌜ r ≡ isDeletedAt zero (now (row .entry)) ⌝ }
+    ensures { λ r. ⌜ r ≡ isDeletedExactly zero (now (row .entry)) ⌝ }
 {
     if zero {
         row[195] == DELETED

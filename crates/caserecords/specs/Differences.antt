@@ -1,12 +1,11 @@
 -- Document 02, item 11: what differs between a row and a wanted row, and refusal 29 as a test. That the test holds exactly if no list of C, L,
 -- R and M records of the key leads there, the paper's sentence, is `EveryPair` of crate `leading`. Assumes nothing.
 use Prim.Native.Nat.{ℕ}
-use mathlib.Core.List.{List, [], _∷_}
+use mathlib.Core.List.{List}
 use mathlib.Core.Bool.{Bool, not, _&&_, _||_}
 use lib.ListN.{getD}
-use Rattle.text.specs.Characters.{zeroDigit}
 use Rattle.text.specs.Fields.{columns, isBlank, isZero, sameBytes}
-use Rattle.layout.specs.Locals.{isListed}
+use Rattle.layout.specs.Locals.{zeroLocalCode, isListed}
 use Rattle.casemaster.specs.Row.{rowLocalCode, rowCaseId, rowExclusions, rowCents, isLive}
 use Rattle.exclusionsets.specs.ExclusionText.{isWidened}
 
@@ -37,13 +36,13 @@ isOtherElsewhere row wanted =
 
 -- 000 or listed
 unfoldable pub isZeroOrListed : List ℕ → List ℕ → Bool
-isZeroOrListed list code = sameBytes code (zeroDigit ∷ zeroDigit ∷ zeroDigit ∷ []) || isListed code list
+isZeroOrListed list code = sameBytes code zeroLocalCode || isListed code list
 
 -- the exclusion set of a row as a number
 abbrev pub setOf : List ℕ → ℕ
 setOf row = getD (rowExclusions row) 0 0
 
--- something that differs can't be had by C, L, R and M
+-- something that differs can't be changed by C, L, R and M
 unfoldable pub isBarred : List ℕ → List ℕ → List ℕ → Bool
 isBarred row wanted list =
     not (isLive row)
@@ -53,6 +52,6 @@ isBarred row wanted list =
     || isOtherSet row wanted && not (isWidened (setOf wanted))
     || isOtherBalance row wanted && not (isZero (rowCents wanted))
 
--- 29, as a test: the rows differ, and something that differs can't be had
+-- 29, as a test: the rows differ, and something that differs can't be changed so
 unfoldable pub refusal29 : List ℕ → List ℕ → List ℕ → Bool
 refusal29 row wanted list = not (sameBytes row wanted) && isBarred row wanted list

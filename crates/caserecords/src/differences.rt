@@ -76,10 +76,10 @@ fn is_other_elsewhere(row: &[u8], wanted: &[u8]) -> bool
 fn is_zero_or_listed(code: &[u8], list: &[u8]) -> bool
     ensures { λ r. ⌜ r ≡ isZeroOrListed (now (list .entry)) (now (code .entry)) ⌝ }
 {
-    fields::same(code, b"\xF0\xF0\xF0") | locals::listed(code, list)
+    fields::same(code, b"\xF0\xF0\xF0") | locals::listed(code, list, false)
 }
 
-// Whether something that differs can't be had by C, L, R and M.
+// Whether something that differs can't be changed by C, L, R and M.
 fn is_barred(row: &[u8], wanted: &[u8], list: &[u8]) -> bool
     requires { ⌜ (length (now row) ≡ 200) × (length (now wanted) ≡ 200) ⌝ }
     ensures { λ r. ⌜ r ≡ isBarred (now (row .entry)) (now (wanted .entry)) (now (list .entry)) ⌝ }

@@ -15,7 +15,7 @@ use Rattle.text.proofs.WidthLaws.{All}
 use Rattle.text.specs.Fields.{sameBytes}
 use Rattle.casemaster.specs.Row.{rowKey}
 use Rattle.casemaster.specs.Rows.{rowWith}
-use Rattle.journal.specs.Numbers.{numberBytes, Read, unread, read, before, readNumber}
+use Rattle.journal.specs.Numbers.{numberBytes, Read, unread, read, readNumber}
 use Rattle.journal.specs.Journal.{Entry, entry, Journal, entryOf, entriesFrom, journalOf, oldBytes, entryBytes, entriesBytes, journalBytes, ReadEntry, noEntry, oneEntry, readOld, readPlaced, readEntry, beforeOthers, entriesBehind, entriesUpTo, entriesIn, journalIn}
 use Rattle.journal.proofs.NumberLaws.{read-number, read-shorter}
 

@@ -10,7 +10,7 @@ use lib.Dec.{ltb, eqb}
 use lib.ListN.{length}
 use borrow.Author.Tests.{ltb-true, ltb-false, lt-ltb, le-ltb, eqb-false, ne-eqb}
 use Rattle.text.specs.ByteNumbers.{AreBytes}
-use Rattle.journal.specs.Numbers.{groups, numberBytes, Read, unread, read, before, readNumber}
+use Rattle.journal.specs.Numbers.{groups, numberBytes, Read, unread, read, withLowGroup, readNumber}
 
 groups-low : (most n : ℕ) → n < 128 → groups (suc most) n ≡ n ∷ []
 unfolding groups
@@ -51,7 +51,7 @@ module _ (b : ℕ) (bs : List ℕ) where
   unfolding readNumber
   read-low h = rw (lt-ltb b 128 h)
 
-  pub read-high : 128 ≤ b → readNumber (b ∷ bs) ≡ before (b - 128) (readNumber bs)
+  pub read-high : 128 ≤ b → readNumber (b ∷ bs) ≡ withLowGroup (b - 128) (readNumber bs)
   unfolding readNumber
   read-high h = rw (le-ltb b 128 h)
 
@@ -104,10 +104,10 @@ read-shortest (b ∷ bs) a n behind e =
         let w : bs ≡ behind = cc in
         rw (← v, number-low b l, w)
     go false t unread f ih =
-        let g : before (b - 128) (readNumber bs) ≡ read n behind = sym (read-high b bs (ltb-false b 128 t)) ∙ e in
+        let g : withLowGroup (b - 128) (readNumber bs) ≡ read n behind = sym (read-high b bs (ltb-false b 128 t)) ∙ e in
         let z : _≡_ {A = ℕ} 0 1 = (let y : unread ≡ read n behind = rw f at g in cc) in absurd (omega arith)
     go false t (read m r) f ih =
-        let g : before (b - 128) (readNumber bs) ≡ read n behind = sym (read-high b bs (ltb-false b 128 t)) ∙ e in
+        let g : withLowGroup (b - 128) (readNumber bs) ≡ read n behind = sym (read-high b bs (ltb-false b 128 t)) ∙ e in
         more m r (eqb m 0) refl (ltb-false b 128 t) (ih m r f) (rw f at g)
 
 -- a number below 128 to the power k + 1 has at most k + 1 groups
@@ -143,8 +143,8 @@ read-shorter (b ∷ bs) n behind e = go (ltb b 128) refl (readNumber bs) refl (�
         let w : bs ≡ behind = cc in
         rw (← w) (omega arith)
     go false t unread f ih =
-        let g : before (b - 128) (readNumber bs) ≡ read n behind = sym (read-high b bs (ltb-false b 128 t)) ∙ e in
+        let g : withLowGroup (b - 128) (readNumber bs) ≡ read n behind = sym (read-high b bs (ltb-false b 128 t)) ∙ e in
         let z : _≡_ {A = ℕ} 0 1 = (let y : unread ≡ read n behind = rw f at g in cc) in absurd (omega arith)
     go false t (read m r) f ih =
-        let g : before (b - 128) (readNumber bs) ≡ read n behind = sym (read-high b bs (ltb-false b 128 t)) ∙ e in
+        let g : withLowGroup (b - 128) (readNumber bs) ≡ read n behind = sym (read-high b bs (ltb-false b 128 t)) ∙ e in
         more m r (eqb m 0) (ih m r f) (rw f at g)

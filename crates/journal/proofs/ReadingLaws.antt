@@ -12,7 +12,7 @@ use lib.Seq.{drop-cons}
 use borrow.Author.Tests.{lt-ltb, ne-eqb, eqb-true, eqb-false}
 use Rattle.text.specs.Blocks.{spliced}
 use Rattle.text.proofs.SplicedLaws.{spliced-one, spliced-cons}
-use Rattle.journal.specs.Numbers.{numberBytes, Read, unread, read, before, readNumber}
+use Rattle.journal.specs.Numbers.{numberBytes, Read, unread, read, withLowGroup, readNumber}
 use Rattle.journal.specs.Reading.{reach, OutOfReach, NumberRead, IsNumber}
 use Rattle.journal.specs.declared.numbers.Number.{Number}
 use Rattle.journal.proofs.NumberLaws.{number-low, number-high, read-low, read-high, read-none}
@@ -65,7 +65,7 @@ lifted-none (read high behind) =
     let e : 0 + high * 1 ≡ high = omega arith in
     rw (and-false (eqb high 0), e)
 
-lifted-before : (n scale low : ℕ) (r : Read) → 1 ≤ scale → lifted n scale (before low r) ≡ lifted (n + low * scale) (scale * 128) r
+lifted-before : (n scale low : ℕ) (r : Read) → 1 ≤ scale → lifted n scale (withLowGroup low r) ≡ lifted (n + low * scale) (scale * 128) r
 lifted-before n scale low unread h = refl
 lifted-before n scale low (read high behind) h = go (eqb high 0) refl
   where

@@ -7,6 +7,7 @@ use keyorder::runs;
 use keyorder::tagged;
 use keywalk::counting;
 use keywork::key_work;
+use layout::locals;
 use layout::records;
 use onecase::case;
 use onecase::case::Case;
@@ -15,12 +16,14 @@ ghost use mathlib.Core.Path.{_≡_};
 ghost use mathlib.Core.Bool.{true};
 ghost use Prim.Native.Nat.{_+_, _*_, _≤_, _<_};
 ghost use lib.ListN.{length};
+ghost use Rattle.casemaster.specs.Master.{rowIn};
 ghost use Rattle.text.specs.Options.{oneOrNone};
+ghost use Rattle.layout.specs.OrderedList.{IsOrderedIf};
 ghost use Rattle.casemaster.specs.Search.{KeysRise};
 ghost use Rattle.judging.specs.State.{rowIf};
 ghost use Rattle.onecase.specs.Machine.{rowOf};
 ghost use Rattle.keyorder.specs.Runs.{SortedFrom};
-ghost use Rattle.keywalk.specs.Walking.{rowIn, RowOfPut, fixedOf, startOf, StaysBefore, WalkReady};
+ghost use Rattle.keywalk.specs.Walking.{RowOfPut, fixedOf, startOf, StaysBefore, WalkReady};
 ghost use Rattle.journalwalk.specs.JournalWalk.{standOf, KeyRoom, KeyJournaled, JournalRoom, WalkJournaled};
 
 // How far the walk has come: the position in the key order, the first row not yet passed, the place that the next row goes to, and the
@@ -69,10 +72,11 @@ fn walk_key(
     state: &[u8],
     year: u64,
     list: &[u8],
+    ordered: bool,
     journal: &mut [u8],
     wanted: bool,
 ) -> Cursor
-    requires { ⌜ (s .position < own) × SortedFrom (now state) year (now list) (now batch) (now numbers) (s .position) own ⌝ }
+    requires { ⌜ (s .position < own) × SortedFrom (now state) year (now list) (now batch) (now numbers) (s .position) own × IsOrderedIf ordered (now list) ⌝ }
     requires { ⌜ (s .to ≤ s .from) × (s .from ≤ end) × (end * 200 ≤ length (now m)) × KeysRise (now m) (s .from) end ⌝ }
     requires { ⌜ StaysBefore (fixedOf (now state) year (now list) (now batch) own end) (standOf s (now m) (now numbers)) ⌝ }
     requires { ⌜ KeyRoom (fixedOf (now state) year (now list) (now batch) own end) (standOf s (now m) (now numbers)) wanted (s .written) (now journal) ⌝ }
@@ -92,7 +96,18 @@ fn walk_key(
     let at = from + passed;
     let held = counting::is_row_of(m, at, end, &key);
     let case = case_at(m, at, held);
-    let next = key_work::work_key(case, batch, numbers, p, e, gives, state, year, list);
+    let next = key_work::work_key(
+        case,
+        batch,
+        numbers,
+        p,
+        e,
+        gives,
+        state,
+        year,
+        list,
+        ordered,
+    );
     let written = key_entry::put_key_entry(journal, s.written, wanted, to + passed, case, next);
     let placed = put_row_of(m, to + passed, next);
     Cursor {
@@ -126,6 +141,7 @@ pub fn walk_keys(
         (startOf from (now (m .entry)) (now (numbers .entry))) wanted (now (journal .entry)) at
         (now (m .exit)) (now (numbers .exit)) (now (journal .exit)) r ⌝ }
 {
+    let ordered = locals::is_ordered(list);
     let mut s = Cursor {
         position: 0,
         from,
@@ -143,6 +159,7 @@ pub fn walk_keys(
             state,
             year,
             list,
+            ordered,
             journal,
             wanted,
         );

@@ -1,7 +1,7 @@
 -- A record's errors are both parts together; what the first part alone decides, whatever the row and the names given. Assumes nothing.
 use Prim.Native.Nat.{ℕ, _+_, _^_}
 use mathlib.Core.Path.{_≡_, refl, sym, ap, _∙_}
-use mathlib.Core.Bool.{Bool, true, false, not, _&&_, _||_, and-assoc, and-false}
+use mathlib.Core.Bool.{Bool, true, false, not, cond, _&&_, _||_, and-assoc, and-false}
 use mathlib.Core.List.{List, [], _∷_, _++_}
 use mathlib.Core.Option.{Option}
 use native.Mathlib.Omega.{arith}
@@ -12,15 +12,61 @@ use Rattle.text.specs.Characters.{A, B}
 use Rattle.layout.specs.Codes.{numberOfCodes}
 use Rattle.layout.specs.Key.{isOwnKey}
 use Rattle.layout.specs.Record.{isType, recordKey}
-use Rattle.judging.specs.Errors.{error01, error02, error03, error04, error05, error06, error07, error08, error09, error10, error11, error12, error13, error14, error15, error16, error17, error18, isWrongKey, judged09, judged17, code, errors}
+use Rattle.judging.specs.Errors.{error01, error02, error03, error04, error05, error06, error07, error08, error09, error10, error11, error12, error13, error14, error15, error16, error17, error18, ifKnown, isWrongKey, holds09, holds17, code, errors}
 use Rattle.judging.specs.Names.{givesName}
 use Rattle.judging.specs.Parts.{IsFirst, firstCodes, codes06to08, codes10to13, codes14to16}
-use Rattle.judging.specs.Front.{frontErrors, rowErrors, IsFront}
+use Rattle.judging.specs.Front.{otherCodes, frontErrors, rowErrors, IsFront}
 use Rattle.judging.specs.Setting.{Setting, settingOf}
 use Rattle.judging.specs.declared.parts.FirstErrors.{FirstErrors}
 use Rattle.judging.specs.declared.front.FrontErrors.{FrontErrors}
 use Rattle.judging.proofs.CodeSums.{number-code, number-none}
 use Rattle.judging.proofs.OwnKeyLaws.{own-wrong}
+
+-- ---- the first part as a list
+
+-- its codes, one by one
+abbrev frontList : List ℕ → ℕ → List ℕ → List ℕ → List ℕ
+frontList state year list rec =
+    code 1 (error01 state rec)
+    ++ (code 2 (error02 rec)
+    ++ (code 3 (error03 rec)
+    ++ (code 4 (error04 rec)
+    ++ (code 5 (error05 rec)
+    ++ (code 6 (ifKnown rec (error06 rec))
+    ++ (code 7 (ifKnown rec (error07 rec))
+    ++ (code 8 (ifKnown rec (error08 rec))
+    ++ (code 10 (ifKnown rec (error10 list rec))
+    ++ (code 11 (ifKnown rec (error11 rec))
+    ++ (code 12 (ifKnown rec (error12 rec))
+    ++ (code 13 (ifKnown rec (error13 year rec))
+    ++ (code 14 (ifKnown rec (error14 rec))
+    ++ (code 15 (ifKnown rec (error15 rec))
+    ++ (code 16 (ifKnown rec (error16 rec))
+    ++ code 18 (error18 rec)))))))))))))))
+
+-- a code at the front is kept, or is 09 or 17
+others-front : (c : ℕ) (b : Bool) (rest : List ℕ)
+    → otherCodes (code c b ++ rest) ≡ cond (eqb c 9 || eqb c 17) [] (code c b) ++ otherCodes rest
+unfolding otherCodes
+others-front c true rest = go (eqb c 9 || eqb c 17)
+  where
+    go : (r : Bool) → cond r (otherCodes rest) (c ∷ otherCodes rest) ≡ cond r [] (c ∷ []) ++ otherCodes rest
+    go true = refl
+    go false = refl
+others-front c false rest = go (eqb c 9 || eqb c 17)
+  where
+    go : (r : Bool) → otherCodes rest ≡ cond {A = List ℕ} r [] [] ++ otherCodes rest
+    go true = refl
+    go false = refl
+
+others-18 : (b : Bool) → otherCodes (code 18 b) ≡ code 18 b
+unfolding otherCodes
+others-18 true = refl
+others-18 false = refl
+
+front-list : (state : List ℕ) (year : ℕ) (list rec : List ℕ) → frontErrors state year list rec ≡ frontList state year list rec
+unfolding frontErrors errors
+front-list state year list rec = simp (others-front, others-18) refl
 
 -- ---- both parts together
 
@@ -28,22 +74,22 @@ module _ (setting : Setting) (row : Option (List ℕ)) (rec : List ℕ) where
   -- the errors of a record on a row are both parts
   pub front-and-row : numberOfCodes (errors setting row rec)
       ≡ numberOfCodes (frontErrors (setting .state) (setting .year) (setting .list) rec) + numberOfCodes (rowErrors setting row rec)
-  unfolding errors frontErrors rowErrors
-  front-and-row = simp number-code (omega arith)
+  unfolding errors rowErrors
+  front-and-row = rw (front-list (setting .state) (setting .year) (setting .list) rec) (simp number-code (omega arith))
 
   -- where neither 09 nor 17 holds, the first part is all
-  pub front-alone : judged09 setting row rec ≡ false → judged17 setting row rec ≡ false
+  pub front-alone : holds09 setting row rec ≡ false → holds17 setting row rec ≡ false
       → errors setting row rec ≡ frontErrors (setting .state) (setting .year) (setting .list) rec
-  unfolding errors frontErrors
-  front-alone e f = rw (e, f)
+  unfolding errors
+  front-alone e f = rw (e, f) (sym (front-list (setting .state) (setting .year) (setting .list) rec))
 
   -- an A has neither 09 nor 17
-  pub add-09 : isType A rec ≡ true → judged09 setting row rec ≡ false
-  unfolding judged09 error09
+  pub add-09 : isType A rec ≡ true → holds09 setting row rec ≡ false
+  unfolding holds09 error09
   add-09 t = rw (t, and-false, and-false)
 
-  pub add-17 : isType A rec ≡ true → judged17 setting row rec ≡ false
-  unfolding judged17 error17
+  pub add-17 : isType A rec ≡ true → holds17 setting row rec ≡ false
+  unfolding holds17 error17
   add-17 t = simp (t, and-false)
 
   pub add-front : isType A rec ≡ true → errors setting row rec ≡ frontErrors (setting .state) (setting .year) (setting .list) rec
@@ -65,22 +111,22 @@ module _ (state : List ℕ) (year : ℕ) (list rec : List ℕ) where
         → p ≡ numberOfCodes (codes14to16 (not (f .kind)) rec)
         → q ≡ numberOfCodes (code 18 (error18 rec))
         → m + n + o + p + q ≡ numberOfCodes (frontErrors state year list rec)
-    unfolding frontErrors
     front-set m n o p q em en eo ep eq =
-        rw (em, en, eo, ep, eq, i .has01, i .has02, i .has03, i .has04, i .has05) (simp number-code (omega arith))
+        rw (em, en, eo, ep, eq, i .has01, i .has02, i .has03, i .has04, i .has05, front-list state year list rec)
+        (simp number-code (omega arith))
 
   -- ---- 09 and 17, from the first part
 
   module _ (f : FrontErrors) (i : IsFront state year list rec f) (names : List (List ℕ)) (row : Option (List ℕ)) where
-    pub row-09 : (not (f .kind) && not (f .key) && error09 row rec) ≡ judged09 (settingOf state year list names) row rec
-    unfolding judged09 isWrongKey
+    pub row-09 : (not (f .kind) && not (f .key) && error09 row rec) ≡ holds09 (settingOf state year list names) row rec
+    unfolding holds09 isWrongKey
     row-09 =
         rw (i .kind-is, i .key-is)
         (and-assoc (not (error03 rec)) (not (error01 state rec || error02 rec || error04 rec)) (error09 row rec))
 
     pub row-17 : (not (f .kind) && not (f .key) && (not (f .name) && (not (error09 row rec) && error17 names row rec)))
-        ≡ judged17 (settingOf state year list names) row rec
-    unfolding judged17 isWrongKey
+        ≡ holds17 (settingOf state year list names) row rec
+    unfolding holds17 isWrongKey
     row-17 =
         rw (i .kind-is, i .key-is, i .name-is)
         (and-assoc (not (error03 rec)) (not (error01 state rec || error02 rec || error04 rec))
@@ -88,13 +134,13 @@ module _ (state : List ℕ) (year : ℕ) (list rec : List ℕ) where
 
     pub row-set : (m n : ℕ) (missing named : Bool)
         → m ≡ numberOfCodes (code 9 missing) → n ≡ numberOfCodes (code 17 named)
-        → missing ≡ judged09 (settingOf state year list names) row rec
-        → named ≡ judged17 (settingOf state year list names) row rec
+        → missing ≡ holds09 (settingOf state year list names) row rec
+        → named ≡ holds17 (settingOf state year list names) row rec
         → m + n ≡ numberOfCodes (rowErrors (settingOf state year list names) row rec)
     unfolding rowErrors
     row-set m n missing named em en e9 e17 =
         rw (em, en, e9, e17)
-        (sym (number-code 9 (judged09 (settingOf state year list names) row rec) (code 17 (judged17 (settingOf state year list names) row rec))))
+        (sym (number-code 9 (holds09 (settingOf state year list names) row rec) (code 17 (holds17 (settingOf state year list names) row rec))))
 
 -- ---- no error of the first part
 
@@ -110,9 +156,9 @@ none-of false false false false false rest z = (refl, refl, refl)
 
 pub front-clean : (state : List ℕ) (year : ℕ) (list rec : List ℕ) → numberOfCodes (frontErrors state year list rec) ≡ 0
     → IsFront state year list rec (record { set = 0; key = false; kind = false; name = false })
-unfolding frontErrors
 front-clean state year list rec z =
-    let n = none-of (error01 state rec) (error02 rec) (error03 rec) (error04 rec) (error05 rec) _ z in
+    let l = ap numberOfCodes (sym (front-list state year list rec)) ∙ z in
+    let n = none-of (error01 state rec) (error02 rec) (error03 rec) (error04 rec) (error05 rec) _ l in
     record { set-is = sym z; key-is = n .0; kind-is = n .1; name-is = n .2 }
 
 -- ---- a B gives its name exactly where it has no error of the first part
@@ -188,9 +234,8 @@ module _ (rec : List ℕ) (e : getD rec 72 0 ≡ B) where
       → frontErrors state year list rec
       ≡ code 1 (error01 state rec) ++ (code 2 (error02 rec) ++ (code 3 (error03 rec) ++ (code 4 (error04 rec) ++ (code 5 (error05 rec)
       ++ (code 6 (not (error03 rec) && error06 rec) ++ code 18 (error18 rec))))))
-  unfolding frontErrors
   b-front state year list =
-      rw (b-07, b-08, b-10 list, b-11, b-12, b-13 year, b-14, b-15, b-16, and-false (not (error03 rec)))
+      rw (front-list state year list rec, b-07, b-08, b-10 list, b-11, b-12, b-13 year, b-14, b-15, b-16, and-false (not (error03 rec)))
 
 pub gives-front : (state : List ℕ) (year : ℕ) (list rec : List ℕ)
     → givesName state rec ≡ (isType B rec && eqb (numberOfCodes (frontErrors state year list rec)) 0)

@@ -3,7 +3,7 @@ use Prim.Native.Nat.{ℕ, _≤_, _<_}
 use mathlib.Core.List.{List}
 use mathlib.Core.Option.{Option}
 use lib.Dec.{lit≤, lit<}
-use Rattle.judging.specs.Errors.{error01, error02, error03, error04, error05, error06, error07, error08, error10, error11, error12, error13, error14, error15, error16, error18, ifKnown, judged09, judged17, errors}
+use Rattle.judging.specs.Errors.{error01, error02, error03, error04, error05, error06, error07, error08, error10, error11, error12, error13, error14, error15, error16, error18, ifKnown, holds09, holds17, errors}
 use Rattle.judging.specs.Warnings.{warning51, warning52, warnings}
 use Rattle.judging.proofs.CodeSums.{Rises, rising-code, rising-last}
 use Rattle.judging.specs.Setting.{Setting}
@@ -20,7 +20,7 @@ module _ (setting : Setting) (row : Option (List ℕ)) (rec : List ℕ) where
       (rising-code (ifKnown rec (error06 rec)) 6 64 6 (lit≤ tt) (lit< tt)
       (rising-code (ifKnown rec (error07 rec)) 7 64 7 (lit≤ tt) (lit< tt)
       (rising-code (ifKnown rec (error08 rec)) 8 64 8 (lit≤ tt) (lit< tt)
-      (rising-code (judged09 setting row rec) 9 64 9 (lit≤ tt) (lit< tt)
+      (rising-code (holds09 setting row rec) 9 64 9 (lit≤ tt) (lit< tt)
       (rising-code (ifKnown rec (error10 (setting .list) rec)) 10 64 10 (lit≤ tt) (lit< tt)
       (rising-code (ifKnown rec (error11 rec)) 11 64 11 (lit≤ tt) (lit< tt)
       (rising-code (ifKnown rec (error12 rec)) 12 64 12 (lit≤ tt) (lit< tt)
@@ -28,7 +28,7 @@ module _ (setting : Setting) (row : Option (List ℕ)) (rec : List ℕ) where
       (rising-code (ifKnown rec (error14 rec)) 14 64 14 (lit≤ tt) (lit< tt)
       (rising-code (ifKnown rec (error15 rec)) 15 64 15 (lit≤ tt) (lit< tt)
       (rising-code (ifKnown rec (error16 rec)) 16 64 16 (lit≤ tt) (lit< tt)
-      (rising-code (judged17 setting row rec) 17 64 17 (lit≤ tt) (lit< tt)
+      (rising-code (holds17 setting row rec) 17 64 17 (lit≤ tt) (lit< tt)
       (rising-last (error18 rec) 18 64 18 (lit≤ tt) (lit< tt))))))))))))))))))
 
   pub warnings-rise : Rises 0 64 (warnings (setting .list) row rec)

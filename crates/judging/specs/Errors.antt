@@ -5,9 +5,9 @@ use mathlib.Core.List.{List, [], _∷_, _++_}
 use mathlib.Core.Bool.{Bool, false, not, cond, _&&_, _||_}
 use mathlib.Core.Option.{Option, none, some}
 use lib.Dec.{ltb}
-use Rattle.text.specs.Characters.{isLetter, zeroDigit, A, B, C, L, M, R, S, letterT, Z}
+use Rattle.text.specs.Characters.{isLetter, A, B, C, L, M, R, S, letterT, Z}
 use Rattle.text.specs.Options.{isNone}
-use Rattle.text.specs.Fields.{columns, isBlank, areDigits, number, sameBytes, isOneOf}
+use Rattle.text.specs.Fields.{isBlank, areDigits, number, sameBytes, isOneOf}
 use Rattle.layout.specs.States.{isState}
 use Rattle.layout.specs.Ssn.{wrongSsn}
 use Rattle.layout.specs.Name.{isName, hasLetter}
@@ -15,19 +15,20 @@ use Rattle.layout.specs.Zip.{isZip}
 use Rattle.dates.specs.Calendar.{isDate}
 use Rattle.layout.specs.ProcessYear.{inWindow}
 use Rattle.exclusionsets.specs.Exclusions.{exclusionsOf}
-use Rattle.layout.specs.Locals.{isListed}
+use Rattle.layout.specs.Locals.{zeroLocalCode, isListed}
+use Rattle.layout.specs.ChartA1.{sentState, localCode, ssn, caseId, nameFront, arrearage, transferState, processYear, line1, line2, city, addressState, zipCode, dateIssued, exclusions, filler}
 use Rattle.layout.specs.Key.{isCaseType}
-use Rattle.casemaster.specs.Row.{isLive}
+use Rattle.casemaster.specs.Row.{rowNameFront, isLive}
 use Rattle.layout.specs.Record.{isType, isKnownType, caseTypeOf, firstInitial}
 use Rattle.judging.specs.Setting.{Setting}
 
 -- 01: state not in the table, or not the control record's
 unfoldable pub error01 : List ℕ → List ℕ → Bool
-error01 state rec = not (isState (columns 1 2 rec)) || not (sameBytes (columns 1 2 rec) state)
+error01 state rec = not (isState (sentState rec)) || not (sameBytes (sentState rec) state)
 
 -- 02: SSN (6–14) not nine digits, or all zero; or below area 900 with area 000 or 666, group 00 or serial 0000
 unfoldable pub error02 : List ℕ → Bool
-error02 rec = wrongSsn (columns 6 14 rec)
+error02 rec = wrongSsn (ssn rec)
 
 -- 03: type (73) none of A B C D L M R S T Z
 unfoldable pub error03 : List ℕ → Bool
@@ -39,7 +40,7 @@ error04 rec = not (isCaseType (caseTypeOf rec))
 
 -- 05: 30–33 aren't one or more letters or hyphens with only spaces behind; for A and B also without a letter
 unfoldable pub error05 : List ℕ → Bool
-error05 rec = not (isName (columns 30 33 rec)) || (isType A rec || isType B rec) && not (hasLetter (columns 30 33 rec))
+error05 rec = not (isName (nameFront rec)) || (isType A rec || isType B rec) && not (hasLetter (nameFront rec))
 
 -- 06 (A, B): 50 not a letter
 unfoldable pub error06 : List ℕ → Bool
@@ -47,11 +48,11 @@ error06 rec = (isType A rec || isType B rec) && not (isLetter (firstInitial rec)
 
 -- 07 (A, M, S): 65–72 not eight digits
 unfoldable pub error07 : List ℕ → Bool
-error07 rec = (isType A rec || isType M rec || isType S rec) && not (areDigits 8 (columns 65 72 rec))
+error07 rec = (isType A rec || isType M rec || isType S rec) && not (areDigits 8 (arrearage rec))
 
--- 08 (A): digits, below 25
+-- 08 (A): 65–72 digits, below 25
 unfoldable pub error08 : List ℕ → Bool
-error08 rec = isType A rec && (areDigits 8 (columns 65 72 rec) && ltb (number (columns 65 72 rec)) 25)
+error08 rec = isType A rec && (areDigits 8 (arrearage rec) && ltb (number (arrearage rec)) 25)
 
 -- a live row with this key
 unfoldable pub isLiveRow : Option (List ℕ) → Bool
@@ -62,13 +63,9 @@ isLiveRow (some row) = isLive row
 unfoldable pub error09 : Option (List ℕ) → List ℕ → Bool
 error09 row rec = not (isType A rec) && not (isLiveRow row)
 
--- the local code 000
-abbrev pub zeroLocalCode : List ℕ
-zeroLocalCode = zeroDigit ∷ zeroDigit ∷ zeroDigit ∷ []
-
 -- a local code (3–5) that is spaces, 000 or listed
 unfoldable pub isLocalCode : List ℕ → List ℕ → Bool
-isLocalCode list rec = isBlank (columns 3 5 rec) || sameBytes (columns 3 5 rec) zeroLocalCode || isListed (columns 3 5 rec) list
+isLocalCode list rec = isBlank (localCode rec) || sameBytes (localCode rec) zeroLocalCode || isListed (localCode rec) list
 
 -- 10 (L): local code (3–5) neither spaces, 000 nor listed
 unfoldable pub error10 : List ℕ → List ℕ → Bool
@@ -76,47 +73,47 @@ error10 list rec = isType L rec && not (isLocalCode list rec)
 
 -- 11 (C): case ID (15–29) all spaces
 unfoldable pub error11 : List ℕ → Bool
-error11 rec = isType C rec && isBlank (columns 15 29 rec)
+error11 rec = isType C rec && isBlank (caseId rec)
 
 -- 12 (T): 75–76 not in the table
 unfoldable pub error12 : List ℕ → Bool
-error12 rec = isType letterT rec && not (isState (columns 75 76 rec))
+error12 rec = isType letterT rec && not (isState (transferState rec))
 
 -- 13 (S): 80–83 not four digits Y with year − 7 ≤ Y ≤ year
 unfoldable pub error13 : ℕ → List ℕ → Bool
-error13 year rec = isType S rec && not (inWindow year (columns 80 83 rec))
+error13 year rec = isType S rec && not (inWindow year (processYear rec))
 
--- 14 (Z): both lines blank, city blank, state not in the table, or ZIP wrong
+-- 14 (Z): both lines (84–113, 114–143) blank, city (144–168) blank, state (169–170) not in the table, or ZIP (171–179) wrong
 unfoldable pub wrongAddress : List ℕ → Bool
 wrongAddress rec =
-    isBlank (columns 84 113 rec) && isBlank (columns 114 143 rec) || isBlank (columns 144 168 rec)
-    || not (isState (columns 169 170 rec)) || not (isZip (columns 171 179 rec))
+    isBlank (line1 rec) && isBlank (line2 rec) || isBlank (city rec)
+    || not (isState (addressState rec)) || not (isZip (zipCode rec))
 
 -- 14 (A): a state or ZIP that isn't blank and is wrong
 unfoldable pub wrongPart : List ℕ → Bool
 wrongPart rec =
-    not (isBlank (columns 169 170 rec)) && not (isState (columns 169 170 rec))
-    || not (isBlank (columns 171 179 rec)) && not (isZip (columns 171 179 rec))
+    not (isBlank (addressState rec)) && not (isState (addressState rec))
+    || not (isBlank (zipCode rec)) && not (isZip (zipCode rec))
 
 unfoldable pub error14 : List ℕ → Bool
 error14 rec = isType Z rec && wrongAddress rec || isType A rec && wrongPart rec
 
 -- 15 (A): 180–187 neither blank nor a Gregorian date CCYYMMDD of 1900–9999
 unfoldable pub error15 : List ℕ → Bool
-error15 rec = isType A rec && not (isBlank (columns 180 187 rec) || isDate (columns 180 187 rec))
+error15 rec = isType A rec && not (isBlank (dateIssued rec) || isDate (dateIssued rec))
 
 -- 16 (A, R): a word of 188–227 isn't one of the eight
 unfoldable pub error16 : List ℕ → Bool
-error16 rec = (isType A rec || isType R rec) && isNone (exclusionsOf (columns 188 227 rec))
+error16 rec = (isType A rec || isType R rec) && isNone (exclusionsOf (exclusions rec))
 
 -- columns 30–33 differ from the stored 31–34
 unfoldable pub isOtherName : Option (List ℕ) → List ℕ → Bool
 isOtherName none rec = false
-isOtherName (some row) rec = not (sameBytes (columns 30 33 rec) (columns 31 34 row))
+isOtherName (some row) rec = not (sameBytes (nameFront rec) (rowNameFront row))
 
 -- columns 30–33 are one of the names that B records of the key give
 unfoldable pub isGiven : List (List ℕ) → List ℕ → Bool
-isGiven names rec = isOneOf (columns 30 33 rec) names
+isGiven names rec = isOneOf (nameFront rec) names
 
 -- 17 (all but A, B): 30–33 may match the stored name or one that a B record of the key gives; all differ
 unfoldable pub error17 : List (List ℕ) → Option (List ℕ) → List ℕ → Bool
@@ -124,7 +121,7 @@ error17 names row rec = not (isType A rec || isType B rec) && (isOtherName row r
 
 -- 18: 228–244 not spaces
 unfoldable pub error18 : List ℕ → Bool
-error18 rec = not (isBlank (columns 228 244 rec))
+error18 rec = not (isBlank (filler rec))
 
 -- ---- which are judged
 
@@ -132,16 +129,17 @@ error18 rec = not (isBlank (columns 228 244 rec))
 abbrev pub ifKnown : List ℕ → Bool → Bool
 ifKnown rec holds = not (error03 rec) && holds
 
--- with 01, 02 or 04, 09 and 17 aren't
+-- 01, 02 or 04
 unfoldable pub isWrongKey : Setting → List ℕ → Bool
 isWrongKey setting rec = error01 (setting .state) rec || error02 rec || error04 rec
 
-unfoldable pub judged09 : Setting → Option (List ℕ) → List ℕ → Bool
-judged09 setting row rec = ifKnown rec (not (isWrongKey setting rec) && error09 row rec)
+-- 09 where it is judged: with 01, 02 or 04 it isn't
+unfoldable pub holds09 : Setting → Option (List ℕ) → List ℕ → Bool
+holds09 setting row rec = ifKnown rec (not (isWrongKey setting rec) && error09 row rec)
 
--- 17 isn't judged where 05 or 09 holds
-unfoldable pub judged17 : Setting → Option (List ℕ) → List ℕ → Bool
-judged17 setting row rec =
+-- 17 where it is judged: with 01, 02 or 04 it isn't, nor where 05 or 09 holds
+unfoldable pub holds17 : Setting → Option (List ℕ) → List ℕ → Bool
+holds17 setting row rec =
     ifKnown rec (not (isWrongKey setting rec) && (not (error05 rec) && (not (error09 row rec) && error17 (setting .names) row rec)))
 
 -- a code where it holds
@@ -159,7 +157,7 @@ errors setting row rec =
     ++ (code 6 (ifKnown rec (error06 rec))
     ++ (code 7 (ifKnown rec (error07 rec))
     ++ (code 8 (ifKnown rec (error08 rec))
-    ++ (code 9 (judged09 setting row rec)
+    ++ (code 9 (holds09 setting row rec)
     ++ (code 10 (ifKnown rec (error10 (setting .list) rec))
     ++ (code 11 (ifKnown rec (error11 rec))
     ++ (code 12 (ifKnown rec (error12 rec))
@@ -167,5 +165,5 @@ errors setting row rec =
     ++ (code 14 (ifKnown rec (error14 rec))
     ++ (code 15 (ifKnown rec (error15 rec))
     ++ (code 16 (ifKnown rec (error16 rec))
-    ++ (code 17 (judged17 setting row rec)
+    ++ (code 17 (holds17 setting row rec)
     ++ code 18 (error18 rec)))))))))))))))))

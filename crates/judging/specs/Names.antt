@@ -3,7 +3,7 @@ use Prim.Native.Nat.{ℕ}
 use mathlib.Core.List.{List, [], _∷_}
 use mathlib.Core.Bool.{Bool, not, cond, _&&_, _||_}
 use Rattle.text.specs.Characters.{B}
-use Rattle.text.specs.Fields.{columns}
+use Rattle.layout.specs.ChartA1.{nameFront}
 use Rattle.layout.specs.Record.{isType}
 use Rattle.judging.specs.Errors.{error01, error02, error03, error04, error05, error06, error18}
 
@@ -17,4 +17,4 @@ givesName state rec =
 -- the names that some records give: columns 30–33 of those that give one
 unfoldable pub namesGiven : List ℕ → List (List ℕ) → List (List ℕ)
 namesGiven state [] = []
-namesGiven state (rec ∷ recs) = cond (givesName state rec) (columns 30 33 rec ∷ namesGiven state recs) (namesGiven state recs)
+namesGiven state (rec ∷ recs) = cond (givesName state rec) (nameFront rec ∷ namesGiven state recs) (namesGiven state recs)

@@ -6,7 +6,7 @@ use mathlib.Core.List.{List, _++_}
 use mathlib.Core.Bool.{Bool, _&&_}
 use mathlib.Core.Option.{Option}
 use Rattle.layout.specs.Codes.{numberOfCodes}
-use Rattle.judging.specs.Errors.{error01, error02, error03, error04, error05, error06, error07, error08, error10, error11, error12, error13, error14, error15, error16, isGiven, judged17, code, errors}
+use Rattle.judging.specs.Errors.{error01, error02, error03, error04, error05, error06, error07, error08, error10, error11, error12, error13, error14, error15, error16, isGiven, holds17, code, errors}
 use Rattle.judging.specs.Setting.{Setting}
 use Rattle.judging.specs.declared.parts.FirstErrors.{FirstErrors}
 use Rattle.judging.specs.declared.front.Judged.{Judged}
@@ -40,4 +40,4 @@ codes14to16 known rec = code 14 (known && error14 rec) ++ (code 15 (known && err
 
 -- the set of a record's errors, and whether 17 is among them
 abbrev pub IsJudged : Setting → Option (List ℕ) → List ℕ → Judged → Type 0
-IsJudged setting row rec r = (r .set ≡ numberOfCodes (errors setting row rec)) × (r .named ≡ judged17 setting row rec)
+IsJudged setting row rec r = (r .set ≡ numberOfCodes (errors setting row rec)) × (r .named ≡ holds17 setting row rec)

@@ -23,6 +23,7 @@ ghost use Rattle.text.specs.Characters;
 ghost use Rattle.text.specs.Fields.{columns, areDigits, number};
 ghost use Rattle.exclusionsets.specs.Exclusions.{exclusionsOf};
 ghost use Rattle.layout.specs.Record.{isType};
+ghost use Rattle.layout.specs.OrderedList.{IsOrderedIf};
 ghost use Rattle.text.specs.Options.{isNone};
 ghost use Rattle.judging.specs.Errors.{error01, error02, error03, error04, error05, error06, error07, error08, error09, isLocalCode, error10, error11, error12, error13, error14, wrongAddress, wrongPart, error15, error16, error17, error18};
 ghost use Rattle.judging.specs.Parts.{UnderNames};
@@ -115,21 +116,25 @@ pub fn has_09(rec: &[u8; 245], held: bool, row: &[u8]) -> bool
     !(rec[chart_a1::TYPE_AT] == record::ADD) & !(held & row::is_live(row))
 }
 
-// Whether the local code is spaces, 000 or listed.
-pub fn is_local_code(rec: &[u8; 245], list: &[u8]) -> bool
+// Whether the local code is spaces, 000 or listed; `ordered` says that the list is known to rise.
+pub fn is_local_code(rec: &[u8; 245], list: &[u8], ordered: bool) -> bool
+    requires { ⌜ IsOrderedIf ordered (now list) ⌝ }
     ensures { λ r. ⌜ r ≡ isLocalCode (now (list .entry)) (now (rec .entry)) ⌝ }
 {
     let code = fields::field(rec, chart_a1::LOCAL_CODE);
-    fields::is_blank(code) | fields::same(code, b"\xF0\xF0\xF0") | locals::listed(code, list)
+    fields::is_blank(code)
+        | fields::same(code, b"\xF0\xF0\xF0")
+        | locals::listed(code, list, ordered)
 }
 
 // Error 10 (L): the local code.
-pub fn has_10(rec: &[u8; 245], list: &[u8]) -> bool
+pub fn has_10(rec: &[u8; 245], list: &[u8], ordered: bool) -> bool
+    requires { ⌜ IsOrderedIf ordered (now list) ⌝ }
     ensures { λ r. ⌜ r ≡ error10 (now (list .entry)) (now (rec .entry)) ⌝ }
 {
     let t = rec[chart_a1::TYPE_AT];
     if t == record::LOCAL_CODE {
-        !is_local_code(rec, list)
+        !is_local_code(rec, list, ordered)
     } else {
         false
     }

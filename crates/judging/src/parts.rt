@@ -3,6 +3,7 @@ use crate::errors;
 ghost use mathlib.Core.Path.{_≡_};
 ghost use Prim.Native.Nat.{_≤_, _<_, _^_};
 ghost use Rattle.layout.specs.Codes.{numberOfCodes};
+ghost use Rattle.layout.specs.OrderedList.{IsOrderedIf};
 ghost use Rattle.judging.specs.Errors.{code};
 ghost use Rattle.judging.specs.Parts.{IsFirst, firstCodes, codes06to08, codes10to13, codes14to16};
 
@@ -53,10 +54,11 @@ pub fn set_06_to_08(rec: &[u8; 245], known: bool) -> u64
 }
 
 // The set of errors 10 to 13.
-pub fn set_10_to_13(rec: &[u8; 245], year: u64, list: &[u8], known: bool) -> u64
+pub fn set_10_to_13(rec: &[u8; 245], year: u64, list: &[u8], ordered: bool, known: bool) -> u64
+    requires { ⌜ IsOrderedIf ordered (now list) ⌝ }
     ensures { λ r. ⌜ (r ≡ numberOfCodes (codes10to13 known year (now (list .entry)) (now (rec .entry)))) × (r ≤ 15360) ⌝ }
 {
-    flag(known & errors::has_10(rec, list), 10)
+    flag(known & errors::has_10(rec, list, ordered), 10)
         + (flag(known & errors::has_11(rec), 11)
             + (flag(known & errors::has_12(rec), 12) + flag(known & errors::has_13(rec, year), 13)))
 }

@@ -11,16 +11,18 @@ ghost use mathlib.Core.List.{List};
 ghost use Prim.Native.Nat.{ℕ};
 ghost use lib.ListN.{length};
 ghost use Rattle.layout.specs.Codes.{numberOfCodes};
+ghost use Rattle.layout.specs.OrderedList.{IsOrderedIf};
 ghost use Rattle.judging.specs.Warnings.{warning51, isRenamed, warning52, warnings};
 ghost use Rattle.judging.specs.State.{rowIf};
 
 // Warning 51 (A): the local code is neither blank, 000 nor listed.
-pub fn has_51(rec: &[u8; 245], list: &[u8]) -> bool
+pub fn has_51(rec: &[u8; 245], list: &[u8], ordered: bool) -> bool
+    requires { ⌜ IsOrderedIf ordered (now list) ⌝ }
     ensures { λ r. ⌜ r ≡ warning51 (now (list .entry)) (now (rec .entry)) ⌝ }
 {
     let t = rec[chart_a1::TYPE_AT];
     if t == record::ADD {
-        !errors::is_local_code(rec, list)
+        !errors::is_local_code(rec, list, ordered)
     } else {
         false
     }
@@ -65,9 +67,9 @@ pub fn warned_on_row(local: bool, rec: &[u8; 245], held: bool, row: &[u8]) -> u6
 }
 
 // The set of a record's warnings.
-pub fn warned(rec: &[u8; 245], held: bool, row: &[u8], list: &[u8]) -> u64
-    requires { ⌜ length (now row) ≡ 200 ⌝ }
+pub fn warned(rec: &[u8; 245], held: bool, row: &[u8], list: &[u8], ordered: bool) -> u64
+    requires { ⌜ (length (now row) ≡ 200) × IsOrderedIf ordered (now list) ⌝ }
     ensures { λ r. ⌜ r ≡ numberOfCodes (warnings (now (list .entry)) (rowIf held (now (row .entry))) (now (rec .entry))) ⌝ }
 {
-    warned_on_row(has_51(rec, list), rec, held, row)
+    warned_on_row(has_51(rec, list, ordered), rec, held, row)
 }

@@ -7,6 +7,7 @@ use crate::rank;
 use judging::front;
 use judging::warnings;
 use layout::chart_a1;
+use layout::locals;
 use layout::record;
 use layout::records;
 use sorting::sorting::sort;
@@ -16,6 +17,7 @@ ghost use Prim.Native.Nat.{_+_, _*_, _^_, _≤_, _<_};
 ghost use lib.ListN.{length};
 ghost use Rattle.text.specs.Blocks.{blocks};
 ghost use Rattle.layout.specs.Batch.{recordAt};
+ghost use Rattle.layout.specs.OrderedList.{IsOrderedIf};
 ghost use Rattle.keyorder.specs.Tagged.{rankPart, indexPart, kindPart, flagGives, flagLocal, flagWrong, makesFrom, kindOf, IsTag, Tagged, TaggedAll, TaggedOrder};
 
 // The kind of a record by its type.
@@ -93,17 +95,17 @@ pub fn makes_from(number: u64) -> bool
 }
 
 // Detail i judged, its number.
-fn tag_detail(batch: &[u8], i: usize, state: &[u8], year: u64, list: &[u8]) -> u64
-    requires { ⌜ (i * 245 + 245 ≤ length (now batch)) × (i < 2 ^ 24) ⌝ }
+fn tag_detail(batch: &[u8], i: usize, state: &[u8], year: u64, list: &[u8], ordered: bool) -> u64
+    requires { ⌜ (i * 245 + 245 ≤ length (now batch)) × (i < 2 ^ 24) × IsOrderedIf ordered (now list) ⌝ }
     ensures { λ r. ⌜ Tagged (now (state .entry)) year (now (list .entry)) i (recordAt (now (batch .entry)) i) r ⌝ }
 {
     let rec = records::record_at(batch, i);
-    let f = front::judge_front(&rec, state, year, list);
+    let f = front::judge_front(&rec, state, year, list, ordered);
     let key = records::key_at(batch, i);
     let rank = rank::rank_of(state, &key, f.key);
     let set = f.set;
     let wrong = set != 0;
-    let local = warnings::has_51(&rec, list);
+    let local = warnings::has_51(&rec, list, ordered);
     let t = rec[chart_a1::TYPE_AT];
     let kind = kind_of(t);
     let gives = (kind == 1) & !wrong;
@@ -116,9 +118,10 @@ fn tag_details(batch: &[u8], d: usize, state: &[u8], year: u64, list: &[u8], num
     ensures { λ _. ⌜ TaggedAll (now (state .entry)) year (now (list .entry)) (blocks 245 d (now (batch .entry))) d
         (now (numbers .entry)) (now (numbers .exit)) ⌝ }
 {
+    let ordered = locals::is_ordered(list);
     let mut i: usize = 0;
     while i < d {
-        numbers[i] = tag_detail(batch, i, state, year, list);
+        numbers[i] = tag_detail(batch, i, state, year, list, ordered);
         i += 1;
     }
 }

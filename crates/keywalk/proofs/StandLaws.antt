@@ -13,8 +13,8 @@ use lib.Seq.{drop-drop, take-take}
 use Rattle.text.specs.Fields.{sameBytes}
 use Rattle.text.specs.Blocks.{blocks}
 use Rattle.casemaster.specs.Row.{rowKey}
-use Rattle.casemaster.specs.Master.{rowsOf}
-use Rattle.keywalk.specs.Walking.{rowIn, isRowOf, rowOfKey, rowsFrom}
+use Rattle.casemaster.specs.Master.{rowsOf, rowIn}
+use Rattle.keywalk.specs.Walking.{isRowOf, rowOfKey, rowsFrom}
 use Rattle.keywalk.proofs.PassLaws.{AllBelow, FirstNotBelow, isKeyOf, firstOf, behindKey}
 use Rattle.text.proofs.BlocksLaws.{blocks-split}
 use Rattle.text.specs.ByteOrder.{orderOf, isLess}

@@ -10,14 +10,14 @@ use lib.Dec.{ltb}
 use lib.ListN.{length, take}
 use Rattle.text.specs.Options.{oneOrNone}
 use Rattle.text.specs.Fields.{sameBytes}
-use Rattle.casemaster.specs.Master.{rowsOf}
+use Rattle.casemaster.specs.Master.{rowsOf, rowIn}
 use Rattle.casemaster.specs.Search.{AreBelow, RowPut, Pulled}
 use Rattle.text.proofs.FieldsLaws.{and-left}
 use Rattle.keyorder.specs.Tagged.{keyIn}
 use Rattle.keyorder.specs.Runs.{IsRun, RunFound}
 use Rattle.keyorder.specs.declared.runs.Run.{Run}
 use Rattle.keywork.specs.Worked.{RunWorked}
-use Rattle.keywalk.specs.Walking.{rankKey, rowIn, isRowOf, RowOfPut, Fixed, Stand, keyNow, hasRow, rowNow, settingNow, runMakes, KeyCounted, KeyWorked, KeyWalked, StaysBefore}
+use Rattle.keywalk.specs.Walking.{rankKey, isRowOf, RowOfPut, Fixed, Stand, keyNow, hasRow, rowNow, settingNow, runMakes, KeyCounted, KeyWorked, KeyWalked, StaysBefore}
 use Rattle.keywalk.specs.declared.counting.Count.{Count}
 use Rattle.text.proofs.BlocksLaws.{kept-further}
 use Rattle.judging.specs.State.{rowIf}

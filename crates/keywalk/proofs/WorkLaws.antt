@@ -23,7 +23,7 @@ use Rattle.keyorder.specs.Tagged.{indexPart, indexParts, TaggedOrder}
 use Rattle.keyorder.specs.Runs.{IsOwnEnd}
 use Rattle.keyorder.proofs.TaggedLaws.{tag-at, tagged-known}
 use Rattle.keyorder.proofs.RankLaws.{own-below}
-use Rattle.keywork.specs.Packed.{placeIn, Packed, SoundOrNone, IsJudged, HoldsVerdicts}
+use Rattle.keywork.specs.Packed.{placeIn, Packed, SoundOrNone, IsMachineJudgement, HoldsVerdicts}
 use Rattle.keywork.specs.Worked.{AllPlaces, PutBack, UnderAlone, AloneWorked}
 use Rattle.turns.specs.Turns.{verdictOn, finalRows, verdictsOn}
 use Rattle.keywalk.specs.Walk.{distinct, newKeys}
@@ -93,7 +93,7 @@ module _ (settings : Settings) {batch : List ℕ} {d own : ℕ} {rows : List (Li
   opened before rec = refl
 
   -- each is a judgement of the machine
-  pub verdict-judged : (i : ℕ) → i < d → IsJudged (getD verdicts i noJudgement)
+  pub verdict-judged : (i : ℕ) → i < d → IsMachineJudgement (getD verdicts i noJudgement)
   verdict-judged i l =
       let ii : i < length details = rw (Keys.count-details o) l in
       let before : List (List ℕ) = finalRows settings rows (take i details) in

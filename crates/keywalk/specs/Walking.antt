@@ -12,7 +12,7 @@ use Rattle.text.specs.Options.{oneOrNone}
 use Rattle.text.specs.Fields.{sameBytes}
 use Rattle.text.specs.Blocks.{blocks}
 use Rattle.layout.specs.Locals.{isLocalList}
-use Rattle.casemaster.specs.Master.{rowsOf, areSoundRows}
+use Rattle.casemaster.specs.Master.{rowsOf, rowIn, areSoundRows}
 use Rattle.casemaster.specs.Search.{AreBelow}
 use Rattle.layout.specs.Batch.{detailCount}
 use Rattle.onecase.specs.Verdict.{Judgement, noJudgement}
@@ -30,10 +30,6 @@ use Rattle.judging.specs.Names.{namesGiven}
 use Rattle.judging.specs.Setting.{Setting}
 use Rattle.turns.specs.Under.{detailsUnder}
 use Rattle.turns.specs.Settings.{Settings, settingsOf}
-
--- the row at a place
-abbrev pub rowIn : List ℕ → ℕ → List ℕ
-rowIn m p = take 200 (drop (p * 200) m)
 
 -- the row at a place before the end has a key
 abbrev pub isRowOf : List ℕ → ℕ → ℕ → List ℕ → Bool

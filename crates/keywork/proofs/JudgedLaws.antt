@@ -23,7 +23,7 @@ use Rattle.judging.proofs.CodeSums.{number-none}
 use Rattle.onecase.proofs.JudgementLaws.{has-front, name-width}
 use Rattle.onecase.proofs.JudgedLaws.{Judged, judged, rejected-some}
 use Rattle.casemaster.proofs.SoundLaws.{sound-columns}
-use Rattle.keywork.specs.Packed.{characterCode, characterOf, nameNumber, nameIn, SoundOrNone, IsJudged}
+use Rattle.keywork.specs.Packed.{characterCode, characterOf, nameNumber, nameIn, SoundOrNone, IsMachineJudgement}
 
 -- ---- a code's bit in the number of its set
 
@@ -248,7 +248,7 @@ name-read row j h s bytes e =
     four-back (columns 31 34 (n .0)) (name-width (n .0) (k .0)) (name-back (columns 31 34 (n .0)) (sound-columns (n .0) (k .1) .name-right)) in
     subst (λ (z : List ℕ). nameIn (nameNumber z) ≡ z) (sym (n .2)) f
 
-pub judged-set : (j : Judgement) → IsJudged j → JudgedSet j
+pub judged-set : (j : Judgement) → IsMachineJudgement j → JudgedSet j
 judged-set j i =
     let h : Judged (i .row) j = subst (Judged (i .row)) (i .judged) (judged (i .setting) (i .row) (i .rec)) in
     let c : codesOfNumber (setNumber j) ≡ j .codes = codes-number (j .codes) (h .rises) in

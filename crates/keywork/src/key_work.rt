@@ -2,6 +2,7 @@
 use crate::worked;
 use namemarks::marks;
 use onecase::case::Case;
+ghost use Rattle.layout.specs.OrderedList.{IsOrderedIf};
 ghost use Rattle.onecase.specs.Machine.{rowOf};
 ghost use Rattle.keywork.specs.Worked.{RunWorked};
 ghost use Rattle.keywork.specs.KeyWork.{KeyReady, runSetting};
@@ -17,11 +18,13 @@ pub fn work_key(
     state: &[u8],
     year: u64,
     list: &[u8],
+    ordered: bool,
 ) -> Case
     requires { ⌜ KeyReady (now state) year (now list) (now batch) (now numbers) p e gives ⌝ }
+    requires { ⌜ IsOrderedIf ordered (now list) ⌝ }
     ensures { λ r. ⌜ RunWorked (runSetting (now (state .entry)) year (now (list .entry)) (now (batch .entry)) (now (numbers .entry)) p e)
         (now (batch .entry)) p e (rowOf case) (rowOf r) (now (numbers .entry)) (now (numbers .exit)) ⌝ }
 {
     marks::mark_run(batch, state, numbers, p, e, gives);
-    worked::work_run(case, batch, numbers, p, e, state, year, list)
+    worked::work_run(case, batch, numbers, p, e, state, year, list, ordered)
 }

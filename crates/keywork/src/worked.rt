@@ -5,6 +5,7 @@ use crate::packed;
 use judging::front;
 use judging::front::FrontErrors;
 use keyorder::tagged;
+use layout::locals;
 use layout::records;
 use onecase::case::Case;
 use onecase::known;
@@ -14,6 +15,7 @@ ghost use Prim.Native.Nat.{ℕ, _+_, _*_, _^_, _≤_, _<_};
 ghost use lib.Dec.{eqb};
 ghost use lib.ListN.{length, getD};
 ghost use Rattle.layout.specs.Batch.{recordAt};
+ghost use Rattle.layout.specs.OrderedList.{IsOrderedIf};
 ghost use Rattle.layout.specs.Codes.{numberOfCodes};
 ghost use Rattle.judging.specs.Front.{frontErrors, IsFront};
 ghost use Rattle.judging.specs.State.{rowIf};
@@ -36,12 +38,14 @@ fn front_of(
     state: &[u8],
     year: u64,
     list: &[u8],
+    ordered: bool,
 ) -> FrontErrors
+    requires { ⌜ IsOrderedIf ordered (now list) ⌝ }
     ensures { λ r. ⌜ (flagWrong x ≡ not (eqb (numberOfCodes (frontErrors (now (state .entry)) year (now (list .entry)) (now (rec .entry)))) 0)
         → IsFront (now (state .entry)) year (now (list .entry)) (now (rec .entry)) r) × (r .set ≤ 2 ^ 19) ⌝ }
 {
     if tagged::flag_wrong(x) | again {
-        front::judge_front(rec, state, year, list)
+        front::judge_front(rec, state, year, list, ordered)
     } else {
         front::no_errors()
     }
@@ -63,17 +67,18 @@ fn work_tagged(
     state: &[u8],
     year: u64,
     list: &[u8],
+    ordered: bool,
 ) -> After
-    requires { ⌜ (length (now row) ≡ 200) × (indexPart x * 245 + 245 ≤ length (now batch)) ⌝ }
+    requires { ⌜ (length (now row) ≡ 200) × (indexPart x * 245 + 245 ≤ length (now batch)) × IsOrderedIf ordered (now list) ⌝ }
     ensures { λ r. ⌜ UnderTag (now (state .entry)) year (now (list .entry)) (recordAt (now (batch .entry)) (indexPart x)) x (λ setting.
         OneWorked setting (rowIf held (now (row .entry))) (recordAt (now (batch .entry)) (indexPart x)) (indexPart x) (now (row .exit)) r) ⌝ }
 {
     let i = tagged::index_part(x);
     let rec = records::record_at(batch, i);
-    let f = front_of(x, again, &rec, state, year, list);
+    let f = front_of(x, again, &rec, state, year, list, ordered);
     let local = tagged::flag_local(x);
     let given = flag_given(x);
-    let step = known::step_known(row, held, &rec, f, local, given, list);
+    let step = known::step_known(row, held, &rec, f, local, given, list, ordered);
     let verdict = step.verdict;
     let number = packed::with_verdict(i, verdict);
     After {
@@ -92,9 +97,10 @@ pub fn work_run(
     state: &[u8],
     year: u64,
     list: &[u8],
+    ordered: bool,
 ) -> Case
     requires { ⌜ (p ≤ e) × (e ≤ length (now numbers))
-        × ((q : ℕ) → p ≤ q → q < e → indexPart (getD (now numbers) q 0) * 245 + 245 ≤ length (now batch)) ⌝ }
+        × ((q : ℕ) → p ≤ q → q < e → indexPart (getD (now numbers) q 0) * 245 + 245 ≤ length (now batch)) × IsOrderedIf ordered (now list) ⌝ }
     ensures { λ r. ⌜ UnderTags (now (state .entry)) year (now (list .entry)) (now (batch .entry)) (now (numbers .entry)) p e (λ setting.
         RunWorked setting (now (batch .entry)) p e (rowOf case) (rowOf r) (now (numbers .entry)) (now (numbers .exit))) ⌝ }
 {
@@ -103,7 +109,17 @@ pub fn work_run(
     let mut q = p;
     while q < e {
         let again = ahead::read_ahead(batch, numbers, q);
-        let after = work_tagged(&mut row, held, batch, numbers[q], again, state, year, list);
+        let after = work_tagged(
+            &mut row,
+            held,
+            batch,
+            numbers[q],
+            again,
+            state,
+            year,
+            list,
+            ordered,
+        );
         numbers[q] = after.number;
         held = after.held;
         q += 1;
@@ -126,10 +142,21 @@ pub fn work_alone(
     ensures { λ _. ⌜ UnderAlone (now (state .entry)) year (now (list .entry)) (now (batch .entry)) (now (numbers .entry)) p e (λ setting.
         AloneWorked setting (now (batch .entry)) p e (now (numbers .entry)) (now (numbers .exit))) ⌝ }
 {
+    let ordered = locals::is_ordered(list);
     let mut q = p;
     while q < e {
         let mut row = [0x40u8; 200];
-        let after = work_tagged(&mut row, false, batch, numbers[q], false, state, year, list);
+        let after = work_tagged(
+            &mut row,
+            false,
+            batch,
+            numbers[q],
+            false,
+            state,
+            year,
+            list,
+            ordered,
+        );
         numbers[q] = after.number;
         q += 1;
     }

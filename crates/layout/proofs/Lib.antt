@@ -1,3 +1,4 @@
+pub mod CodeNumberLaws
 pub mod CodesLaws
 pub mod KeyLaws
 pub mod KeyNumberLaws
@@ -6,6 +7,7 @@ pub mod LimitsLaws
 pub mod LocalsLaws
 pub mod NameLaws
 pub mod RecordLaws
+pub mod SearchLaws
 pub mod SsnLaws
 pub mod StatesLaws
 pub mod StatePlaceLaws

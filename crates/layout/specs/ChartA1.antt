@@ -18,6 +18,10 @@ caseId rec = columns 15 29 rec
 abbrev pub lastName : List ℕ → List ℕ
 lastName rec = columns 30 49 rec
 
+-- the first four columns of the last name
+abbrev pub nameFront : List ℕ → List ℕ
+nameFront rec = columns 30 33 rec
+
 abbrev pub firstName : List ℕ → List ℕ
 firstName rec = columns 50 64 rec
 

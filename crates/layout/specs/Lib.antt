@@ -16,3 +16,4 @@ pub mod Ssn
 pub mod StateCodes
 pub mod States
 pub mod Zip
+pub mod OrderedList

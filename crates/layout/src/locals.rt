@@ -1,59 +1,43 @@
 // The list of local codes: three bytes each.
-use crate::key;
 use text::byte_order;
 use text::fields;
 ghost use mathlib.Core.Path.{_≡_};
 ghost use mathlib.Core.Bool.{true};
-ghost use Prim.Native.Nat.{_+_, _/_, _≤_};
-ghost use lib.ListN.{length};
+ghost use Prim.Native.Nat.{_+_, _≤_};
+ghost use lib.ListN.{length, take, drop};
+ghost use Rattle.text.specs.ByteNumbers.{bytesNumber};
 ghost use Rattle.layout.specs.Locals.{isListed, isLocalList};
+ghost use Rattle.layout.specs.OrderedList.{IsOrderedIf};
 
 // The three bytes from index i on as a number.
 fn three_number(s: &[u8], i: usize) -> u32
     requires { ⌜ i + 3 ≤ length (now s) ⌝ }
+    ensures { λ r. ⌜ r ≡ bytesNumber (take 3 (drop i (now (s .entry)))) ⌝ }
 {
     ((s[i] as u32) * 256 + (s[i + 1] as u32)) * 256 + (s[i + 2] as u32)
 }
 
-// A place in the list by halving: the code's, where the list rises and has it. Any place is a right answer: the code there is compared.
-fn likely_place(code: &[u8], list: &[u8]) -> usize
-    requires { ⌜ length (now code) ≡ 3 ⌝ }
-    ensures { λ r. ⌜ r ≤ length (now (list .entry)) / 3 ⌝ }
+// Whether a code of three bytes is one of a list of three-digit codes, strictly rising: the list is halved until one code is left, which is
+// compared.
+fn is_found(code: &[u8], list: &[u8]) -> bool
+    requires { ⌜ (length (now code) ≡ 3) × (isLocalList (now list) ≡ true) ⌝ }
+    ensures { λ r. ⌜ r ≡ isListed (now (code .entry)) (now (list .entry)) ⌝ }
 {
     let x = three_number(code, 0);
     let mut lo: usize = 0;
     let mut hi: usize = list.len() / 3;
-    while lo < hi {
+    while lo + 1 < hi {
         let mid = lo + (hi - lo) / 2;
-        if three_number(list, mid * 3) < x {
-            lo = mid + 1;
+        if three_number(list, mid * 3) <= x {
+            lo = mid;
         } else {
             hi = mid;
         }
     }
-    lo
-}
-
-// The bytes of 64 codes: a list of at most this length is read through about as fast as it is halved.
-const SHORT: usize = 192;
-
-// Whether the list is long, and the code stands at its likely place in it.
-fn is_at_likely_place(code: &[u8], list: &[u8]) -> bool
-    ensures { λ r. ⌜ (r ≡ true → isListed (now (code .entry)) (now (list .entry)) ≡ true) ⌝ }
-{
-    if list.len() <= SHORT {
+    if lo == hi {
         return false;
     }
-    if code.len() != 3 {
-        return false;
-    }
-    let p = likely_place(code, list);
-    if p == list.len() / 3 {
-        return false;
-    }
-    let at = p * 3;
-    let end = at + 3;
-    fields::same(code, &list[at..end])
+    three_number(list, lo * 3) == x
 }
 
 // Whether a code is one of the list, which is read from its start.
@@ -73,14 +57,19 @@ fn is_read(code: &[u8], list: &[u8]) -> bool
     false
 }
 
-// Whether a code is one of the list. Most codes are listed, so in a long list the likely place is looked at first.
-pub fn listed(code: &[u8], list: &[u8]) -> bool
+// Whether a code is one of the list; `ordered` says that the list is known to be three-digit codes, strictly rising, and then it is found by
+// halving.
+pub fn listed(code: &[u8], list: &[u8], ordered: bool) -> bool
+    requires { ⌜ IsOrderedIf ordered (now list) ⌝ }
     ensures { λ r. ⌜ r ≡ isListed (now (code .entry)) (now (list .entry)) ⌝ }
 {
-    if is_at_likely_place(code, list) {
-        return true;
+    if !ordered {
+        return is_read(code, list);
     }
-    is_read(code, list)
+    if code.len() != 3 {
+        return false;
+    }
+    is_found(code, list)
 }
 
 // Whether a list is made of three-digit codes, strictly rising.
@@ -94,4 +83,11 @@ pub fn is_local_list(list: &[u8]) -> bool
         return false;
     }
     byte_order::is_rising(list, list.len() / 3, 3, 3)
+}
+
+// Whether the list is known to rise, for those who look up many codes in it.
+pub fn is_ordered(list: &[u8]) -> bool
+    ensures { λ r. ⌜ IsOrderedIf r (now (list .entry)) ⌝ }
+{
+    is_local_list(list)
 }

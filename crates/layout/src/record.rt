@@ -40,26 +40,6 @@ pub fn record_key(rec: &[u8]) -> [u8; 12]
     key
 }
 
-// Whether two records have one key.
-pub fn have_one_key(a: &[u8], b: &[u8]) -> bool
-    requires { ⌜ (length (now a) ≡ 245) × (length (now b) ≡ 245) ⌝ }
-    ensures { λ r. ⌜ r ≡ sameBytes (recordKey (now (a .entry))) (recordKey (now (b .entry))) ⌝ }
-{
-    let state = fields::same(
-        fields::field(a, chart_a1::SUBMITTING_STATE),
-        fields::field(b, chart_a1::SUBMITTING_STATE),
-    );
-    let ssn = fields::same(
-        fields::field(a, chart_a1::SSN),
-        fields::field(b, chart_a1::SSN),
-    );
-    let case_type = fields::same(
-        fields::field(a, chart_a1::CASE_TYPE),
-        fields::field(b, chart_a1::CASE_TYPE),
-    );
-    state & ssn & case_type
-}
-
 // Whether a record is of one of the ten types.
 pub fn is_known_type(rec: &[u8; 245]) -> bool
     ensures { λ r. ⌜ r ≡ isKnownType (now (rec .entry)) ⌝ }

@@ -30,16 +30,3 @@ pub fn key_at(batch: &[u8], i: usize) -> [u8; 12]
     let end = at + RECORD_WIDTH;
     record::record_key(&batch[at..end])
 }
-
-// Whether the records at places i and j have one key.
-pub fn same_key_at(batch: &[u8], i: usize, j: usize) -> bool
-    requires { ⌜ (i * 245 + 245 ≤ length (now batch)) × (j * 245 + 245 ≤ length (now batch)) ⌝ }
-    ensures { λ r. ⌜ r ≡ sameBytes (recordKey (take 245 (drop (i * 245) (now (batch .entry)))))
-        (recordKey (take 245 (drop (j * 245) (now (batch .entry))))) ⌝ }
-{
-    let first = i * RECORD_WIDTH;
-    let first_end = first + RECORD_WIDTH;
-    let other = j * RECORD_WIDTH;
-    let other_end = other + RECORD_WIDTH;
-    record::have_one_key(&batch[first..first_end], &batch[other..other_end])
-}

@@ -2,7 +2,7 @@
 use text::counting;
 ghost use mathlib.Core.Path.{_≡_};
 ghost use mathlib.Core.Bool.{true};
-ghost use Prim.Native.Nat.{_≤_, _<_};
+ghost use Prim.Native.Nat.{_<_};
 ghost use Rattle.layout.specs.States.{stateTable, isState};
 ghost use Rattle.layout.specs.StateCodes.{codeOf, stateCodes, isStateCode, countBelow, statePlace};
 
@@ -78,26 +78,21 @@ fn code_of(code: [u8; 2]) -> u16
     (code[0] as u16) * 256 + (code[1] as u16)
 }
 
-// Whether the number is a state's: a binary search.
+// Whether the number is a state's: the table is halved until one code is left, which is compared. What is found decides no branch, so that states
+// in any order take the same time.
 fn is_code(x: u16) -> bool
     ensures { λ r. ⌜ r ≡ isStateCode x ⌝ }
 {
     let table = states();
     let mut lo: usize = 0;
-    let mut hi: usize = 54;
-    while lo < hi {
-        let mid = lo + (hi - lo) / 2;
-        let y = code_of(table[mid]);
-        if y == x {
-            return true;
-        }
-        if y < x {
-            lo = mid + 1;
-        } else {
-            hi = mid;
-        }
+    let mut left: usize = 54;
+    while 1 < left {
+        let half = left / 2;
+        let y = code_of(table[lo + half]);
+        lo += half * counting::one_if(y <= x);
+        left -= half;
     }
-    false
+    code_of(table[lo]) == x
 }
 
 // Whether s is a code of the state table.

@@ -1,12 +1,18 @@
 // The list of local codes: its form, and which codes are listed.
 use crate::lists;
 use crate::lists::Subject;
-use layout::locals::listed;
+use layout::locals;
 use vector_text::print;
+
+// Whether a code is one of a list, which is looked through in the way that its order allows.
+fn is_in(code: &[u8], list: &[u8]) -> bool {
+    let ordered = locals::is_ordered(list);
+    locals::listed(code, list, ordered)
+}
 
 // Whether a code is one of 001, 005 and 009.
 pub fn is_listed(code: &[u8]) -> bool {
-    listed(code, b"\xF0\xF0\xF1\xF0\xF0\xF5\xF0\xF0\xF9")
+    is_in(code, b"\xF0\xF0\xF1\xF0\xF0\xF5\xF0\xF0\xF9")
 }
 
 pub fn vectors() {
@@ -19,5 +25,5 @@ pub fn vectors() {
     let codes = b"listed in 001005009|001|005|009|000|002|999|100|500|   |1  |00A|00|0010||";
     lists::each(Subject::Listed, codes);
     print::text(b"001 listed in nothing ");
-    print::answer(listed(b"\xF0\xF0\xF1", b""));
+    print::answer(is_in(b"\xF0\xF0\xF1", b""));
 }

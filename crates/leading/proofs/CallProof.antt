@@ -186,7 +186,7 @@ every-call c b h =
       lead = λ n e year. let k = carried c h n e in rw (read-back c b n k) (all-lead c b n k year);
       kept = λ n e. rest-kept c b n (carried c h n e);
       alone = λ k e. refused-known c h k e .0;
-      none = none-29 c b h;
+      none-leads = none-29 c b h;
       comes = call-comes-29 c b h;
     }
 

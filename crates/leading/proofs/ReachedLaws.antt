@@ -16,10 +16,11 @@ use Rattle.text.proofs.FieldsLaws.{and-left, and-right}
 use Rattle.text.proofs.ColumnsLaws.{Put, written, length-written, columns-written, isFree, columns-free, read, AllFit}
 use Rattle.exclusionsets.specs.Exclusions.{exclusionsOf}
 use Rattle.layout.specs.ChartA1.{localCode, caseId, exclusions}
+use Rattle.layout.specs.Locals.{zeroLocalCode}
 use Rattle.layout.specs.Record.{isType}
 use Rattle.layout.proofs.RecordLaws.{length-sent}
 use Rattle.judging.specs.Setting.{Setting}
-use Rattle.judging.specs.Errors.{isLocalCode, zeroLocalCode}
+use Rattle.judging.specs.Errors.{isLocalCode}
 use Rattle.onecase.specs.Changes.{exclusionByte, reidentified, relocated, amended, excluded}
 use Rattle.onecase.specs.Machine.{changed}
 use Rattle.onecase.proofs.JudgementLaws.{NoError}

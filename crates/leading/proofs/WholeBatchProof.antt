@@ -33,7 +33,7 @@ use Rattle.effects.specs.TwoBatches.{verdictsLeft}
 use Rattle.effects.proofs.OutcomeLaws.{verdicts-read}
 use Rattle.leading.specs.Leads.{isCorrection, settingFor, Lead}
 use Rattle.leading.specs.Theorem.{recordsIn}
-use Rattle.leading.specs.WholeBatch.{EveryBatch}
+use Rattle.leading.specs.WholeBatch.{EveryLeadingBatch}
 use Rattle.leading.proofs.ReachedLaws.{reached-self}
 use Rattle.leading.proofs.NoneLeadsLaws.{correction-key, correction-kind, kind-other, reached-all}
 use Rattle.leading.proofs.CallProof.{every-call, lead-wide}
@@ -181,8 +181,8 @@ module _ (row wanted list : List ℕ) (recs : List (List ℕ)) (c : Call) (o : A
 
 -- ---- the theorem
 
-pub every-batch : EveryBatch
-every-batch s n c o before behind b is r a stands i t =
+pub every-leading-batch : EveryLeadingBatch
+every-leading-batch s n c o before behind b is r a stands i t =
     let h = every-call s b is .lead n r (c .year) in
     let w = lead-wide s b is n r in
     record {

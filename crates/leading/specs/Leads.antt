@@ -45,13 +45,12 @@ CanLead row wanted year list = (recs : List (List ℕ)) × Lead row wanted year 
 abbrev pub NoneLeads : List ℕ → List ℕ → ℕ → List ℕ → Type 0
 NoneLeads row wanted year list = CanLead row wanted year list → ⊥
 
--- two sound rows, the wanted one of bytes: what refusal 4 leaves
+-- two sound rows, as they are where refusal 4 does not come; the wanted set is a byte, as every byte lent is
 pub record Pair (row wanted : List ℕ) : Type 0 where
   pub wide : length row ≡ 200
   pub sound : isSoundRow row ≡ true
   pub wanted-wide : length wanted ≡ 200
   pub wanted-sound : isSoundRow wanted ≡ true
-  -- the wanted set is a byte
   pub wanted-byte : setOf wanted < 256
 
 pub record LeadsOrNone (row wanted list : List ℕ) (year : ℕ) : Type 0 where

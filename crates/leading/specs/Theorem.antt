@@ -35,7 +35,7 @@ pub record Promised (c : RecordsCall) : Type 0 where
   -- refused: the output is left alone
   pub alone : (k : ℕ) → c .answer ≡ refused k → c .after ≡ c .out
   -- with 29 no list leads there, in no year
-  pub none : c .answer ≡ refused 29 → (year : ℕ) → NoneLeads (c .row) (c .wanted) year (c .list)
+  pub none-leads : c .answer ≡ refused 29 → (year : ℕ) → NoneLeads (c .row) (c .wanted) year (c .list)
   -- and where 2 and 4 don't come and no list does in some year, 29 comes
   pub comes : isLocalList (c .list) ≡ true → isRow (c .row) ≡ true → isRow (c .wanted) ≡ true → (year : ℕ)
       → NoneLeads (c .row) (c .wanted) year (c .list) → c .answer ≡ refused 29

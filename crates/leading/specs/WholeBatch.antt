@@ -29,8 +29,8 @@ pub record LeftWanted (s : RecordsCall) (c : Call) (o : ApplyOutcome) (before be
   pub no-error : every hasNoError (verdictsLeft c o) ≡ true
 
 -- for every call that wrote n records and every batch of these alone that is carried out, wherever the row stands in the master
-abbrev pub EveryBatch : Type 0
-EveryBatch =
+abbrev pub EveryLeadingBatch : Type 0
+EveryLeadingBatch =
     (s : RecordsCall) (n : ℕ) (c : Call) (o : ApplyOutcome) (before behind : List (List ℕ))
     → AreBytes (s .wanted)
     → IsRecordsCall s

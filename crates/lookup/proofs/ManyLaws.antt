@@ -16,7 +16,7 @@ use Rattle.layout.specs.Limits.{maxRows}
 use Rattle.layout.specs.Key.{isSoundKey}
 use Rattle.casemaster.specs.Refusals.{masterRefusal}
 use Rattle.casemaster.proofs.RefusalsLaws.{master-passed, master-refused}
-use Rattle.lookup.specs.Many.{keysIn, areKeys, Walked, wholeWalk, manyRefusal, ManyOutcome, manyAs, manyRun, manyOutcome}
+use Rattle.lookup.specs.Many.{keysIn, areKeys, LookedUp, wholeWalk, manyRefusal, ManyOutcome, manyAs, manyRun, manyOutcome}
 use Rattle.lookup.specs.Steps.{HasWalked}
 use Rattle.lookup.specs.declared.many.FoundMany.the-variants.{Done, Refused}
 
@@ -70,8 +70,8 @@ module _ (master : List ℕ) (rows : ℕ) (keys places : List ℕ) where
       many-done after comparisons l w =
           let k = length keys / 12 in
           let p : refusal ≡ 0 = master-passed maxRows master rows e _ ∙ rw (t, le-ltb (length places) k l) in
-          let a : wholeWalk master rows keys .answers ≡ take k after = ap (λ (z : Walked). z .answers) (sym (w .walked)) in
-          let n : wholeWalk master rows keys .comparisons ≡ comparisons = ap (λ (z : Walked). z .comparisons) (sym (w .walked)) in
+          let a : wholeWalk master rows keys .answers ≡ take k after = ap (λ (z : LookedUp). z .answers) (sym (w .walked)) in
+          let n : wholeWalk master rows keys .comparisons ≡ comparisons = ap (λ (z : LookedUp). z .comparisons) (sym (w .walked)) in
           let d : take k after ++ drop k places ≡ after = ap (λ (z : List ℕ). take k after ++ z) (sym (w .rest-kept)) ∙ take-append-drop k after in
           let b : over (wholeWalk master rows keys .answers) places ≡ after = rw (a, length-take-le k after (omega (arith, w .same-length)), d) in
           rw (← n, ← b) (outcome-done refusal places (manyRun master rows keys places) p)

@@ -13,14 +13,14 @@ use Rattle.text.specs.Blocks.{blocks}
 use Rattle.text.specs.ByteOrder.{orderIn, orderOf}
 use Rattle.text.proofs.BlocksLaws.{length-blocks, blocks-next, kept-further}
 use Rattle.casemaster.specs.Master.{rowsOf}
-use Rattle.lookup.specs.Many.{noPlace, Walked, oneComparison, answered, byRow, walk}
+use Rattle.lookup.specs.Many.{noPlace, LookedUp, oneComparison, answered, byRow, walk}
 use Rattle.lookup.specs.Steps.{HasWalked}
 
 -- a walk behind what was done before it
-abbrev pub behind : List ℕ → ℕ → Walked → Walked
+abbrev pub behind : List ℕ → ℕ → LookedUp → LookedUp
 behind done comparisons w = record { answers = done ++ w .answers; comparisons = comparisons + w .comparisons }
 
-nothing-done : (w : Walked) → behind [] 0 w ≡ w
+nothing-done : (w : LookedUp) → behind [] 0 w ≡ w
 nothing-done w = ap (λ (z : ℕ). record { answers = w .answers; comparisons = z }) (zero-add (w .comparisons))
 
 behind-end : (done : List ℕ) (c : ℕ) → behind done c (record { answers = []; comparisons = 0 }) ≡ record { answers = done; comparisons = c }
@@ -29,11 +29,11 @@ behind-end done c =
     ap (λ (z : List ℕ). record { answers = z; comparisons = c + 0 }) (append-nil done)
     ∙ ap (λ (z : ℕ). record { answers = done; comparisons = z }) e
 
-behind-answer : (done : List ℕ) (answer c : ℕ) (w : Walked) → behind (done ++ answer ∷ []) c w ≡ behind done c (answered answer w)
+behind-answer : (done : List ℕ) (answer c : ℕ) (w : LookedUp) → behind (done ++ answer ∷ []) c w ≡ behind done c (answered answer w)
 behind-answer done answer c w =
     ap (λ (z : List ℕ). record { answers = z; comparisons = c + w .comparisons }) (append-assoc done (answer ∷ []) (w .answers))
 
-behind-compared : (done : List ℕ) (c : ℕ) (w : Walked) → behind done (c + 1) w ≡ behind done c (oneComparison w)
+behind-compared : (done : List ℕ) (c : ℕ) (w : LookedUp) → behind done (c + 1) w ≡ behind done c (oneComparison w)
 behind-compared done c w =
     let e : c + 1 + w .comparisons ≡ c + suc (w .comparisons) = omega arith in
     ap (λ (z : ℕ). record { answers = done ++ w .answers; comparisons = z }) e
@@ -80,7 +80,7 @@ module _ (m : List ℕ) (n : ℕ) (keys : List ℕ) (k : ℕ) (places₀ : List 
     abbrev key : List ℕ
     key = take 12 (drop (i * 12) keys)
 
-    abbrev left : Walked
+    abbrev left : LookedUp
     left = walk (drop (i + 1) ks) p (drop p rs)
 
     -- the present key is answered

@@ -31,7 +31,7 @@ abbrev pub foundOf : Found → Answer ℕ
 foundOf (At p) = done p
 foundOf (Refused n) = refused n
 
--- the place that was found; behind 15 there is one
+-- the place that was found; where 15 does not hold there is one
 abbrev pub placeFound : Option ℕ → ℕ
 placeFound none = 0
 placeFound (some p) = p

@@ -33,27 +33,27 @@ abbrev pub noPlace : ℕ
 noPlace = 4294967295
 
 -- the answers, one for each key, and the number of comparisons with a row
-pub record Walked : Type 0 where
+pub record LookedUp : Type 0 where
   pub answers : List ℕ
   pub comparisons : ℕ
 
 -- one comparison more
-abbrev pub oneComparison : Walked → Walked
+abbrev pub oneComparison : LookedUp → LookedUp
 oneComparison w = record { answers = w .answers; comparisons = suc (w .comparisons) }
 
 -- the answer of the present key, which is passed
-abbrev pub answered : ℕ → Walked → Walked
+abbrev pub answered : ℕ → LookedUp → LookedUp
 answered answer w = record { answers = answer ∷ w .answers; comparisons = w .comparisons }
 
 -- one of three, by the order of the present row's key against the present key
-abbrev pub byRow : Order → Walked → Walked → Walked → Walked
+abbrev pub byRow : Order → LookedUp → LookedUp → LookedUp → LookedUp
 byRow less smaller same larger = smaller
 byRow equal smaller same larger = same
 byRow greater smaller same larger = larger
 
 -- The walk compares the present key with the present row, which stands at a place: a smaller row is passed; an equal one gives its place, a
 -- larger one or no row left gives none, and the key is passed. A deleted row is met like a live one.
-unfoldable pub walk : List (List ℕ) → ℕ → List (List ℕ) → Walked
+unfoldable pub walk : List (List ℕ) → ℕ → List (List ℕ) → LookedUp
 walk [] place rows = record { answers = []; comparisons = 0 }
 walk (key ∷ keys) place [] = answered noPlace (walk keys place [])
 walk (key ∷ keys) place (row ∷ rows) =
@@ -64,7 +64,7 @@ walk (key ∷ keys) place (row ∷ rows) =
     (answered noPlace (walk keys place (row ∷ rows))))
 
 -- the walk of a call, from the first key and the first row on
-abbrev pub wholeWalk : List ℕ → ℕ → List ℕ → Walked
+abbrev pub wholeWalk : List ℕ → ℕ → List ℕ → LookedUp
 wholeWalk master rows keys = walk (keysIn keys) 0 (rowsOf rows master)
 
 -- ---- the call

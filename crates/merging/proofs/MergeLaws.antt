@@ -5,7 +5,7 @@ use mathlib.Core.Path.{_≡_, refl, sym, ap, ap₂, _∙_}
 use mathlib.Core.Bool.{Bool, true, false, not, cond, _||_}
 use mathlib.Core.List.{List, [], _∷_, _++_, append-nil}
 use native.Mathlib.Omega.{arith}
-use borrow.Author.Tests.{ltb-false, lt-ltb, le-ltb, eqb-true, eqb-false, eq-eqb, ne-eqb, not-false}
+use borrow.Author.Tests.{ltb-true, ltb-false, lt-ltb, le-ltb, eqb-true, eqb-false, eq-eqb, ne-eqb, not-false}
 use lib.Dec.{eqb, ltb}
 use lib.ListN.{length, take, drop, length-append, take-append-drop}
 use lib.Seq.{length-take-le, take-all, take-at, drop-at}
@@ -50,7 +50,7 @@ merge-known limit first second out e =
     let c = not-first 31 (refusal32 limit first second) _ (b .1) in
     let d = not-first 32 (refusal33 first second out) _ (c .1) in
     let other : Bool = not (sameBytes (submittingState first) (submittingState second)) in
-    let many : Bool = ltb (limit + 1) (mergedCount first second) in
+    let many : Bool = ltb limit (detailCount first + detailCount second) in
     let tanf : Bool = isAboveEleven (mergedTotals first second .tanfAmount) in
     let nonTanf : Bool = isAboveEleven (mergedTotals first second .nonTanfAmount) in
     let left = or-left (other || many) (tanf || nonTanf) (c .0) in
@@ -61,7 +61,9 @@ merge-known limit first second out e =
         same-state =
             same-eq (submittingState first) (submittingState second)
             (not-false (sameBytes (submittingState first) (submittingState second)) (or-left other many left));
-        few = ltb-false (limit + 1) (mergedCount first second) (or-right other many left);
+        few =
+            let h = ltb-false limit (detailCount first + detailCount second) (or-right other many left) in
+            omega arith;
         tanf-in = ltb-false 99999999999 (mergedTotals first second .tanfAmount) (or-left tanf nonTanf right);
         non-tanf-in = ltb-false 99999999999 (mergedTotals first second .nonTanfAmount) (or-right tanf nonTanf right);
       },
@@ -226,13 +228,21 @@ module _ (limit : ℕ) (first second out : List ℕ) (a : ℕ) (ea : a ≡ batch
         unfolding refusal33
         answer-0 l = sym (past-both ∙ rw (no32, le-ltb (length out) (length (mergedBatch first second)) (omega (arith, long))))
 
--- refusal 32, as the code tests it
+-- one more on both sides
+one-more : (m n : ℕ) → ltb (m + 1) (n + 1) ≡ ltb m n
+one-more m n = go (ltb m n) refl
+  where
+    go : (b : Bool) → ltb m n ≡ b → ltb (m + 1) (n + 1) ≡ b
+    go true e = let h = ltb-true m n e in lt-ltb (m + 1) (n + 1) (omega arith)
+    go false e = let h = ltb-false m n e in le-ltb (m + 1) (n + 1) (omega arith)
+
+-- refusal 32, as the code tests it: the control record counts on both sides
 pub cannot-told : (limit : ℕ) (first second : List ℕ) (same : Bool) (most n : ℕ) (t : Stated) → most ≡ limit + 1
     → same ≡ sameBytes (submittingState first) (submittingState second) → n ≡ mergedCount first second
     → t ≡ mergedTotals first second
     → (not same || ltb most n || (isAboveEleven (t .tanfAmount) || isAboveEleven (t .nonTanfAmount))) ≡ refusal32 limit first second
 unfolding refusal32
-cannot-told limit first second same most n t el es en et = rw (el, es, en, et)
+cannot-told limit first second same most n t el es en et = rw (el, es, en, et, one-more limit (detailCount first + detailCount second))
 
 -- both batches passed
 pub both-passed : (limit : ℕ) (first second out : List ℕ) → mergeRefusal limit first second out ≡ 0 → (batchRefusal limit first 0 ≡ 0) × (batchRefusal limit second 0 ≡ 0)

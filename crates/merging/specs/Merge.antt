@@ -39,11 +39,11 @@ mergedCount first second = detailCount first + detailCount second + 1
 abbrev pub isAboveEleven : ℕ → Bool
 isAboveEleven amount = ltb 99999999999 amount
 
--- 32: two different states, over 16,777,215 details (over the limit: with the control record one more), or an amount total above eleven digits
+-- 32: two different states, over the limit (16,777,215) of details, or an amount total above eleven digits
 unfoldable pub refusal32 : ℕ → List ℕ → List ℕ → Bool
 refusal32 limit first second =
     not (sameBytes (submittingState first) (submittingState second))
-    || ltb (limit + 1) (mergedCount first second)
+    || ltb limit (detailCount first + detailCount second)
     || (isAboveEleven (mergedTotals first second .tanfAmount) || isAboveEleven (mergedTotals first second .nonTanfAmount))
 
 -- 33: an output shorter than the result

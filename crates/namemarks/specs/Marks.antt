@@ -22,7 +22,7 @@ abbrev pub restPart : ℕ → ℕ
 restPart n = n / 2 % 2 ^ 31
 
 -- each number holds the index of a record that is there, and says whether it gives its name
-pub record Recorded (state batch numbers : List ℕ) : Type 0 where
+pub record HoldRecords (state batch numbers : List ℕ) : Type 0 where
   pub there : (q : ℕ) → q < length numbers → indexPart (getD numbers q 0) * 245 + 245 ≤ length batch
   pub gives : (q : ℕ) → q < length numbers → flagGives (getD numbers q 0) ≡ givesName state (recordOf batch (getD numbers q 0))
 
@@ -41,7 +41,7 @@ marked state batch numbers n = n + cond (isMatched state batch numbers n) 1 0
 -- the numbers are those of details of one rank in batch order, none of them marked
 pub record RunDetails (state batch : List ℕ) (rank : ℕ) (numbers : List ℕ) : Type 0 where
   pub alone : (q : ℕ) → q < length numbers → getD numbers q 0 ≡ rank * 2 ^ 32 + restPart (getD numbers q 0) * 2
-  pub recorded : Recorded state batch numbers
+  pub recorded : HoldRecords state batch numbers
   pub rising : (q r : ℕ) → q < r → r < length numbers → indexPart (getD numbers q 0) < indexPart (getD numbers r 0)
 
 -- ---- a run at some positions

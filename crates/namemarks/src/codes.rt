@@ -16,7 +16,7 @@ ghost use lib.ListN.{length};
 ghost use Rattle.text.specs.ByteNumbers.{bytesNumber};
 ghost use Rattle.keyorder.specs.Tagged.{indexPart, flagGives, recordOf};
 ghost use Rattle.judging.specs.Names.{givesName};
-ghost use Rattle.namemarks.specs.Marks.{nameAt, Recorded};
+ghost use Rattle.namemarks.specs.Marks.{nameAt, HoldRecords};
 ghost use Rattle.namemarks.specs.Codes.{nameCode, swept, NotFalling};
 
 // 2 to the power 32: the lowest bit of the name, and of the rank.
@@ -68,7 +68,7 @@ fn code(batch: &[u8], state: &[u8], number: u64) -> u64
 
 // Writes the code of each detail.
 pub fn code_all(batch: &[u8], state: &[u8], numbers: &mut [u64])
-    requires { ⌜ Recorded (now state) (now batch) (now numbers) ⌝ }
+    requires { ⌜ HoldRecords (now state) (now batch) (now numbers) ⌝ }
     ensures { λ _. ⌜ now (numbers .exit) ≡ map (nameCode (now (state .entry)) (now (batch .entry))) (now (numbers .entry)) ⌝ }
 {
     let mut k: usize = 0;

@@ -14,13 +14,13 @@ use Rattle.layout.specs.States.{isState}
 use Rattle.layout.specs.Ssn.{wrongSsn}
 use Rattle.layout.specs.Name.{isName, hasLetter}
 use Rattle.layout.specs.ProcessYear.{inWindow}
-use Rattle.layout.specs.Locals.{isListed, isLocalList}
+use Rattle.layout.specs.Locals.{zeroLocalCode, isListed, isLocalList}
 use Rattle.layout.specs.Key.{isCaseType, isSoundKey}
 use Rattle.layout.specs.ChartA1.{localCode, arrearage, processYear}
 use Rattle.text.proofs.FieldsLaws.{and-left}
 use Rattle.text.proofs.SameLaws.{same-eq}
 use Rattle.layout.specs.Record.{recordKey, isType, caseTypeOf}
-use Rattle.judging.specs.Errors.{error01, error02, error04, error05, error07, error08, error09, error10, error13, isWrongKey, isLiveRow, judged09, isLocalCode, zeroLocalCode}
+use Rattle.judging.specs.Errors.{error01, error02, error04, error05, error07, error08, error09, error10, error13, isWrongKey, isLiveRow, holds09, isLocalCode}
 use Rattle.onecase.specs.Changes.{addedLocalCode}
 use Rattle.text.proofs.BoolLaws.{or-left, or-right, and-second}
 use Rattle.onecase.proofs.JudgementLaws.{NoError}
@@ -91,7 +91,7 @@ module _ {setting : Setting} {row : Option (List ℕ)} {rec : List ℕ} (n : NoE
   -- ---- the row
 
   pub live-row : isType A rec ≡ false → isLiveRow row ≡ true
-  unfolding judged09 error09 isWrongKey
+  unfolding holds09 error09 isWrongKey
   live-row a =
       let w : isWrongKey setting rec ≡ false = rw (n .no01, n .no02, n .no04) in
       not-false (isLiveRow row) (rw (n .no03, w, a) at (n .no09))

@@ -10,10 +10,9 @@ use lib.ListN.{length}
 use lib.Seq.{take-all}
 use Rattle.text.specs.Characters.{D}
 use Rattle.text.specs.Fields.{columns, isBlank, isZero, spaces}
-use Rattle.layout.specs.Locals.{isListed}
+use Rattle.layout.specs.Locals.{zeroLocalCode, isListed}
 use Rattle.layout.specs.ChartA1.{localCode, caseId, lastName, firstName, arrearage, transferState, transferLocalCode, processYear, dateIssued}
 use Rattle.layout.specs.Record.{recordKey}
-use Rattle.judging.specs.Errors.{zeroLocalCode}
 use Rattle.onecase.specs.Changes.{zeros, address, exclusionByte, addedLocalCode, freshRow, recertified, renamed, reidentified, deleted, relocated, amended, excluded, paid, transferred, readdressed}
 use Rattle.text.proofs.ColumnsLaws.{Put, put, putUnless, written, length-written, columns-written, isFree, columns-free, Fits, AllFit, isAsWide, fits-columns}
 use Rattle.layout.proofs.RecordLaws.{length-sent, key-length}

@@ -10,14 +10,14 @@ use Rattle.text.specs.Options.{isNone}
 use Rattle.text.specs.Characters.{A, C, L, M, R}
 use Rattle.text.specs.Fields.{isBlank, sameBytes}
 use Rattle.exclusionsets.specs.Exclusions.{exclusionsOf}
-use Rattle.layout.specs.Locals.{isListed}
+use Rattle.layout.specs.Locals.{zeroLocalCode, isListed}
 use Rattle.layout.specs.ChartA1.{localCode, caseId, exclusions}
 use Rattle.layout.specs.Record.{isType, typeOf}
 use Rattle.casemaster.specs.Row.{isLive}
 use Rattle.text.proofs.BoolLaws.{and-second}
 use Rattle.text.proofs.SameLaws.{same-self}
 use Rattle.judging.specs.Setting.{Setting}
-use Rattle.judging.specs.Errors.{error10, error11, error16, isLocalCode, isLiveRow, zeroLocalCode, code}
+use Rattle.judging.specs.Errors.{error10, error11, error16, isLocalCode, isLiveRow, code}
 use Rattle.onecase.specs.Verdict.{isAccepted}
 use Rattle.onecase.specs.Changes.{exclusionByte, reidentified, relocated, amended, excluded}
 use Rattle.onecase.specs.Machine.{changed, applied, next}

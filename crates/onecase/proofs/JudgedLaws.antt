@@ -11,7 +11,7 @@ use Rattle.text.specs.Options.{isSome}
 use Rattle.text.specs.Fields.{every, atLeastOne, columns}
 use Rattle.layout.specs.Codes.{RisingCodes}
 use Rattle.text.proofs.FieldsLaws.{and-left}
-use Rattle.judging.specs.Errors.{code, errors, judged17}
+use Rattle.judging.specs.Errors.{code, errors, holds17}
 use Rattle.judging.specs.Warnings.{warnings}
 use Rattle.onecase.specs.Verdict.{Judgement, isEmpty, isAccepted, codes, judgement, hasCode, isError, isWarning, isRejected, isWarned}
 use Rattle.onecase.proofs.JudgementLaws.{code-17, name-17, no-name, name-is}
@@ -106,9 +106,9 @@ module _ (setting : Setting) (row : Option (List ℕ)) (rec : List ℕ) where
   all-warnings t = rw (accepted-of t) warnings-warnings
 
   named-is : hasCode 17 (judgement setting row rec .codes) ≡ isSome (judgement setting row rec .name)
-  named-is = code-17 setting row rec ∙ go (judged17 setting row rec) refl
+  named-is = code-17 setting row rec ∙ go (holds17 setting row rec) refl
     where
-      go : (b : Bool) → judged17 setting row rec ≡ b → judged17 setting row rec ≡ isSome (judgement setting row rec .name)
+      go : (b : Bool) → holds17 setting row rec ≡ b → holds17 setting row rec ≡ isSome (judgement setting row rec .name)
       go true e = e ∙ sym (ap isSome (name-17 setting row rec e .2))
       go false e = e ∙ sym (ap isSome (no-name setting row rec e))
 

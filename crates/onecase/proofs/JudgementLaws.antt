@@ -16,7 +16,7 @@ use Rattle.layout.specs.Key.{isOwnKey}
 use Rattle.layout.specs.Record.{recordKey, isType}
 use Rattle.judging.proofs.FrontLaws.{add-front}
 use Rattle.judging.proofs.OwnKeyLaws.{other-wrong}
-use Rattle.judging.specs.Errors.{error01, error02, error03, error04, error05, error06, error07, error08, error09, error10, error11, error12, error13, error14, error15, error16, error17, error18, isWrongKey, isLiveRow, isOtherName, isGiven, judged09, judged17, code, errors}
+use Rattle.judging.specs.Errors.{error01, error02, error03, error04, error05, error06, error07, error08, error09, error10, error11, error12, error13, error14, error15, error16, error17, error18, isWrongKey, isLiveRow, isOtherName, isGiven, holds09, holds17, code, errors}
 use Rattle.judging.specs.Warnings.{warning52, isRenamed, warnings}
 use Rattle.onecase.specs.Verdict.{isEmpty, isAccepted, codes, storedName, judgement, hasCode}
 use Rattle.onecase.specs.Machine.{next}
@@ -35,7 +35,7 @@ pub record NoError (setting : Setting) (row : Option (List ℕ)) (rec : List ℕ
   pub no06 : error06 rec ≡ false
   pub no07 : error07 rec ≡ false
   pub no08 : error08 rec ≡ false
-  pub no09 : judged09 setting row rec ≡ false
+  pub no09 : holds09 setting row rec ≡ false
   pub no10 : error10 (setting .list) rec ≡ false
   pub no11 : error11 rec ≡ false
   pub no12 : error12 rec ≡ false
@@ -43,7 +43,7 @@ pub record NoError (setting : Setting) (row : Option (List ℕ)) (rec : List ℕ
   pub no14 : error14 rec ≡ false
   pub no15 : error15 rec ≡ false
   pub no16 : error16 rec ≡ false
-  pub no17 : judged17 setting row rec ≡ false
+  pub no17 : holds17 setting row rec ≡ false
   pub no18 : error18 rec ≡ false
 
 empty-none : (cs : List ℕ) → isEmpty cs ≡ true → cs ≡ []
@@ -83,7 +83,7 @@ module _ (setting : Setting) (row : Option (List ℕ)) (rec : List ℕ) where
       let e7 = behind-none 6 (not (error03 rec) && error06 rec) _ e6 in
       let e8 = behind-none 7 (not (error03 rec) && error07 rec) _ e7 in
       let e9 = behind-none 8 (not (error03 rec) && error08 rec) _ e8 in
-      let e10 = behind-none 9 (judged09 setting row rec) _ e9 in
+      let e10 = behind-none 9 (holds09 setting row rec) _ e9 in
       let e11 = behind-none 10 (not (error03 rec) && error10 (setting .list) rec) _ e10 in
       let e12 = behind-none 11 (not (error03 rec) && error11 rec) _ e11 in
       let e13 = behind-none 12 (not (error03 rec) && error12 rec) _ e12 in
@@ -91,7 +91,7 @@ module _ (setting : Setting) (row : Option (List ℕ)) (rec : List ℕ) where
       let e15 = behind-none 14 (not (error03 rec) && error14 rec) _ e14 in
       let e16 = behind-none 15 (not (error03 rec) && error15 rec) _ e15 in
       let e17 = behind-none 16 (not (error03 rec) && error16 rec) _ e16 in
-      let e18 = behind-none 17 (judged17 setting row rec) _ e17 in
+      let e18 = behind-none 17 (holds17 setting row rec) _ e17 in
       let n03 = front-none 3 (error03 rec) _ e3 in
       let known : not (error03 rec) ≡ true = rw n03 in
       record {
@@ -103,7 +103,7 @@ module _ (setting : Setting) (row : Option (List ℕ)) (rec : List ℕ) where
         no06 = and-second (not (error03 rec)) (error06 rec) known (front-none 6 (not (error03 rec) && error06 rec) _ e6);
         no07 = and-second (not (error03 rec)) (error07 rec) known (front-none 7 (not (error03 rec) && error07 rec) _ e7);
         no08 = and-second (not (error03 rec)) (error08 rec) known (front-none 8 (not (error03 rec) && error08 rec) _ e8);
-        no09 = front-none 9 (judged09 setting row rec) _ e9;
+        no09 = front-none 9 (holds09 setting row rec) _ e9;
         no10 = and-second (not (error03 rec)) (error10 (setting .list) rec) known (front-none 10 (not (error03 rec) && error10 (setting .list) rec) _ e10);
         no11 = and-second (not (error03 rec)) (error11 rec) known (front-none 11 (not (error03 rec) && error11 rec) _ e11);
         no12 = and-second (not (error03 rec)) (error12 rec) known (front-none 12 (not (error03 rec) && error12 rec) _ e12);
@@ -111,7 +111,7 @@ module _ (setting : Setting) (row : Option (List ℕ)) (rec : List ℕ) where
         no14 = and-second (not (error03 rec)) (error14 rec) known (front-none 14 (not (error03 rec) && error14 rec) _ e14);
         no15 = and-second (not (error03 rec)) (error15 rec) known (front-none 15 (not (error03 rec) && error15 rec) _ e15);
         no16 = and-second (not (error03 rec)) (error16 rec) known (front-none 16 (not (error03 rec) && error16 rec) _ e16);
-        no17 = front-none 17 (judged17 setting row rec) _ e17;
+        no17 = front-none 17 (holds17 setting row rec) _ e17;
         no18 = only-none 18 (error18 rec) e18;
       }
 
@@ -136,14 +136,14 @@ module _ (setting : Setting) (row : Option (List ℕ)) (rec : List ℕ) where
 
 -- the row counts for the errors by 09 and 17 alone
 errors-same : (setting : Setting) (r1 r2 : Option (List ℕ)) (rec : List ℕ)
-    → judged09 setting r1 rec ≡ judged09 setting r2 rec → judged17 setting r1 rec ≡ judged17 setting r2 rec
+    → holds09 setting r1 rec ≡ holds09 setting r2 rec → holds17 setting r1 rec ≡ holds17 setting r2 rec
     → errors setting r1 rec ≡ errors setting r2 rec
 unfolding errors
 errors-same setting r1 r2 rec e f = rw (e, f)
 
 -- where 17 is judged of neither row, the judgement is its codes
 judgement-same : (setting : Setting) (r1 r2 : Option (List ℕ)) (rec : List ℕ)
-    → codes setting r1 rec ≡ codes setting r2 rec → judged17 setting r1 rec ≡ false → judged17 setting r2 rec ≡ false
+    → codes setting r1 rec ≡ codes setting r2 rec → holds17 setting r1 rec ≡ false → holds17 setting r2 rec ≡ false
     → judgement setting r1 rec ≡ judgement setting r2 rec
 unfolding judgement
 judgement-same setting r1 r2 rec c f g = rw (c, f, g)
@@ -151,12 +151,12 @@ judgement-same setting r1 r2 rec c f g = rw (c, f, g)
 -- ---- a wrong key
 
 module _ (setting : Setting) (rec : List ℕ) (w : isWrongKey setting rec ≡ true) where
-  wrong-09 : (row : Option (List ℕ)) → judged09 setting row rec ≡ false
-  unfolding judged09
+  wrong-09 : (row : Option (List ℕ)) → holds09 setting row rec ≡ false
+  unfolding holds09
   wrong-09 row = rw (w, and-false)
 
-  wrong-17 : (row : Option (List ℕ)) → judged17 setting row rec ≡ false
-  unfolding judged17
+  wrong-17 : (row : Option (List ℕ)) → holds17 setting row rec ≡ false
+  unfolding holds17
   wrong-17 row = rw (w, and-false)
 
 -- 01, 02 or 04 is an error
@@ -198,9 +198,9 @@ module _ (setting : Setting) (rec : List ℕ) (e : length rec ≡ 245) (f : isOw
 
 -- ---- 17 is judged of a live row alone
 
-module _ (setting : Setting) (row : Option (List ℕ)) (rec : List ℕ) (t : judged17 setting row rec ≡ true) where
+module _ (setting : Setting) (row : Option (List ℕ)) (rec : List ℕ) (t : holds17 setting row rec ≡ true) where
   rest-17 : (not (error05 rec) && (not (error09 row rec) && error17 (setting .names) row rec)) ≡ true
-  unfolding judged17
+  unfolding holds17
   rest-17 = and-right (not (isWrongKey setting rec)) _ (and-right (not (error03 rec)) _ t)
 
   only-17 : (not (error09 row rec) && error17 (setting .names) row rec) ≡ true
@@ -227,10 +227,10 @@ module _ (setting : Setting) (row : Option (List ℕ)) (rec : List ℕ) (t : jud
       let m : not (isLiveRow row) ≡ false = rw a at n in
       not-false (isLiveRow row) m
 
-dead-17 : (setting : Setting) (row : Option (List ℕ)) (rec : List ℕ) → isLiveRow row ≡ false → judged17 setting row rec ≡ false
-dead-17 setting row rec d = go (judged17 setting row rec) refl
+dead-17 : (setting : Setting) (row : Option (List ℕ)) (rec : List ℕ) → isLiveRow row ≡ false → holds17 setting row rec ≡ false
+dead-17 setting row rec d = go (holds17 setting row rec) refl
   where
-    go : (b : Bool) → judged17 setting row rec ≡ b → judged17 setting row rec ≡ false
+    go : (b : Bool) → holds17 setting row rec ≡ b → holds17 setting row rec ≡ false
     go true e = cc (live-17 setting row rec e)
     go false e = e
 
@@ -248,11 +248,11 @@ module _ (state : List ℕ) (year : ℕ) (list rec : List ℕ) (names₁ names�
   abbrev second : Setting
   second = settingOf state year list names₂
 
-  alone-17 : judged17 first none rec ≡ judged17 second none rec
+  alone-17 : holds17 first none rec ≡ holds17 second none rec
   alone-17 = dead-17 first none rec none-dead ∙ sym (dead-17 second none rec none-dead)
 
   alone-errors : errors first none rec ≡ errors second none rec
-  unfolding errors judged09 isWrongKey
+  unfolding errors holds09 isWrongKey
   alone-errors = rw alone-17
 
   alone-accepted : isAccepted first none rec ≡ isAccepted second none rec
@@ -274,8 +274,8 @@ module _ (setting : Setting) (r : List ℕ) (rec : List ℕ) (d : isLive r ≡ f
   unfolding isLiveRow
   dead = d
 
-  dead-09 : judged09 setting (some r) rec ≡ judged09 setting none rec
-  unfolding judged09 error09
+  dead-09 : holds09 setting (some r) rec ≡ holds09 setting none rec
+  unfolding holds09 error09
   dead-09 = rw (dead, none-dead)
 
   dead-warnings : warnings (setting .list) (some r) rec ≡ warnings (setting .list) none rec
@@ -324,45 +324,45 @@ stored-row none rec t = absurd (false≢true t)
 stored-row (some r) rec t = (r, refl)
 
 module _ (setting : Setting) (row : Option (List ℕ)) (rec : List ℕ) where
-  errors-17 : hasCode 17 (errors setting row rec) ≡ judged17 setting row rec
+  errors-17 : hasCode 17 (errors setting row rec) ≡ holds17 setting row rec
   unfolding errors
-  errors-17 = simp (has-front, has-only) (or-false (judged17 setting row rec))
+  errors-17 = simp (has-front, has-only) (or-false (holds17 setting row rec))
 
   warnings-17 : hasCode 17 (warnings (setting .list) row rec) ≡ false
   unfolding warnings
   warnings-17 = simp (has-front, has-only)
 
   -- 17 is among the codes exactly where it is judged to hold
-  pub code-17 : hasCode 17 (judgement setting row rec .codes) ≡ judged17 setting row rec
+  pub code-17 : hasCode 17 (judgement setting row rec .codes) ≡ holds17 setting row rec
   unfolding judgement codes
   code-17 = go (isAccepted setting row rec) refl
     where
       go : (b : Bool) → isAccepted setting row rec ≡ b
-          → hasCode 17 (cond b (warnings (setting .list) row rec) (errors setting row rec)) ≡ judged17 setting row rec
+          → hasCode 17 (cond b (warnings (setting .list) row rec) (errors setting row rec)) ≡ holds17 setting row rec
       go true e = warnings-17 ∙ sym (accepted-none setting row rec e .no17)
       go false e = errors-17
 
-  name-of : (r : List ℕ) → row ≡ some r → judged17 setting row rec ≡ true
+  name-of : (r : List ℕ) → row ≡ some r → holds17 setting row rec ≡ true
       → judgement setting row rec .name ≡ some (columns 31 34 r)
   unfolding judgement
   name-of r e t = rw t (ap storedName e)
 
   -- with 17 there is a row, and the name is its columns 31–34
-  pub name-17 : judged17 setting row rec ≡ true
+  pub name-17 : holds17 setting row rec ≡ true
       → (r : List ℕ) × (row ≡ some r) × (judgement setting row rec .name ≡ some (columns 31 34 r))
   name-17 t =
       let s = stored-row row rec (other-name setting row rec t) in
       (s .0, s .1, name-of (s .0) (s .1) t)
 
   -- without 17 there is no name
-  pub no-name : judged17 setting row rec ≡ false → judgement setting row rec .name ≡ none
+  pub no-name : holds17 setting row rec ≡ false → judgement setting row rec .name ≡ none
   unfolding judgement
   no-name f = rw f
 
-  pub named-17 : (bytes : List ℕ) → judgement setting row rec .name ≡ some bytes → judged17 setting row rec ≡ true
-  named-17 bytes e = go (judged17 setting row rec) refl
+  pub named-17 : (bytes : List ℕ) → judgement setting row rec .name ≡ some bytes → holds17 setting row rec ≡ true
+  named-17 bytes e = go (holds17 setting row rec) refl
     where
-      go : (b : Bool) → judged17 setting row rec ≡ b → judged17 setting row rec ≡ true
+      go : (b : Bool) → holds17 setting row rec ≡ b → holds17 setting row rec ≡ true
       go true t = t
       go false f = cc (no-name f)
 

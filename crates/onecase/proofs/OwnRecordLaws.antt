@@ -21,7 +21,7 @@ use Rattle.layout.specs.Record.{recordKey, typeOf}
 use Rattle.layout.proofs.RecordLaws.{known-type}
 use Rattle.casemaster.specs.Row.{rowKey, rowState, isLive}
 use Rattle.judging.specs.Setting.{Setting}
-use Rattle.judging.specs.Errors.{error01, error02, error03, error04, error05, error06, error07, error08, error09, error10, error11, error12, error13, error14, error15, error16, error17, error18, isWrongKey, isLiveRow, isOtherName, isLocalCode, judged09, judged17}
+use Rattle.judging.specs.Errors.{error01, error02, error03, error04, error05, error06, error07, error08, error09, error10, error11, error12, error13, error14, error15, error16, error17, error18, isWrongKey, isLiveRow, isOtherName, isLocalCode, holds09, holds17}
 use Rattle.judging.proofs.OwnKeyLaws.{own-wrong}
 use Rattle.onecase.proofs.JudgementLaws.{NoError}
 
@@ -79,7 +79,7 @@ module _ (setting : Setting) (kind : ℕ) (row rec r : List ℕ) (s : Sent kind 
       rw (e, and-false)
 
   pub no-error : OwnFieldRight (setting .list) rec → NoError setting (some r) rec
-  unfolding isWrongKey error06 error08 error12 error13 error14 error15 error18 judged09 judged17
+  unfolding isWrongKey error06 error08 error12 error13 error14 error15 error18 holds09 holds17
   no-error o =
       let n12 = or-left (error01 (setting .state) rec || error02 rec) (error04 rec) key-own in
       record {

@@ -8,12 +8,11 @@ use lib.Dec.{eqb, lit≤}
 use lib.ListN.{length, getD}
 use Rattle.text.specs.Characters.{isDigit, space, A, B, D, L, M, S}
 use Rattle.text.specs.Fields.{columns, isBlank, isZero, allDigits, spaces}
-use Rattle.layout.specs.Locals.{isLocalList}
+use Rattle.layout.specs.Locals.{zeroLocalCode, isLocalList}
 use Rattle.casemaster.specs.Row.{isLive, isSoundRow}
 use Rattle.layout.specs.ChartA1.{localCode, lastName, arrearage, processYear}
 use Rattle.text.proofs.FieldsLaws.{digits-all, digits-part}
 use Rattle.layout.specs.Record.{isType}
-use Rattle.judging.specs.Errors.{zeroLocalCode}
 use Rattle.onecase.specs.Changes.{zeros, addedLocalCode, freshRow, recertified, renamed, reidentified, deleted, relocated, amended, excluded, paid, transferred, readdressed}
 use Rattle.onecase.proofs.JudgementLaws.{NoError}
 use Rattle.text.proofs.ColumnsLaws.{columns-of-columns}

@@ -13,7 +13,7 @@ use Rattle.text.specs.Fields.{columns}
 use Rattle.layout.specs.Codes.{numberOfCodes}
 use Rattle.layout.proofs.CodesLaws.{codes-number}
 use Rattle.layout.specs.Record.{isType}
-use Rattle.judging.specs.Errors.{judged17, errors}
+use Rattle.judging.specs.Errors.{holds17, errors}
 use Rattle.judging.specs.Warnings.{warnings}
 use Rattle.onecase.specs.Verdict.{isAccepted, codes, storedName, judgement, IsRejection}
 use Rattle.onecase.specs.Machine.{applied, next, rowOf, IsStep}
@@ -45,7 +45,7 @@ module _ (setting : Setting) (row : Option (List ℕ)) (rec : List ℕ) where
   unfolding next judgement codes
   step-accepted set warned c es z ew er =
       let a : isAccepted setting row rec ≡ true = errors-accepted setting row rec (number-none (errors setting row rec) (sym es ∙ z)) in
-      let n : judged17 setting row rec ≡ false = accepted-none setting row rec a .no17 in
+      let n : holds17 setting row rec ≡ false = accepted-none setting row rec a .no17 in
       record {
         row-is = rw a er;
         verdict-is = rw (a, n, ew, codes-number (warnings (setting .list) row rec) (warnings-rise setting row rec .rises));
@@ -54,7 +54,7 @@ module _ (setting : Setting) (row : Option (List ℕ)) (rec : List ℕ) where
 
   -- a set of errors: nothing changes
   pub step-rejected : (set : ℕ) (named : Bool) (c : Case) (v : Verdict) → set ≡ numberOfCodes (errors setting row rec) → (set ≡ 0 → ⊥)
-      → named ≡ judged17 setting row rec
+      → named ≡ holds17 setting row rec
       → rowOf c ≡ row
       → IsRejection set named (c .row) v
       → IsStep setting row rec (record { case = c; verdict = v })
@@ -63,7 +63,7 @@ module _ (setting : Setting) (row : Option (List ℕ)) (rec : List ℕ) where
       let a : isAccepted setting row rec ≡ false = refused (isAccepted setting row rec) refl in
       record {
         row-is = er ∙ sym (error-changes-nothing setting row rec a);
-        verdict-is = i .means ∙ rw (a, es, en, codes-number (errors setting row rec) (errors-rise setting row rec .rises)) (ap (λ (o : Option (List ℕ)). record { codes = errors setting row rec; name = o }) (named-row (judged17 setting row rec) refl));
+        verdict-is = i .means ∙ rw (a, es, en, codes-number (errors setting row rec) (errors-rise setting row rec .rises)) (ap (λ (o : Option (List ℕ)). record { codes = errors setting row rec; name = o }) (named-row (holds17 setting row rec) refl));
         accepted-is = i .rejects ∙ sym a;
       }
     where
@@ -75,7 +75,7 @@ module _ (setting : Setting) (row : Option (List ℕ)) (rec : List ℕ) where
       held-row true r e = refl
       held-row false r e = absurd (let x : _≡_ {A = ℕ} 0 1 = cc in omega arith)
 
-      named-row : (b : Bool) → judged17 setting row rec ≡ b → cond b (some (columns 31 34 (c .row))) none ≡ cond b (storedName row) none
+      named-row : (b : Bool) → holds17 setting row rec ≡ b → cond b (some (columns 31 34 (c .row))) none ≡ cond b (storedName row) none
       named-row true t =
           let n = name-17 setting row rec t in
           held-row (c .held) (n .0) (er ∙ n .1) ∙ ap storedName er

@@ -17,7 +17,7 @@ use Rattle.layout.specs.Key.{isCaseType, isSoundKey}
 use Rattle.casemaster.specs.Row.{isBalanceZero, isLive, areFieldsSound, isEndSound, isSoundRow}
 use Rattle.casemaster.specs.Rows.{rowWith}
 use Rattle.layout.specs.Record.{isKnownType}
-use Rattle.judging.specs.Errors.{error01, error02, error03, error04, error05, error06, error07, error08, isLiveRow, error09, isLocalCode, error10, error11, error12, error13, wrongPart, error14, error15, error16, isOtherName, error17, error18, isWrongKey, judged09, judged17, errors}
+use Rattle.judging.specs.Errors.{error01, error02, error03, error04, error05, error06, error07, error08, isLiveRow, error09, isLocalCode, error10, error11, error12, error13, wrongPart, error14, error15, error16, isOtherName, error17, error18, isWrongKey, holds09, holds17, errors}
 use Rattle.judging.specs.Warnings.{warning51, isRenamed, warning52, warnings}
 use Rattle.onecase.specs.Verdict.{isAccepted, codes, judgement}
 use Rattle.onecase.specs.Changes.{exclusionByte, addedLocalCode, freshRow, amended}
@@ -30,7 +30,7 @@ unfolding
     isNameByte isNameRest isName hasLetter isLeap daysIn isDay isDate inWindow exclusionNames isSeparator wordsFrom readOnto exclusionsOf
     blocks codesOfList isListed isCaseType isSoundKey isBalanceZero isLive areFieldsSound isEndSound isSoundRow
     isKnownType error01 error02 error03 error04 error05 error06 error07 error08 isLiveRow error09 isLocalCode error10 error11 error12
-    error13 wrongPart error14 error15 error16 isOtherName error17 error18 isWrongKey judged09 judged17 errors
+    error13 wrongPart error14 error15 error16 isOtherName error17 error18 isWrongKey holds09 holds17 errors
     warning51 isRenamed warning52 warnings isAccepted codes judgement
     exclusionByte addedLocalCode freshRow amended changed added applied next
     base ofSsn ofName ofAmount ofCaseType ofYear ofDate ofExclusions verdict after gets passes

@@ -8,11 +8,10 @@ use Rattle.text.specs.Options.{orZero}
 use Rattle.text.specs.Characters.{zeroDigit, D}
 use Rattle.text.specs.Fields.{columns, placed, isBlank, isZero, spaces}
 use Rattle.exclusionsets.specs.Exclusions.{exclusionsOf}
-use Rattle.layout.specs.Locals.{isListed}
+use Rattle.layout.specs.Locals.{zeroLocalCode, isListed}
 use Rattle.layout.specs.ChartA1.{localCode, caseId, lastName, firstName, arrearage, transferState, transferLocalCode, processYear, dateIssued, exclusions}
 use Rattle.layout.specs.Record.{recordKey}
 use Rattle.casemaster.specs.Row.{withZeroCents}
-use Rattle.judging.specs.Errors.{zeroLocalCode}
 
 abbrev pub zeros : ℕ → List ℕ
 zeros n = replicate n zeroDigit

@@ -7,7 +7,7 @@ use mathlib.Core.Option.{Option, none, some}
 use lib.Dec.{eqb, leb}
 use Rattle.text.specs.Fields.{columns, atLeastOne}
 use Rattle.layout.specs.Codes.{codesOfNumber}
-use Rattle.judging.specs.Errors.{errors, judged17}
+use Rattle.judging.specs.Errors.{errors, holds17}
 use Rattle.judging.specs.Warnings.{warnings}
 use Rattle.onecase.specs.declared.verdict.FourBytes.{FourBytes}
 use Rattle.onecase.specs.declared.verdict.Verdict.{Verdict}
@@ -40,7 +40,7 @@ storedName (some row) = some (columns 31 34 row)
 
 unfoldable pub judgement : Setting → Option (List ℕ) → List ℕ → Judgement
 judgement setting row rec =
-    record { codes = codes setting row rec; name = cond (judged17 setting row rec) (storedName row) none }
+    record { codes = codes setting row rec; name = cond (holds17 setting row rec) (storedName row) none }
 
 -- errors are 01 to 18, warnings 51 and 52
 abbrev pub isError : ℕ → Bool

@@ -6,10 +6,12 @@ use casemaster::row;
 use judging::judge;
 use judging::warnings;
 use layout::chart_a1;
+use layout::locals;
 use layout::record;
 ghost use mathlib.Core.Path.{_≡_};
 ghost use mathlib.Core.Option.{none};
 ghost use lib.ListN.{length};
+ghost use Rattle.layout.specs.OrderedList.{IsOrderedIf};
 ghost use Rattle.onecase.specs.Machine.{applied, rowOf, IsStep};
 ghost use Rattle.onecase.specs.Verdict.{IsRejection};
 ghost use Rattle.judging.specs.State.{rowIf};
@@ -36,18 +38,19 @@ pub fn no_case() -> Case
     Case { held: false, row }
 }
 
-// What a record without an error leaves of one row or none, in place; answers whether a row is held then.
-pub fn apply_in(row: &mut [u8], held: bool, rec: &[u8; 245], list: &[u8]) -> bool
-    requires { ⌜ length (now row) ≡ 200 ⌝ }
+// What a record without an error leaves of one row or none, in place; answers whether a row is held then. `ordered` says that the list is known
+// to rise.
+pub fn apply_in(row: &mut [u8], held: bool, rec: &[u8; 245], list: &[u8], ordered: bool) -> bool
+    requires { ⌜ (length (now row) ≡ 200) × IsOrderedIf ordered (now list) ⌝ }
     ensures { λ r. ⌜ rowIf r (now (row .exit)) ≡ applied (now (list .entry)) (rowIf held (now (row .entry))) (now (rec .entry)) ⌝ }
 {
     let t = rec[chart_a1::TYPE_AT];
     if t == record::ADD {
         if held & row::is_live(row) {
-            changes::recertify(row, rec, list);
+            changes::recertify(row, rec, list, ordered);
             return true;
         }
-        changes::make_fresh(row, rec, list);
+        changes::make_fresh(row, rec, list, ordered);
         return true;
     }
     changes::change(row, rec);
@@ -55,11 +58,12 @@ pub fn apply_in(row: &mut [u8], held: bool, rec: &[u8; 245], list: &[u8]) -> boo
 }
 
 // The same of a row by value.
-fn applied_row(held: bool, row: [u8; 200], rec: &[u8; 245], list: &[u8]) -> Case
+fn applied_row(held: bool, row: [u8; 200], rec: &[u8; 245], list: &[u8], ordered: bool) -> Case
+    requires { ⌜ IsOrderedIf ordered (now list) ⌝ }
     ensures { λ r. ⌜ rowOf r ≡ applied (now (list .entry)) (rowIf held row) (now (rec .entry)) ⌝ }
 {
     let mut out = row;
-    let left = apply_in(&mut out, held, rec, list);
+    let left = apply_in(&mut out, held, rec, list, ordered);
     Case {
         held: left,
         row: out,
@@ -91,11 +95,12 @@ fn step_row(
     ensures { λ r. ⌜ UnderNames given (now (rec .entry)) (λ names.
         IsStep (settingOf (now (state .entry)) year (now (list .entry)) names) (rowIf held row) (now (rec .entry)) r) ⌝ }
 {
-    let judged = judge::judge(rec, held, &row, given, state, year, list);
+    let ordered = locals::is_ordered(list);
+    let judged = judge::judge(rec, held, &row, given, state, year, list, ordered);
     let set = judged.set;
     if set == 0 {
-        let warned = warnings::warned(rec, held, &row, list);
-        let case = applied_row(held, row, rec, list);
+        let warned = warnings::warned(rec, held, &row, list, ordered);
+        let case = applied_row(held, row, rec, list, ordered);
         return Step {
             case,
             verdict: Verdict::Accepted(warned),

@@ -11,6 +11,7 @@ ghost use mathlib.Core.Path.{_≡_};
 ghost use Prim.Native.Nat.{_+_};
 ghost use lib.ListN.{length};
 ghost use Rattle.text.specs.Fields.{placed};
+ghost use Rattle.layout.specs.OrderedList.{IsOrderedIf};
 ghost use Rattle.casemaster.specs.Row.{withZeroCents};
 ghost use Rattle.onecase.specs.Copies.{InRow, InRecord, copied, copiedUnlessBlank, withExclusions, withNames, freshEnd};
 ghost use Rattle.onecase.specs.Machine.{changed};
@@ -53,11 +54,11 @@ fn exclusion_byte(rec: &[u8; 245]) -> [u8; 1]
 }
 
 // Writes the local code that an A stores: as sent if listed, else 000.
-fn put_local_code(row: &mut [u8], rec: &[u8; 245], list: &[u8])
-    requires { ⌜ length (now row) ≡ 200 ⌝ }
+fn put_local_code(row: &mut [u8], rec: &[u8; 245], list: &[u8], ordered: bool)
+    requires { ⌜ (length (now row) ≡ 200) × IsOrderedIf ordered (now list) ⌝ }
     ensures { λ _. ⌜ now (row .exit) ≡ placed 13 15 (addedLocalCode (now (list .entry)) (now (rec .entry))) (now (row .entry)) ⌝ }
 {
-    if locals::listed(fields::field(rec, chart_a1::LOCAL_CODE), list) {
+    if locals::listed(fields::field(rec, chart_a1::LOCAL_CODE), list, ordered) {
         copy(row, row::LOCAL_CODE, rec, chart_a1::LOCAL_CODE);
     } else {
         write(row, row::LOCAL_CODE, b"\xF0\xF0\xF0");
@@ -109,21 +110,21 @@ fn start_fresh(row: &mut [u8], rec: &[u8; 245])
 }
 
 // A with no row, or a deleted one: a fresh row over whatever stands there.
-pub fn make_fresh(row: &mut [u8], rec: &[u8; 245], list: &[u8])
-    requires { ⌜ length (now row) ≡ 200 ⌝ }
+pub fn make_fresh(row: &mut [u8], rec: &[u8; 245], list: &[u8], ordered: bool)
+    requires { ⌜ (length (now row) ≡ 200) × IsOrderedIf ordered (now list) ⌝ }
     ensures { λ _. ⌜ now (row .exit) ≡ freshRow (now (list .entry)) (now (rec .entry)) ⌝ }
 {
     start_fresh(row, rec);
     put_names(row, rec);
     copy(row, row::CASE_ID, rec, chart_a1::CASE_ID);
-    put_local_code(row, rec, list);
+    put_local_code(row, rec, list, ordered);
     let key = record::record_key(rec);
     write(row, row::KEY, &key);
 }
 
 // A on a live row.
-pub fn recertify(row: &mut [u8], rec: &[u8; 245], list: &[u8])
-    requires { ⌜ length (now row) ≡ 200 ⌝ }
+pub fn recertify(row: &mut [u8], rec: &[u8; 245], list: &[u8], ordered: bool)
+    requires { ⌜ (length (now row) ≡ 200) × IsOrderedIf ordered (now list) ⌝ }
     ensures { λ _. ⌜ now (row .exit) ≡ recertified (now (list .entry)) (now (rec .entry)) (now (row .entry)) ⌝ }
 {
     put_exclusions(row, rec);
@@ -131,7 +132,7 @@ pub fn recertify(row: &mut [u8], rec: &[u8; 245], list: &[u8])
     copy_unless_blank(row, row::ADDRESS, rec, chart_a1::ADDRESS);
     put_names(row, rec);
     copy_unless_blank(row, row::CASE_ID, rec, chart_a1::CASE_ID);
-    put_local_code(row, rec, list);
+    put_local_code(row, rec, list, ordered);
 }
 
 // B: both names.

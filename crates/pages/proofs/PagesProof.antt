@@ -143,7 +143,7 @@ module _ (master : List ℕ) (rows : ℕ) (out : List ℕ) (e : masterRefusal ma
         full = λ i h. rw (page-lines count lines i (omega arith), length-take, length-drop) (omega arith);
         last = λ i h. rw (page-lines count lines i (omega arith), length-take, length-drop) (omega arith, omega arith);
         numbered = numbers;
-        none = λ z. rw z;
+        none-live = λ z. rw z;
       })
 
 not-refused : (master : List ℕ) (rows : ℕ) (out : List ℕ) → pagesRefusal master rows out ≡ 0 → masterRefusal maxRows master rows 0 ≡ 0

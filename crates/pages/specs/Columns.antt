@@ -5,11 +5,11 @@ use mathlib.Core.List.{List}
 use lib.ListN.{length, getD}
 use Rattle.text.specs.Fields.{columns, digitField, number, spaces}
 use Rattle.casemaster.specs.Row.{rowKey, rowLocalCode, rowLastName, rowFirstName, rowArrearage, rowExclusions}
-use Rattle.pages.specs.Forms.{lineWidth, pageDigits, bitsSet, CASES, TOTAL}
+use Rattle.pages.specs.Forms.{pageWidth, pageDigits, bitsSet, CASES, TOTAL}
 
 -- the line of a row: no other 132 bytes have these columns
 pub record IsLine (row line : List ℕ) : Type 0 where
-  pub wide : length line ≡ lineWidth
+  pub wide : length line ≡ pageWidth
   pub key : columns 1 12 line ≡ rowKey row
   pub behind-key : columns 13 13 line ≡ spaces 1
   pub local-code : columns 14 16 line ≡ rowLocalCode row
@@ -27,15 +27,15 @@ pub record IsLine (row line : List ℕ) : Type 0 where
 
 -- the heading of the page with a number
 pub record IsHeading (number : ℕ) (line : List ℕ) : Type 0 where
-  pub wide : length line ≡ lineWidth
+  pub wide : length line ≡ pageWidth
   pub word : columns 1 5 line ≡ CASES
   pub behind-word : columns 6 6 line ≡ spaces 1
   pub digits : columns 7 (6 + pageDigits) line ≡ digitField pageDigits number
-  pub filler : columns (7 + pageDigits) 132 line ≡ spaces (lineWidth - 6 - pageDigits)
+  pub filler : columns (7 + pageDigits) 132 line ≡ spaces (pageWidth - 6 - pageDigits)
 
 -- the foot of a page with `lines` lines
 pub record IsFoot (lines : ℕ) (line : List ℕ) : Type 0 where
-  pub wide : length line ≡ lineWidth
+  pub wide : length line ≡ pageWidth
   pub word : columns 1 5 line ≡ TOTAL
   pub behind-word : columns 6 6 line ≡ spaces 1
   pub digits : columns 7 10 line ≡ digitField 4 lines

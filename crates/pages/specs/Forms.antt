@@ -8,8 +8,8 @@ use Rattle.text.specs.Fields.{digitField, spaces}
 use Rattle.casemaster.specs.Row.{rowKey, rowLocalCode, rowLastName, rowFirstName, rowArrearage, rowExclusions}
 
 -- a line has 132 columns
-abbrev pub lineWidth : ℕ
-lineWidth = 132
+abbrev pub pageWidth : ℕ
+pageWidth = 132
 
 -- six digits of page number (item 14; five in item 12)
 unfoldable pub pageDigits : ℕ
@@ -34,7 +34,7 @@ TOTAL = letterT ∷ O ∷ letterT ∷ A ∷ L ∷ []
 
 -- the heading is CASES, a space and the digits of page number, filled with spaces
 unfoldable pub heading : ℕ → List ℕ
-heading number = CASES ++ spaces 1 ++ digitField pageDigits number ++ spaces (lineWidth - 6 - pageDigits)
+heading number = CASES ++ spaces 1 ++ digitField pageDigits number ++ spaces (pageWidth - 6 - pageDigits)
 
 -- the foot TOTAL, a space and four digits for the lines of this page, filled with spaces
 unfoldable pub foot : ℕ → List ℕ

@@ -9,7 +9,7 @@ use Rattle.layout.specs.Limits.{maxRows}
 use Rattle.casemaster.specs.Row.{isLive}
 use Rattle.casemaster.specs.Master.{rowsOf, rowsThat}
 use Rattle.casemaster.specs.Refusals.{masterRefusal}
-use Rattle.pages.specs.Forms.{lineWidth, caseLine, heading, foot}
+use Rattle.pages.specs.Forms.{pageWidth, caseLine, heading, foot}
 use Rattle.pages.specs.declared.printing.Printed.{Printed}
 use Rattle.pages.specs.declared.printing.Printed.the-variants.{Done, Refused}
 
@@ -41,7 +41,7 @@ unfoldable pub printedFrom : ℕ → List (List (List ℕ)) → List (List ℕ)
 printedFrom number [] = []
 printedFrom number (lines ∷ pages) = page number lines ++ printedFrom (suc number) pages
 
--- page numbers begin at 00001
+-- page numbers begin at 000001
 abbrev pub printed : List (List ℕ) → List (List ℕ)
 printed rows = printedFrom 1 (pagesOf (caseLines rows))
 
@@ -50,7 +50,7 @@ printed rows = printedFrom 1 (pagesOf (caseLines rows))
 -- refused, in order: 3; 4; 31, a buffer too short for the pages
 unfoldable pub pagesRefusal : List ℕ → ℕ → List ℕ → ℕ
 pagesRefusal master rows out =
-    masterRefusal maxRows master rows (refuseIf (ltb (length out) (length (printed (rowsOf rows master)) * lineWidth)) 31 0)
+    masterRefusal maxRows master rows (refuseIf (ltb (length out) (length (printed (rowsOf rows master)) * pageWidth)) 31 0)
 
 -- the answer: how many pages there are, or a refusal's number
 abbrev pub pagesAnswer : Printed → Answer ℕ

@@ -8,7 +8,7 @@ use Rattle.answers.specs.Answer.{done}
 use Rattle.text.specs.Blocks.{blocks}
 use Rattle.text.specs.Fields.{columns, number}
 use Rattle.casemaster.specs.Master.{rowsOf}
-use Rattle.pages.specs.Forms.{lineWidth, pageDigits}
+use Rattle.pages.specs.Forms.{pageWidth, pageDigits}
 use Rattle.pages.specs.Pages.{caseLines, printedFrom, PagesOutcome, pagesOutcome}
 
 -- the lines of all pages, joined
@@ -22,7 +22,7 @@ pub record ArePages (rows : List (List ℕ)) (n : ℕ) (out : List ℕ) : Type 0
   pub parts : List (List (List ℕ))
   pub count : length parts ≡ n
   -- the buffer has one page behind the other: a heading, the lines and a foot
-  pub standing : blocks lineWidth (length (printedFrom 1 parts)) out ≡ printedFrom 1 parts
+  pub standing : blocks pageWidth (length (printedFrom 1 parts)) out ≡ printedFrom 1 parts
   -- joined, the lines of all pages are those of the live rows in key order, each once
   pub once : allLines parts ≡ caseLines rows
   -- each page but the last has 58 lines
@@ -30,9 +30,9 @@ pub record ArePages (rows : List (List ℕ)) (n : ℕ) (out : List ℕ) : Type 0
   -- the last 1 to 58
   pub last : (i : ℕ) → suc i ≡ n → (1 ≤ length (getD parts i [])) × (length (getD parts i []) ≤ 58)
   -- pages of 60 lines each stand before a page, and it is numbered by its place, the first being 1
-  pub numbered : (i : ℕ) → i < n → number (columns 7 (6 + pageDigits) (take lineWidth (drop (i * 60 * lineWidth) out))) ≡ i + 1
+  pub numbered : (i : ℕ) → i < n → number (columns 7 (6 + pageDigits) (take pageWidth (drop (i * 60 * pageWidth) out))) ≡ i + 1
   -- no live rows give none
-  pub none : caseLines rows ≡ [] → n ≡ 0
+  pub none-live : caseLines rows ≡ [] → n ≡ 0
 
 -- of every call that is carried out
 abbrev pub EveryPrinting : Type 0

@@ -7,7 +7,7 @@ ghost use lib.ListN.{length};
 ghost use lib.Count.{ones};
 ghost use Rattle.pages.specs.Forms.{caseLine, heading, foot};
 
-pub const LINE_WIDTH: usize = 132;
+pub const PAGE_WIDTH: usize = 132;
 
 // How many digits a page number has.
 const PAGE_DIGITS: usize = 6;

@@ -1,6 +1,6 @@
 // Printing a master: the lines of its live rows in key order, 58 to a page, each page between a heading and a foot.
 use crate::forms;
-use crate::forms::LINE_WIDTH;
+use crate::forms::PAGE_WIDTH;
 use casemaster::master::ROW_WIDTH;
 use casemaster::refusals;
 use casemaster::row;
@@ -54,7 +54,7 @@ fn put_line(out: &mut [u8], k: usize, line: [u8; 132]) -> usize
     requires { ⌜ (k + 1) * 132 ≤ length (now out) ⌝ }
     ensures { λ r. ⌜ Holds 132 (now (out .entry)) (now (out .exit)) r (blocks 132 k (now (out .entry)) ++ line ∷ []) ⌝ }
 {
-    fields::copy_in(out, k * LINE_WIDTH, &line);
+    fields::copy_in(out, k * PAGE_WIDTH, &line);
     k + 1
 }
 
@@ -145,7 +145,7 @@ pub fn pages(master: &[u8], rows: usize, out: &mut [u8]) -> Printed
     }
     let live = count_live(master, rows);
     let count = (live + 57) / PAGE_LINES;
-    if out.len() / LINE_WIDTH < live + 2 * count {
+    if out.len() / PAGE_WIDTH < live + 2 * count {
         return Printed::Refused(31);
     }
     print_rows(out, master, rows);

@@ -16,15 +16,15 @@ use Rattle.text.proofs.ZerosLaws.{zeros-get}
 use Rattle.casemaster.specs.Rows.{placeWith}
 use Rattle.casemaster.proofs.SearchLaws.{place-found}
 use Rattle.casemaster.proofs.RowsLaws.{rows-rise}
-use Rattle.posting.specs.Hints.{Within}
+use Rattle.posting.specs.Hints.{HintsWithin}
 
 -- ---- sixteen places
 
 -- at the start all rows are left
-pub within-zeros : (w n : ℕ) → Within n n (replicate w 0)
+pub within-zeros : (w n : ℕ) → HintsWithin n n (replicate w 0)
 within-zeros w n k = omega (arith, zeros-get w k)
 
-within-set : (n left : ℕ) (places : List ℕ) (i p : ℕ) → Within n left places → p + left ≤ n → Within n left (set places i p)
+within-set : (n left : ℕ) (places : List ℕ) (i p : ℕ) → HintsWithin n left places → p + left ≤ n → HintsWithin n left (set places i p)
 within-set n left [] i p w h k = w k
 within-set n left (q ∷ places) zero p w h zero = h
 within-set n left (q ∷ places) zero p w h (suc k) = w (suc k)
@@ -33,11 +33,11 @@ within-set n left (q ∷ places) (suc i) p w h (suc k) = within-set n left place
 
 -- the places before k have half of the rows left, those from k on all
 pub record Halved (n left k : ℕ) (places : List ℕ) : Type 0 where
-  pub all : Within n (left - left / 2) places
+  pub all : HintsWithin n (left - left / 2) places
   pub behind : (j : ℕ) → k ≤ j → getD places j 0 + left ≤ n
 
 module _ (n left : ℕ) (places : List ℕ) where
-  pub halved-none : Within n left places → Halved n left 0 places
+  pub halved-none : HintsWithin n left places → Halved n left 0 places
   halved-none w = record { all = λ k. omega (arith, w k); behind = λ j h. w j }
 
   module _ (k : ℕ) (g : Halved n left k places) (p : ℕ) (h : p ≤ getD places k 0 + left / 2) where

@@ -4,5 +4,5 @@ use mathlib.Core.List.{List}
 use lib.ListN.{getD}
 
 -- behind each place there are still `left` of n rows
-abbrev pub Within : ℕ → ℕ → List ℕ → Type 0
-Within n left places = (k : ℕ) → getD places k 0 + left ≤ n
+abbrev pub HintsWithin : ℕ → ℕ → List ℕ → Type 0
+HintsWithin n left places = (k : ℕ) → getD places k 0 + left ≤ n

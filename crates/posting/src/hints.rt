@@ -6,7 +6,7 @@ use text::byte_order;
 use text::words;
 ghost use Prim.Native.Nat.{_+_, _-_, _*_, _/_, _≤_, _<_};
 ghost use lib.ListN.{length};
-ghost use Rattle.posting.specs.Hints.{Within};
+ghost use Rattle.posting.specs.Hints.{HintsWithin};
 
 // The first eight bytes of the key of line i as a number: the state and six digits of the SSN.
 fn front_of(file: &[u8], i: usize, count: usize) -> u64
@@ -84,8 +84,8 @@ fn halve(
     backs: &[u64; 16],
     places: &mut [usize; 16],
 )
-    requires { ⌜ (n * 200 ≤ length (now m)) × (1 < left) × Within n left (now places) ⌝ }
-    ensures { λ _. ⌜ Within n (left - left / 2) (now (places .exit)) ⌝ }
+    requires { ⌜ (n * 200 ≤ length (now m)) × (1 < left) × HintsWithin n left (now places) ⌝ }
+    ensures { λ _. ⌜ HintsWithin n (left - left / 2) (now (places .exit)) ⌝ }
 {
     let half = left / 2;
     let mut k: usize = 0;

@@ -26,7 +26,7 @@ use Rattle.casemaster.specs.Row.{isBalanceZero, isLive, isDeleted, areFieldsSou
 use Rattle.casemaster.specs.Rows.{rowWith, withRow}
 use Rattle.casemaster.specs.Master.{keysOf, areSoundRows}
 use Rattle.casemaster.specs.Refusals.{refusal3, refusal4, masterRefusal}
-use Rattle.judging.specs.Errors.{error01, error02, error03, error04, error05, error06, error07, error08, isLiveRow, error09, isLocalCode, error10, error11, error12, error13, wrongPart, error14, error15, error16, isOtherName, isGiven, error17, error18, isWrongKey, judged09, judged17, errors}
+use Rattle.judging.specs.Errors.{error01, error02, error03, error04, error05, error06, error07, error08, isLiveRow, error09, isLocalCode, error10, error11, error12, error13, wrongPart, error14, error15, error16, isOtherName, isGiven, error17, error18, isWrongKey, holds09, holds17, errors}
 use Rattle.judging.specs.Warnings.{warning51, isRenamed, warning52, warnings}
 use Rattle.judging.specs.Names.{givesName, namesGiven}
 use Rattle.onecase.specs.Verdict.{Judgement, isAccepted, codes, judgement, isRejected, isWarned}
@@ -141,7 +141,7 @@ unfolding
     isCaseType isSoundKey isOwnKey isKnownType detailsOf controlOf codesFrom codesOfNumber codesText sixLowest exclusionNames isSeparator wordsFrom
     readOnto exclusionsOf isBalanceZero isLive isDeleted areFieldsSound isEndSound isSoundRow rowWith withRow keysOf areSoundRows
     refusal3 refusal4 masterRefusal error01 error02 error03 error04 error05 error06 error07 error08 isLiveRow error09 isLocalCode error10 error11
-    error12 error13 wrongPart error14 error15 error16 isOtherName isGiven error17 error18 isWrongKey judged09 judged17 errors
+    error12 error13 wrongPart error14 error15 error16 isOtherName isGiven error17 error18 isWrongKey holds09 holds17 errors
     warning51 isRenamed warning52 warnings givesName namesGiven isAccepted codes judgement isRejected isWarned
     exclusionByte addedLocalCode freshRow recertified renamed deleted relocated amended paid changed added applied next
     base ofName ofYear liveRow afterDetail verdictOn finalRows verdictsOn detailsUnder addsWithoutRow

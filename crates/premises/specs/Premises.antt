@@ -160,7 +160,7 @@ sent master rows state year codes details =
 unfoldable pub sentTo : List ℕ → ℕ → List (List ℕ) → Sent
 sentTo master rows details = sent master rows ohio 2007 [] details
 
--- the proviso: D for JONES on the live row of SMITH, and the B that brings the name. Together D is accepted and B gets 09, apart D gets 17
+-- the proviso: D for JONES on the live row of SMITH, and a B that changes the name to JONES. Together D is accepted and B gets 09, apart D gets 17
 -- and B is accepted
 abbrev pub jones : List ℕ
 jones = J ∷ O ∷ N ∷ E ∷ S ∷ []

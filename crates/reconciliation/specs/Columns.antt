@@ -11,7 +11,7 @@ use Rattle.layout.specs.Chart07.{rctIdentifier, rctState, rctTanf, rctNonTanf, 
 use Rattle.casemaster.specs.Row.{rowState, rowSsn, rowCaseType, rowLocalCode, rowCaseId, rowLastName, rowFirstName, rowArrearage, rowDateIssued, rowExclusions}
 use Rattle.reconciliation.specs.Reconcile.{REC, RCT, recRecords, reportedOf}
 
--- the record of a row: no other 245 bytes have these columns
+-- the record of a row
 pub record IsRecRecord (row rec : List ℕ) : Type 0 where
   pub wide : length rec ≡ 245
   pub identifier : recIdentifier rec ≡ REC
@@ -29,7 +29,7 @@ pub record IsRecRecord (row rec : List ℕ) : Type 0 where
   pub exclusions : recExclusions rec ≡ exclusionColumns (getD (rowExclusions row) 0 0)
   pub filler : recFiller rec ≡ spaces 140
 
--- the control record of a state, a date and a master's rows: no other 245 bytes have these columns
+-- the control record of a state, a date and a master's rows
 pub record IsRctRecord (state date : List ℕ) (rows : List (List ℕ)) (rec : List ℕ) : Type 0 where
   pub wide : length rec ≡ 245
   pub identifier : rctIdentifier rec ≡ RCT

@@ -23,7 +23,7 @@ use Rattle.onecase.specs.Verdict.{Judgement, isEmpty, isRejected, isWarned, mea
 use Rattle.onecase.specs.declared.verdict.Verdict.{Verdict}
 use Rattle.judging.proofs.CodeSums.{number-none}
 use Rattle.onecase.proofs.JudgedLaws.{Judged, judged, rejected-some}
-use Rattle.keywork.specs.Packed.{Packed, IsJudged, IsVerdictIn, HoldsVerdicts}
+use Rattle.keywork.specs.Packed.{Packed, IsMachineJudgement, IsVerdictIn, HoldsVerdicts}
 use Rattle.rejectfile.specs.Rejects.{numberOf, numbers, rejectRecord, ifAny, rejectRecords}
 use Rattle.rejectfile.specs.Counts.{Counts, countsOf}
 use Rattle.rejectfile.specs.Tally.{countsIn, plus, oneDetail, AtMost, addedBy, allAccepted, startTally, CodedAtMost}
@@ -48,14 +48,14 @@ any-code [] = refl
 any-code (c ∷ cs) = ne-eqb (numberOfCodes (c ∷ cs)) 0 (λ e. let z : _≡_ {A = ℕ} 0 1 = cc (number-none (c ∷ cs) e) in omega arith)
 
 -- warned: accepted, with a code
-judged-warned : (j : Judgement) → IsJudged j → isWarned j ≡ (not (isRejected j) && not (isEmpty (j .codes)))
+judged-warned : (j : Judgement) → IsMachineJudgement j → isWarned j ≡ (not (isRejected j) && not (isEmpty (j .codes)))
 judged-warned j g = subst (Judged (g .row)) (g .judged) (judged (g .setting) (g .row) (g .rec)) .warned
 
 module _ (v : Verdict) (j : Judgement) (e : meaning v ≡ j) (f : setIn v < 2 ^ 64) where
   pub set-number : setIn v ≡ numberOf j
   set-number = sym (number-codes (setIn v) f) ∙ ap numberOfCodes (sym (codes-in v)) ∙ ap numberOf e
 
-  adds-accepted : (rec : List ℕ) → saysAccepted v ≡ not (isRejected j) → IsJudged j
+  adds-accepted : (rec : List ℕ) → saysAccepted v ≡ not (isRejected j) → IsMachineJudgement j
       → oneDetail rec (not (saysAccepted v)) (saysAccepted v && not (eqb (setIn v) 0)) ≡ oneDetail rec (isRejected j) (isWarned j)
   adds-accepted rec a g =
       let r : not (saysAccepted v) ≡ isRejected j = ap not a ∙ Bool·not-not (isRejected j) in
@@ -80,7 +80,7 @@ module _ (v : Verdict) (j : Judgement) (e : meaning v ≡ j) (f : setIn v < 2 ^ 
       by true t none = absurd (rejected-some j t none)
       by false t none = refl
 
-  pub adds-verdict : (rec : List ℕ) → saysAccepted v ≡ not (isRejected j) → IsJudged j
+  pub adds-verdict : (rec : List ℕ) → saysAccepted v ≡ not (isRejected j) → IsMachineJudgement j
       → addedBy rec (saysAccepted v) (not (eqb (setIn v) 0)) ≡ oneDetail rec (isRejected j) (isWarned j)
   adds-verdict rec a g = go (eqb (setIn v) 0) refl
     where

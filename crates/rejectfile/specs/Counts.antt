@@ -76,7 +76,7 @@ controlRecord state counts =
     ++ digitField 9 (counts .rejectedNonTanf) ++ digitField 9 (counts .warnedTanf) ++ digitField 9 (counts .warnedNonTanf)
     ++ spaces 186
 
--- the same by its columns (proved of it in ControlColumns): no other 245 bytes have them all
+-- the same by its columns (proved of it in ControlColumns)
 pub record IsControlRecord (state : List ℕ) (counts : Counts) (rec : List ℕ) : Type 0 where
   pub wide : length rec ≡ 245
   pub state-is : rejectState rec ≡ state

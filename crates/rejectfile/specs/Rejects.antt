@@ -27,7 +27,7 @@ rejectRecord detail verdict =
     columns 1 227 detail ++ sixLowest (verdict .codes) ++ fourColumns (verdict .name) ++ spaces 1 ++ columns 245 245 detail
 
 -- the same by its columns (proved of it in RejectColumns): the detail's own, the six lowest codes rising, the four characters of 17, a
--- space; no other 245 bytes have them all
+-- space
 pub record IsRejectRecord (detail : List ℕ) (verdict : Judgement) (rec : List ℕ) : Type 0 where
   pub wide : length rec ≡ 245
   pub as-sent : asSent rec ≡ asSent detail

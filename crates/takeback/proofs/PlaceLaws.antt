@@ -9,6 +9,7 @@ use lib.Dec.{lit≤}
 use lib.ListN.{length, take, drop, length-take, length-drop, drop-of-length-le}
 use lib.Seq.{take-take}
 use borrow.Author.Tests.{not-true, not-false}
+use Rattle.casemaster.specs.Master.{rowIn}
 use Rattle.text.specs.ByteOrder.{orderOf, isLess}
 use Rattle.text.specs.ByteNumbers.{AreBytes, bytesNumber}
 use Rattle.text.proofs.ByteNumberLaws.{bytes-take, bytes-drop}
@@ -20,7 +21,7 @@ use Rattle.casemaster.proofs.RefusalsLaws.{one-row}
 use Rattle.casemaster.proofs.PassLaws.{twelve-front, twelve-back}
 use Rattle.journal.specs.Journal.{entry, ReadEntry, noEntry, oneEntry, readEntry, beforeOthers, entriesIn}
 use Rattle.journal.specs.Reading.{reach, EntryOutOfReach, EntryFound, oldAt, IsEntry}
-use Rattle.takeback.specs.Testing.{isAfter, passesFrom, IsKeyNumbers, IsLastIn, IsLast, Followed, OldFollowed, OldFollowedIf, rowIn, GoesOnOrFails, PlaceTested}
+use Rattle.takeback.specs.Testing.{isAfter, passesFrom, IsKeyNumbers, IsLastIn, IsLast, Followed, OldFollowed, OldFollowedIf, GoesOnOrFails, PlaceTested}
 use Rattle.journal.specs.declared.entries.Found.{Found}
 use Rattle.takeback.specs.declared.testing.Tested.{Tested}
 use Rattle.journal.proofs.FormLaws.{entries-none, entries-bad, entries-next}

@@ -15,13 +15,12 @@ use Rattle.text.specs.Options.{oneOrNone}
 use Rattle.text.proofs.FieldsLaws.{and-left, and-right}
 use Rattle.text.proofs.BoolLaws.{and-both}
 use Rattle.text.proofs.BlocksLaws.{blocks-next, blocks-snoc, length-blocks, kept-further, part-width}
-use Rattle.casemaster.specs.Master.{rowsOf}
+use Rattle.casemaster.specs.Master.{rowsOf, rowIn}
 use Rattle.casemaster.specs.Search.{RowPut}
 use Rattle.casemaster.proofs.MovedLaws.{row-put}
 use Rattle.journal.specs.Journal.{Entry, entry, ReadEntry, noEntry, oneEntry, readEntry, beforeOthers, entriesIn}
 use Rattle.takeback.specs.Restored.{placesRise, placesBelow, restoredFrom}
 use Rattle.journal.specs.Reading.{reach, EntryOutOfReach, EntryFound, oldAt, IsEntryAt, IsEntry}
-use Rattle.takeback.specs.Testing.{rowIn}
 use Rattle.takeback.specs.Restoring.{IsLater, CanRestore, PlaceRestored, AllRestored}
 use Rattle.journal.specs.declared.entries.Found.{Found}
 use Rattle.takeback.specs.declared.restoring.Position.{Position}

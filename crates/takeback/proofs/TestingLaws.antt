@@ -12,13 +12,13 @@ use Rattle.text.specs.Fields.{every}
 use Rattle.text.proofs.FieldsLaws.{and-left, every-drop}
 use Rattle.text.proofs.BlocksLaws.{blocks-next, length-blocks}
 use Rattle.casemaster.specs.Row.{isSoundRow}
-use Rattle.casemaster.specs.Master.{rowsOf, areSoundRows}
+use Rattle.casemaster.specs.Master.{rowsOf, rowIn, areSoundRows}
 use Rattle.casemaster.proofs.RowsLaws.{each-sound}
 use Rattle.journal.specs.Numbers.{Read, unread, read, readNumber}
 use Rattle.journal.specs.Journal.{Entry, Journal, journal, ReadEntry, noEntry, oneEntry, readEntry, entriesIn, beforeOthers, withCounts, behindAfter, behindBefore, journalIn}
 use Rattle.takeback.specs.Restored.{newMarks, placesBelow, fits, canTakeBack}
 use Rattle.journal.specs.Reading.{reach, OutOfReach, NumberRead, IsNumber, IsNumberAt}
-use Rattle.takeback.specs.Testing.{passesFrom, IsLast, rowIn, GoesOn, GoesOnOrFails, PlaceTested, CountsRead, IsCounts, IsCountsIf}
+use Rattle.takeback.specs.Testing.{passesFrom, IsLast, GoesOn, GoesOnOrFails, PlaceTested, CountsRead, IsCounts, IsCountsIf}
 use Rattle.journal.specs.declared.numbers.Number.{Number}
 use Rattle.takeback.specs.declared.testing.Tested.{Tested}
 use Rattle.takeback.specs.declared.testing.Counts.{Counts}

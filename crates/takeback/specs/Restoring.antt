@@ -6,11 +6,10 @@ use mathlib.Core.Bool.{true}
 use mathlib.Core.List.{List, [], _∷_, _++_}
 use mathlib.Core.Option.{some}
 use lib.ListN.{length, drop}
-use Rattle.casemaster.specs.Master.{rowsOf}
+use Rattle.casemaster.specs.Master.{rowsOf, rowIn}
 use Rattle.journal.specs.Journal.{Entry, entriesIn}
 use Rattle.takeback.specs.Restored.{placesRise, placesBelow, restoredFrom}
 use Rattle.journal.specs.Reading.{reach}
-use Rattle.takeback.specs.Testing.{rowIn}
 use Rattle.takeback.specs.declared.restoring.Position.{Position}
 
 -- the entries from an index on, with places that rise from p on and can be read

@@ -11,7 +11,7 @@ use Rattle.text.specs.Fields.{every}
 use Rattle.text.specs.ByteOrder.{orderOf, isLess, rising}
 use Rattle.text.specs.ByteNumbers.{AreBytes, bytesNumber}
 use Rattle.casemaster.specs.Row.{isSoundRow}
-use Rattle.casemaster.specs.Master.{keysOf}
+use Rattle.casemaster.specs.Master.{rowIn, keysOf}
 use Rattle.journal.specs.Journal.{Entry, entriesIn, journalIn, withCounts}
 use Rattle.takeback.specs.Restored.{placesBelow, placesRise, newMarks, restoredFrom, canTakeBack}
 use Rattle.journal.specs.Reading.{reach}
@@ -67,10 +67,6 @@ OldFollowedIf false bytes o at s r = r .ok ≡ false
 
 abbrev pub OldFollowed : List ℕ → ℕ → ℕ → Tested → Tested → Type 0
 OldFollowed bytes o at s r = OldFollowedIf (isSoundRow (take 200 (drop o bytes))) bytes o at s r
-
--- the row at a place
-abbrev pub rowIn : List ℕ → ℕ → List ℕ
-rowIn m p = take 200 (drop (p * 200) m)
 
 -- one place tested: it goes on with the next, and the tests left there say what they said here; or a test failed
 pub record GoesOn (n before : ℕ) (m : List ℕ) (p : ℕ) (journal : List ℕ) (s r : Tested) (last : Option (List ℕ)) (rows : List (List ℕ)) : Type 0 where

@@ -25,15 +25,14 @@ pub record Follows (old new : List (List ℕ)) : Type 0 where
   pub new-rise : rising (keysOf new) ≡ true
   pub stays : (key : List ℕ) → rowWith key new ≡ none → rowWith key old ≡ none
 
--- For every batch carried out, taking it back with its journal, from the master it left, gives the old row count and rows; bytes past them are
--- kept as the batch left them. The rows at entry are sound and 200 bytes wide, the master that the batch left has `rows` rows, which 3 and 4
--- don't refuse; nothing is said of the limit or of the journal's buffer.
+-- the rows at entry are sound and 200 bytes wide; the master that a batch left has `rows` rows, which 3 and 4 don't refuse
 pub record IsLeftBy (limit : ℕ) (old : List (List ℕ)) (master : List ℕ) (rows : ℕ) : Type 0 where
   pub wide : AreWide old
   pub sound : areSoundRows old ≡ true
   pub passed : masterRefusal limit master rows 0 ≡ 0
   pub follows : Follows old (rowsOf rows master)
 
+-- taking back with the journal of the two lists of rows gives the old row count and rows; bytes past them are kept as the batch left them
 abbrev pub TakesBack : Type 0
 TakesBack =
     (limit : ℕ) (old : List (List ℕ)) (master : List ℕ) (rows : ℕ) → IsLeftBy limit old master rows

@@ -21,8 +21,8 @@ pub record IsDone (j : JournaledCall) (o : JournaledOutcome) : Type 0 where
   pub is : IsJournaled j o
   pub done : isCarriedOut (o .answer) ≡ true
 
--- the bytes that it wrote take it back, from every master with the rows and the row count that it left. Where the buffer has no room for the
--- journal, which no call of the code meets, the statement says nothing that could be seen: see `HasRoom` below
+-- the bytes that it wrote take it back, from every master with the rows and the row count that it left. Document 02, item 14, asks this of a
+-- buffer with room for the journal (`HasRoom` below); nothing is asked of the buffer here
 abbrev pub EveryJournaledBatch : Type 0
 EveryJournaledBatch =
     (j : JournaledCall) (o : JournaledOutcome) → IsDone j o → (master : List ℕ) → HasRowsLeft (j .call) (besideJournal o) master

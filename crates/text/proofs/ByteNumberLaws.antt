@@ -115,7 +115,7 @@ stand n (x ∷ s) (y ∷ t) e p q = go (heads x y) (stand (n * 256 + x) s t (ome
     go (same h) (above k o) l = above (rw (← h) k) (λ u v. order-eq x y (s ++ u) (t ++ v) h ∙ o u v)
 
 -- bytes of one length are below others where their number is
-number-order : (s t : List ℕ) → length s ≡ length t → AreBytes s → AreBytes t → isLess (orderOf s t) ≡ ltb (bytesNumber s) (bytesNumber t)
+pub number-order : (s t : List ℕ) → length s ≡ length t → AreBytes s → AreBytes t → isLess (orderOf s t) ≡ ltb (bytesNumber s) (bytesNumber t)
 unfolding isLess bytesNumber
 number-order s t e p q = go (stand 0 s t e p q)
   where

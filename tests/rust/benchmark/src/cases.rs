@@ -17,13 +17,18 @@ pub fn in_order(name: &str) -> Input {
     input(name, MANY, MANY, &details, 0.0)
 }
 
-/// No rows, adds in falling key order, and a list of all 1,000 codes; the adds have the last one.
-pub fn coded(name: &str) -> Input {
+/// Local codes that adds have: the last one of the list, and one that is in no list.
+pub const LAST_CODE: &str = "999";
+pub const BLANK_CODE: &str = "   ";
+
+/// No rows, adds in falling key order, and a list of all 1,000 codes; the adds have the last one, or
+/// a blank one, which is in no list.
+pub fn coded(name: &str, code: &str) -> Input {
     let details: Vec<Record> = (0..MANY)
         .rev()
         .map(|number| {
             let mut record = bulk::add(STATE, number);
-            put_text(&mut record, 3, "999");
+            put_text(&mut record, 3, code);
             record
         })
         .collect();
@@ -55,10 +60,11 @@ pub fn half_known(name: &str) -> Input {
 }
 
 /// What is measured beside the others, one by one.
-pub const FURTHER: [fn() -> Input; 4] = [
+pub const FURTHER: [fn() -> Input; 5] = [
     || half_known("45875 rows, 19660 A, half on rows"),
     || in_order("65535 rows, 65535 changes in key order"),
-    || coded("no rows, 65535 adds, 1000 local codes"),
+    || coded("no rows, 65535 adds, 1000 local codes", LAST_CODE),
+    || coded("the same with blank local codes", BLANK_CODE),
     || renames("65535 details of one key, half B", MANY, MANY, true),
 ];
 

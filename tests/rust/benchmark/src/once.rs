@@ -8,7 +8,7 @@ use generator::files::{accepted, Direction};
 use generator::posting::{numbered as collection, total, Line as Collection};
 use generator::rng::Rng;
 
-use crate::cases::{coded, half_known, in_order, rename};
+use crate::cases::{coded, half_known, in_order, rename, BLANK_CODE, LAST_CODE};
 use crate::convert::BYTES;
 use crate::input::{adds, changes, falling, lookup, renames, scattered, Input, MANY, STATE};
 use crate::journal;
@@ -66,7 +66,8 @@ pub fn once(case: &str, engine: &str) {
         "8192-changes" => apply(&changes(case, 8192, 8192), speed),
         "in-order-changes" => apply(&in_order(case), speed),
         "half-known-adds" => apply(&half_known(case), speed),
-        "1000-codes" => apply(&coded(case), speed),
+        "1000-codes" => apply(&coded(case, LAST_CODE), speed),
+        "1000-codes-blank" => apply(&coded(case, BLANK_CODE), speed),
         "65535-adds" => apply(&falling(case, MANY), speed),
         "19660-adds" => apply(&adds(case, 45_875, 19_660, false), speed),
         "mixed" => apply(&adds(case, 45_875, 19_660, true), speed),

@@ -61,8 +61,11 @@ work-key-requires : tie.Need-work-key-requires
 work-key-requires c κs =
     let at-run-at = c .before .before .before .before .before .before .before .before .before .before .before .before .before .before .before .before in
     let start = at-run-at .before .before .before .before .before .before .before .before in
-    let a = start .args in
-    key-ready (a .state .now) (a .year) (a .list .now) (a .batch .now) (a .numbers .now) (a .s .position) (a .own) (at-run-at .run-at .result) (start .pre .0 .1) (at-run-at .run-at .ensures)
+    let a = start .args in (
+      key-ready (a .state .now) (a .year) (a .list .now) (a .batch .now) (a .numbers .now) (a .s .position) (a .own) (at-run-at .run-at .result)
+          (start .pre .0 .1) (at-run-at .run-at .ensures),
+      start .pre .0 .2,
+    )
 
 add-put-key-entry : tie.Need-add-put-key-entry
 add-put-key-entry c =
@@ -133,8 +136,8 @@ put-row-of-requires c κs =
 one-if-requires : tie.Need-one-if-requires
 one-if-requires c κs = search needs
 
-add-t30 : tie.Need-add-t30
-add-t30 c =
+add-t31 : tie.Need-add-t31
+add-t31 c =
     let at-rows-below = c .before .before .before .before .before .before .before .before .before .before .before .before .before .before .before .before .before .before .before .before .before .before in
     let start = at-rows-below .before .before .before .before .before .before .before .before .before .before .before .before .before .before in
     let h = start .pre .1 .0 in
@@ -200,7 +203,7 @@ walk-key-spec =
     add-put-row-of
     put-row-of-requires
     one-if-requires
-    add-t30
+    add-t31
     same-length
     same-length-2
     same-length-3

@@ -7,22 +7,26 @@ use Rattle.journalwalk.specs.JournalWalk.{standOf}
 use Rattle.keywalk.proofs.WalkingLaws.{Walking, walking-start, walking-rises, walking-room, walking-sorted, walking-next}
 use Rattle.journalwalk.proofs.JournalingLaws.{Journaling, journaling-start, journaling-room, journaling-next, journaling-done}
 use native.Mathlib.Omega.{arith}
+use borrow.Author.Needs.{needs}
 use Prim.Native.Nat.{_-_}
 use Rattle.journalwalk.proofs.walk.walk_keys.Statement.{statement}
 use Rattle.journalwalk.proofs.walk.walk_keys.Tie as tie
 
 abbrev Inv-loop : tie.InvT-loop
-Inv-loop m₀ from end batch numbers₀ own state year list journal₀ at wanted s₀ m numbers journal s =
+Inv-loop m₀ from end batch numbers₀ own state year list journal₀ at wanted ordered s₀ m numbers journal s =
     (w : WalkReady (fixedOf state year list batch own end) (startOf from m₀ numbers₀))
     × (Walking (fixedOf state year list batch own end) (startOf from m₀ numbers₀) w (standOf s m numbers)
     × Journaling (fixedOf state year list batch own end) (startOf from m₀ numbers₀) wanted journal₀ at (standOf s m numbers) journal (s .written))
 
 abbrev μ-loop : tie.MeasureT-loop
-μ-loop m₀ from end batch numbers₀ own state year list journal₀ at wanted s₀ m numbers journal s = own - s .position
+μ-loop m₀ from end batch numbers₀ own state year list journal₀ at wanted ordered s₀ m numbers journal s = own - s .position
+
+is-ordered-requires : tie.Need-is-ordered-requires Inv-loop μ-loop
+is-ordered-requires c κs = search needs
 
 loop-holds : tie.Need-loop-holds Inv-loop μ-loop
 loop-holds c =
-    let start = c .before .before .before .before .before .before in
+    let start = c .before .before .before .before .before .before .before in
     let a = start .args in
     let w = start .pre .0 in
     let f = fixedOf (a .state .now) (a .year) (a .list .now) (a .batch .now) (a .own) (a .end) in
@@ -33,7 +37,7 @@ walk-key-requires : tie.Need-walk-key-requires Inv-loop μ-loop
 walk-key-requires c κs =
     let at-if1 = c .before .before .before in
     let at-loop = at-if1 .before .before in
-    let start = at-loop .before .before .before .before .before .before .before in
+    let start = at-loop .before .before .before .before .before .before .before .before in
     let a = start .args in
     let l = at-loop .loop in
     let w = l .inv .0 in
@@ -42,7 +46,7 @@ walk-key-requires c κs =
     let t = at-if1 .if1 .taken in
     let f = fixedOf (a .state .now) (a .year) (a .list .now) (a .batch .now) (a .own) (a .end) in
     let s = startOf (a .from) (a .m .now) (a .numbers .now) in (
-      (t, walking-sorted f s w _ g),
+      (t, walking-sorted f s w _ g, at-loop .before .is-ordered .ensures),
       (
         (g .low, g .within, omega (arith, g .len, w .rows-in), walking-rises f s w _ g),
         (
@@ -63,7 +67,7 @@ loop-again c =
     let at-walk-key = c .before .before .before .before .before .before in
     let at-if1 = at-walk-key .before .before .before .before in
     let at-loop = at-if1 .before .before in
-    let start = at-loop .before .before .before .before .before .before .before in
+    let start = at-loop .before .before .before .before .before .before .before .before in
     let a = start .args in
     let l = at-loop .loop in
     let w = l .inv .0 in
@@ -87,7 +91,7 @@ same-length-3 c = c .before .before .loop .inv .1 .1 .len
 returns : tie.Need-returns Inv-loop μ-loop
 returns c =
     let at-loop = c .before .before in
-    let start = at-loop .before .before .before .before .before .before .before in
+    let start = at-loop .before .before .before .before .before .before .before .before in
     let a = start .args in
     let l = at-loop .loop in
     let f = fixedOf (a .state .now) (a .year) (a .list .now) (a .batch .now) (a .own) (a .end) in
@@ -100,6 +104,7 @@ walk-keys-spec =
     (tie.spec
     Inv-loop
     μ-loop
+    is-ordered-requires
     loop-holds
     walk-key-requires
     loop-less

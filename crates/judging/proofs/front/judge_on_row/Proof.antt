@@ -2,7 +2,7 @@
 -- Assumes nothing.
 use mathlib.Core.Path.{_≡_}
 use Rattle.judging.specs.Setting.{settingOf}
-use Rattle.judging.specs.Errors.{judged17}
+use Rattle.judging.specs.Errors.{holds17}
 use native.Mathlib.Omega.{arith}
 use mathlib.Core.Path.{ap, _∙_}
 use mathlib.Core.Bool.{Bool, not, _&&_}
@@ -34,7 +34,7 @@ returns c =
           let row = rowIf (a .held) (a .row .now) in
           let judged = not (a .f .kind) && not (a .f .key) in
           let e9 = ap (λ (b : Bool). judged && b) (c .before .before .before .before .has-09 .ensures) ∙ row-09 state year list (a .rec .now) (a .f) i names row in
-          let e17 : (judged && (not (a .f .name) && (not (c .before .before .before .before .has-09 .result) && c .before .before .before .has-17 .result))) ≡ judged17 (settingOf state year list names) row (a .rec .now) =
+          let e17 : (judged && (not (a .f .name) && (not (c .before .before .before .before .has-09 .result) && c .before .before .before .has-17 .result))) ≡ holds17 (settingOf state year list names) row (a .rec .now) =
           rw (c .before .before .before .before .has-09 .ensures, c .before .before .before .has-17 .ensures names g)
           (row-17 state year list (a .rec .now) (a .f) i names row) in
           (row-set state year list (a .rec .now) (a .f) i names row _ _ _ _ (c .before .flag .ensures .0) (c .flag2 .ensures .0) e9 e17, e17)),

@@ -16,10 +16,10 @@ use Rattle.keywork.proofs.worked.work_run.Statement.{statement}
 use Rattle.keywork.proofs.worked.work_run.Tie as tie
 
 abbrev Inv-loop : tie.InvT-loop
-Inv-loop batch numbers₀ p e state year list row₀ held₀ q₀ numbers row held q = (p ≤ q) × (q ≤ e) × (length numbers ≡ length numbers₀) × ((k : ℕ) → q ≤ k → getD numbers k 0 ≡ getD numbers₀ k 0) × (length row ≡ 200) × UnderTags state year list batch numbers₀ p e (λ setting. RunWorked setting batch p q (rowIf held₀ row₀) (rowIf held row) numbers₀ numbers)
+Inv-loop batch numbers₀ p e state year list ordered row₀ held₀ q₀ numbers row held q = (p ≤ q) × (q ≤ e) × (length numbers ≡ length numbers₀) × ((k : ℕ) → q ≤ k → getD numbers k 0 ≡ getD numbers₀ k 0) × (length row ≡ 200) × UnderTags state year list batch numbers₀ p e (λ setting. RunWorked setting batch p q (rowIf held₀ row₀) (rowIf held row) numbers₀ numbers)
 
 abbrev μ-loop : tie.MeasureT-loop
-μ-loop batch numbers₀ p e state year list row₀ held₀ q₀ numbers row held q = e - q
+μ-loop batch numbers₀ p e state year list ordered row₀ held₀ q₀ numbers row held q = e - q
 
 loop-holds : tie.Need-loop-holds Inv-loop μ-loop
 loop-holds c =
@@ -41,7 +41,7 @@ slice-read-work-tagged c = omega (arith, c .before .before .before .before .loop
 work-tagged-requires : tie.Need-work-tagged-requires Inv-loop μ-loop
 work-tagged-requires c κs =
     let l = c .before .before .before .before .before .loop in
-    (search needs, rw (l .inv .3 (l .q) (omega arith)) (c .before .before .before .before .before .before .before .before .before .before .before .pre .2 (l .q) (l .inv .0) (c .before .before .before .before .loop-test .taken)))
+    (search needs, rw (l .inv .3 (l .q) (omega arith)) (c .before .before .before .before .before .before .before .before .before .before .before .pre .2 (l .q) (l .inv .0) (c .before .before .before .before .loop-test .taken)), c .before .before .before .before .before .before .before .before .before .before .before .pre .3)
 
 mul-numbers : tie.Need-mul-numbers Inv-loop μ-loop
 mul-numbers c = search needs

@@ -1,7 +1,8 @@
--- `locals::three_number`: three bytes make a number below 256 × 256 × 256. Assumes nothing.
+-- `locals::three_number` meets its contract: three bytes write a number below 256 × 256 × 256, which has room in the result. Assumes nothing.
 use Prim.Native.Nat.{_+_}
 use native.Mathlib.Omega.{arith}
 use borrow.Author.Needs.{needs}
+use Rattle.layout.proofs.CodeNumberLaws.{three-number}
 use Rattle.layout.proofs.locals.three_number.Statement.{statement}
 use Rattle.layout.proofs.locals.three_number.Tie as tie
 
@@ -51,7 +52,7 @@ add-result-4 c =
     omega (arith, g i, g (i + 1), g (i + 2))
 
 returns : tie.Need-returns
-returns c = search needs
+returns c = three-number _ _ (c .before .before .before .pre)
 
 pub three-number-spec : {M : Type 1} → statement M
 three-number-spec =

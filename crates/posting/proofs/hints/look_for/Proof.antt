@@ -1,12 +1,12 @@
 -- `hints::look_for`: behind each place there are as many rows as are left. Assumes nothing.
 use borrow.Author.Needs.{needs}
-use Rattle.posting.specs.Hints.{Within}
+use Rattle.posting.specs.Hints.{HintsWithin}
 use Rattle.posting.proofs.HintLaws.{within-zeros}
 use Rattle.posting.proofs.hints.look_for.Statement.{statement}
 use Rattle.posting.proofs.hints.look_for.Tie as tie
 
 abbrev Inv-loop : tie.InvT-loop
-Inv-loop m n fronts backs places₀ left₀ places left = Within n left places
+Inv-loop m n fronts backs places₀ left₀ places left = HintsWithin n left places
 
 abbrev μ-loop : tie.MeasureT-loop
 μ-loop m n fronts backs places₀ left₀ places left = left
