@@ -217,36 +217,37 @@ pub premises-needed : PremisesNeeded
 unfolding sent callWith sentTo together deletesAlone renamesAlone addsTwice adds addsAgain addsNowhere amends pays relocates amendsNothing
 premises-needed =
     record {
-      proviso = λ f.
+      with-all = λ f. f;
+      proviso-needed = λ f.
           codes-differ _ _ (computed .apart-codes) (computed .together-codes)
           (f together (deletesAlone ∷ renamesAlone ∷ []) (record { is = refl }) (record { is = refl }, (record { is = refl }, tt))
           (computed .together-done) (computed .apart-done) (same-state together deletesAlone (computed .together-state) (computed .deletes-state), (same-state together renamesAlone (computed .together-state) (computed .renames-state), tt)) (refl, (refl, tt)) (refl, (refl, tt)) (computed .apart-masters)
-          (computed .apart-details) .verdicts);
-      whole-carried-out = λ f.
+          (computed .apart-details) tt .verdicts);
+      whole-needed = λ f.
           counts-differ _ _ 1 0 (computed .adds-count) (computed .twice-count) (λ z. omega arith)
           (f addsTwice (adds ∷ addsAgain ∷ []) (record { is = refl }) (record { is = refl }, (record { is = refl }, tt))
-          (computed .adds-done) (same-state addsTwice adds (computed .twice-state) (computed .adds-state), (same-state addsTwice addsAgain (computed .twice-state) (computed .again-state), tt)) (refl, (refl, tt)) (refl, (refl, tt)) (computed .adds-masters)
+          tt (computed .adds-done) (same-state addsTwice adds (computed .twice-state) (computed .adds-state), (same-state addsTwice addsAgain (computed .twice-state) (computed .again-state), tt)) (refl, (refl, tt)) (refl, (refl, tt)) (computed .adds-masters)
           (computed .adds-details) (few-without (adds ∷ addsAgain ∷ []) (computed .adds-without-b)) .master);
-      parts-carried-out = λ f.
+      parts-needed = λ f.
           counts-differ _ _ 0 1 (computed .nowhere-count) (computed .somewhere-count) (λ z. omega arith)
           (f adds (addsNowhere ∷ []) (record { is = refl }) (record { is = refl }, tt)
-          (computed .adds-done .0) (same-state adds addsNowhere (computed .adds-state) (computed .nowhere-state), tt) (refl, tt) (refl, tt) (computed .nowhere-master, tt)
+          (computed .adds-done .0) tt (same-state adds addsNowhere (computed .adds-state) (computed .nowhere-state), tt) (refl, tt) (refl, tt) (computed .nowhere-master, tt)
           (computed .nowhere-details) (few-alone addsNowhere) .master);
-      state = λ f.
+      state-needed = λ f.
           codes-differ _ _ (computed .alabama-codes) (computed .ohio-codes)
           (f (amends ohio) (amends alabama ∷ []) (record { is = refl }) (record { is = refl }, tt) (computed .ohio-done) (computed .alabama-done, tt)
-          (refl, tt) (refl, tt) (refl, tt) (computed .amends-details) (few-alone (amends alabama)) .verdicts);
-      year = λ f.
+          tt (refl, tt) (refl, tt) (refl, tt) (computed .amends-details) (few-alone (amends alabama)) .verdicts);
+      year-needed = λ f.
           codes-differ _ _ (computed .unpaid-codes) (computed .paid-codes)
           (f (pays 2008) (pays 2007 ∷ []) (record { is = refl }) (record { is = refl }, tt) (computed .paid-done) (computed .unpaid-done, tt)
-          (same-state (pays 2008) (pays 2007) (computed .paid-state) (computed .unpaid-state), tt) (refl, tt) (refl, tt) (computed .pays-details) (few-alone (pays 2007)) .verdicts);
-      codes = λ f.
+          (same-state (pays 2008) (pays 2007) (computed .paid-state) (computed .unpaid-state), tt) tt (refl, tt) (refl, tt) (computed .pays-details) (few-alone (pays 2007)) .verdicts);
+      codes-needed = λ f.
           codes-differ _ _ (computed .unlisted-codes) (computed .listed-codes)
           (f (relocates (digitField 3 1)) (relocates [] ∷ []) (record { is = refl }) (record { is = refl }, tt) (computed .listed-done)
-          (computed .unlisted-done, tt) (same-state (relocates (digitField 3 1)) (relocates []) (computed .listed-state) (computed .unlisted-state), tt) (refl, tt) (refl, tt) (computed .relocates-details)
+          (computed .unlisted-done, tt) (same-state (relocates (digitField 3 1)) (relocates []) (computed .listed-state) (computed .unlisted-state), tt) (refl, tt) tt (refl, tt) (computed .relocates-details)
           (few-alone (relocates [])) .verdicts);
-      masters = λ f.
+      masters-needed = λ f.
           codes-differ _ _ (computed .nothing-codes) (computed .ohio-codes)
           (f (amends ohio) (amendsNothing ∷ []) (record { is = refl }) (record { is = refl }, tt) (computed .ohio-done) (computed .nothing-done, tt)
-          (same-state (amends ohio) amendsNothing (computed .ohio-state) (computed .nothing-state), tt) (refl, tt) (refl, tt) (computed .nothing-details) (few-alone amendsNothing) .verdicts);
+          (same-state (amends ohio) amendsNothing (computed .ohio-state) (computed .nothing-state), tt) (refl, tt) (refl, tt) tt (computed .nothing-details) (few-alone amendsNothing) .verdicts);
     }

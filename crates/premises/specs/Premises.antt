@@ -2,7 +2,9 @@
 -- records are of OH, SSN 123456789, N; the limit is nine. Assumes nothing.
 use Prim.Native.Nat.{ℕ, _+_, _*_}
 use mathlib.Core.Path.{_≡_}
+use mathlib.Core.Bool.{Bool, true, false, not}
 use mathlib.Core.List.{List, [], _∷_, _++_, map}
+use lib.Dec.{eqb}
 use lib.ListN.{length}
 use Rattle.text.specs.Characters.{A, B, D, E, J, L, M, N, O, S}
 use Rattle.text.specs.Fields.{placed, digitField, spaces}
@@ -12,113 +14,54 @@ use Rattle.batchfile.specs.Totals.{countOf, amountOf}
 use Rattle.batchfile.specs.Stated.{totalsRecord}
 use Rattle.batch.specs.Call.{Call}
 use Rattle.batch.specs.Apply.{applyOutcome}
-use Rattle.effects.specs.Several.{Sent, IsApplied, WasCarriedOut, SameState, SameYear, SameCodes, EachSent, masterFound, OneBehindTheOther, detailsSent, joinedDetails, NoBInTwo, SameAsWhole}
+use Rattle.effects.specs.Several.{Sent, IsApplied, WasCarriedOut, SameState, SameYear, SameCodes, EachSent, masterFound, OneBehindTheOther, detailsSent, joinedDetails, NoBInTwo, SameAsWhole, Several}
 
 -- ---- the claim without a premise
 
--- a key with a B record may have records in two of them
-abbrev pub WithoutProviso : Type 0
-WithoutProviso =
-    (whole : Sent) (parts : List Sent)
-    → IsApplied whole
-    → EachSent IsApplied parts
-    → WasCarriedOut whole
-    → EachSent WasCarriedOut parts
-    → EachSent (SameState whole) parts
-    → EachSent (SameYear whole) parts
-    → EachSent (SameCodes whole) parts
-    → OneBehindTheOther (masterFound whole) parts
-    → joinedDetails parts ≡ detailsSent whole
-    → SameAsWhole whole parts
+-- the premises that can be left out, by their numbers
+abbrev pub wholeCarriedOut : ℕ
+wholeCarriedOut = 1
 
--- the single batch may be refused
-abbrev pub WithoutWholeCarriedOut : Type 0
-WithoutWholeCarriedOut =
-    (whole : Sent) (parts : List Sent)
-    → IsApplied whole
-    → EachSent IsApplied parts
-    → EachSent WasCarriedOut parts
-    → EachSent (SameState whole) parts
-    → EachSent (SameYear whole) parts
-    → EachSent (SameCodes whole) parts
-    → OneBehindTheOther (masterFound whole) parts
-    → joinedDetails parts ≡ detailsSent whole
-    → NoBInTwo parts
-    → SameAsWhole whole parts
+abbrev pub partsCarriedOut : ℕ
+partsCarriedOut = 2
 
--- a batch of the list may be refused
-abbrev pub WithoutPartsCarriedOut : Type 0
-WithoutPartsCarriedOut =
-    (whole : Sent) (parts : List Sent)
-    → IsApplied whole
-    → EachSent IsApplied parts
-    → WasCarriedOut whole
-    → EachSent (SameState whole) parts
-    → EachSent (SameYear whole) parts
-    → EachSent (SameCodes whole) parts
-    → OneBehindTheOther (masterFound whole) parts
-    → joinedDetails parts ≡ detailsSent whole
-    → NoBInTwo parts
-    → SameAsWhole whole parts
+abbrev pub sameState : ℕ
+sameState = 3
 
--- another state may stand in a control record of the list
-abbrev pub WithoutState : Type 0
-WithoutState =
-    (whole : Sent) (parts : List Sent)
-    → IsApplied whole
-    → EachSent IsApplied parts
-    → WasCarriedOut whole
-    → EachSent WasCarriedOut parts
-    → EachSent (SameYear whole) parts
-    → EachSent (SameCodes whole) parts
-    → OneBehindTheOther (masterFound whole) parts
-    → joinedDetails parts ≡ detailsSent whole
-    → NoBInTwo parts
-    → SameAsWhole whole parts
+abbrev pub sameYear : ℕ
+sameYear = 4
 
--- a batch of the list may be applied in another year
-abbrev pub WithoutYear : Type 0
-WithoutYear =
-    (whole : Sent) (parts : List Sent)
-    → IsApplied whole
-    → EachSent IsApplied parts
-    → WasCarriedOut whole
-    → EachSent WasCarriedOut parts
-    → EachSent (SameState whole) parts
-    → EachSent (SameCodes whole) parts
-    → OneBehindTheOther (masterFound whole) parts
-    → joinedDetails parts ≡ detailsSent whole
-    → NoBInTwo parts
-    → SameAsWhole whole parts
+abbrev pub sameCodes : ℕ
+sameCodes = 5
 
--- or with another list of local codes
-abbrev pub WithoutCodes : Type 0
-WithoutCodes =
-    (whole : Sent) (parts : List Sent)
-    → IsApplied whole
-    → EachSent IsApplied parts
-    → WasCarriedOut whole
-    → EachSent WasCarriedOut parts
-    → EachSent (SameState whole) parts
-    → EachSent (SameYear whole) parts
-    → OneBehindTheOther (masterFound whole) parts
-    → joinedDetails parts ≡ detailsSent whole
-    → NoBInTwo parts
-    → SameAsWhole whole parts
+abbrev pub sameMasters : ℕ
+sameMasters = 6
 
--- each batch may start from any master
-abbrev pub WithoutMasters : Type 0
-WithoutMasters =
+abbrev pub proviso : ℕ
+proviso = 7
+
+-- a premise, unless it is the one left out
+abbrev pub KeptIf : Bool → Type 0 → Type 0
+KeptIf true premise = premise
+KeptIf false premise = Unit {0}
+
+abbrev pub Unless : ℕ → ℕ → Type 0 → Type 0
+Unless left number premise = KeptIf (not (eqb left number)) premise
+
+-- `Several` without one of them; without number 0, which none has, it is `Several`
+abbrev pub SeveralWithout : ℕ → Type 0
+SeveralWithout left =
     (whole : Sent) (parts : List Sent)
     → IsApplied whole
     → EachSent IsApplied parts
-    → WasCarriedOut whole
-    → EachSent WasCarriedOut parts
-    → EachSent (SameState whole) parts
-    → EachSent (SameYear whole) parts
-    → EachSent (SameCodes whole) parts
+    → Unless left wholeCarriedOut (WasCarriedOut whole)
+    → Unless left partsCarriedOut (EachSent WasCarriedOut parts)
+    → Unless left sameState (EachSent (SameState whole) parts)
+    → Unless left sameYear (EachSent (SameYear whole) parts)
+    → Unless left sameCodes (EachSent (SameCodes whole) parts)
+    → Unless left sameMasters (OneBehindTheOther (masterFound whole) parts)
     → joinedDetails parts ≡ detailsSent whole
-    → NoBInTwo parts
+    → Unless left proviso (NoBInTwo parts)
     → SameAsWhole whole parts
 
 -- ---- the calls
@@ -216,10 +159,11 @@ amendsNothing = sentTo [] 0 (base M ∷ [])
 -- ---- these are needed
 
 pub record PremisesNeeded : Type 0 where
-  pub proviso : WithoutProviso → ⊥
-  pub whole-carried-out : WithoutWholeCarriedOut → ⊥
-  pub parts-carried-out : WithoutPartsCarriedOut → ⊥
-  pub state : WithoutState → ⊥
-  pub year : WithoutYear → ⊥
-  pub codes : WithoutCodes → ⊥
-  pub masters : WithoutMasters → ⊥
+  pub with-all : Several → SeveralWithout 0
+  pub proviso-needed : SeveralWithout proviso → ⊥
+  pub whole-needed : SeveralWithout wholeCarriedOut → ⊥
+  pub parts-needed : SeveralWithout partsCarriedOut → ⊥
+  pub state-needed : SeveralWithout sameState → ⊥
+  pub year-needed : SeveralWithout sameYear → ⊥
+  pub codes-needed : SeveralWithout sameCodes → ⊥
+  pub masters-needed : SeveralWithout sameMasters → ⊥
