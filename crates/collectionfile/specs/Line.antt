@@ -3,10 +3,10 @@ use Prim.Native.Nat.{ℕ, _+_, _*_, _%_}
 use mathlib.Core.List.{List, _++_}
 use mathlib.Core.Bool.{Bool, not, cond, _&&_, _||_}
 use mathlib.Core.Option.{Option, none, some}
-use lib.ListN.{length, getD}
+use lib.ListN.{length}
 use lib.Dec.{eqb, ltb}
 use Rattle.text.specs.Characters.{within}
-use Rattle.text.specs.Fields.{columns, allDigits, number}
+use Rattle.text.specs.Fields.{column, columns, allDigits, number}
 use Rattle.text.specs.Options.{isNone, orZero}
 use Rattle.collectionfile.specs.Chart04.{lineState, lineSsn, lineCollection, lineAdjustment, lineCaseType}
 
@@ -20,11 +20,11 @@ isLastDigit b = within 0xF0 0xF9 b || within 0xC0 0xC9 b
 
 -- ten digits and a last digit; else bad
 unfoldable pub isAmount : List ℕ → Bool
-isAmount field = eqb (length field) 11 && (allDigits (columns 1 10 field) && isLastDigit (getD field 10 0))
+isAmount field = eqb (length field) 11 && (allDigits (columns 1 10 field) && isLastDigit (column 11 field))
 
 -- its cents: the low half of the last byte is the digit
 unfoldable pub amount : List ℕ → ℕ
-amount field = number (columns 1 10 field) * 10 + getD field 10 0 % 16
+amount field = number (columns 1 10 field) * 10 + column 11 field % 16
 
 -- the cents of an amount field, none if it is bad
 unfoldable pub amountCents : List ℕ → Option ℕ

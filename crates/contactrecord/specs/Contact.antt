@@ -2,10 +2,10 @@
 use Prim.Native.Nat.{ℕ}
 use mathlib.Core.List.{List, [], _∷_}
 use mathlib.Core.Bool.{Bool, true, not, cond, _&&_, _||_}
-use lib.ListN.{length, getD}
+use lib.ListN.{length}
 use lib.Dec.{eqb}
 use Rattle.text.specs.Characters.{space, hyphen, isDigit, A, C, D, F, H, I, L, M, O, P, R, S, letterT, U, Y}
-use Rattle.text.specs.Fields.{columns, isBlank, allDigits, areDigits}
+use Rattle.text.specs.Fields.{column, columns, isBlank, allDigits, areDigits}
 use Rattle.layout.specs.States.{isState}
 use Rattle.contactrecord.specs.ChartA3.{contactState, contactCode, telephone1, extension1, telephone2, extension2, agencyName, contactLine1, contactLine2, contactLine3, contactLine4, contactFiller}
 use Rattle.contactrecord.specs.Wording.{contains, hasRun}
@@ -24,12 +24,12 @@ rightParenthesis = 0x5D
 unfoldable pub isTelephone : List ℕ → Bool
 isTelephone s =
     eqb (length s) 14
-    && (eqb (getD s 0 0) leftParenthesis
+    && (eqb (column 1 s) leftParenthesis
     && (allDigits (columns 2 4 s)
-    && (eqb (getD s 4 0) rightParenthesis
-    && (eqb (getD s 5 0) space
+    && (eqb (column 5 s) rightParenthesis
+    && (eqb (column 6 s) space
     && (allDigits (columns 7 9 s)
-    && (eqb (getD s 9 0) hyphen && allDigits (columns 11 14 s)))))))
+    && (eqb (column 10 s) hyphen && allDigits (columns 11 14 s)))))))
 
 -- digits with only spaces behind; no digit at all is blank
 unfoldable pub isExtension : List ℕ → Bool

@@ -8,7 +8,7 @@ use mathlib.Core.Logic.{_⊎_}
 use lib.Dec.{eqb}
 use lib.ListN.{length, getD}
 use Rattle.text.specs.Characters.{A, N}
-use Rattle.text.specs.Fields.{columns, number, digitField}
+use Rattle.text.specs.Fields.{column, columns, number, digitField}
 use Rattle.layout.specs.Key.{isOwnKey}
 use Rattle.layout.specs.Record.{recordKey}
 
@@ -18,7 +18,7 @@ noRank = 2 ^ 31
 
 -- its rank among them: the SSN's number and the case type, A before N; any other key comes behind them all
 unfoldable pub rankOf : List ℕ → List ℕ → ℕ
-rankOf state key = cond (isOwnKey state key) (number (columns 3 11 key) * 2 + cond (eqb (getD key 11 0) N) 1 0) noRank
+rankOf state key = cond (isOwnKey state key) (number (columns 3 11 key) * 2 + cond (eqb (column 12 key) N) 1 0) noRank
 
 -- the bytes of the key that a rank of the state's sound keys stands for
 unfoldable pub keyOfRank : List ℕ → ℕ → List ℕ

@@ -2,10 +2,10 @@
 use Prim.Native.Nat.{ℕ}
 use mathlib.Core.List.{List}
 use mathlib.Core.Bool.{Bool, not, _&&_, _||_}
-use lib.ListN.{length, getD}
+use lib.ListN.{length}
 use lib.Dec.{eqb}
 use Rattle.text.specs.Characters.{A, N}
-use Rattle.text.specs.Fields.{columns, sameBytes}
+use Rattle.text.specs.Fields.{column, columns, sameBytes}
 use Rattle.layout.specs.States.{isState}
 use Rattle.layout.specs.Ssn.{wrongSsn}
 
@@ -17,7 +17,7 @@ isCaseType b = eqb b A || eqb b N
 unfoldable pub isSoundKey : List ℕ → Bool
 isSoundKey key =
     eqb (length key) 12
-    && (isState (columns 1 2 key) && (not (wrongSsn (columns 3 11 key)) && isCaseType (getD key 11 0)))
+    && (isState (columns 1 2 key) && (not (wrongSsn (columns 3 11 key)) && isCaseType (column 12 key)))
 
 -- a sound key of the submitting state: one free of 01, 02 and 04
 unfoldable pub isOwnKey : List ℕ → List ℕ → Bool

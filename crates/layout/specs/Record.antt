@@ -2,9 +2,9 @@
 use Prim.Native.Nat.{ℕ}
 use mathlib.Core.List.{List, _++_}
 use mathlib.Core.Bool.{Bool, _||_}
-use lib.ListN.{getD}
 use lib.Dec.{eqb}
 use Rattle.text.specs.Characters.{A, B, C, D, L, M, R, S, letterT, Z}
+use Rattle.text.specs.Fields.{column}
 use Rattle.layout.specs.ChartA1.{sentState, ssn, caseType}
 
 -- its key is columns 1–2, 6–14, 74, sound or not
@@ -13,7 +13,7 @@ recordKey rec = sentState rec ++ ssn rec ++ caseType rec
 
 -- column 73 alone decides the type
 abbrev pub typeOf : List ℕ → ℕ
-typeOf rec = getD rec 72 0
+typeOf rec = column 73 rec
 
 abbrev pub isType : ℕ → List ℕ → Bool
 isType t rec = eqb (typeOf rec) t
@@ -26,7 +26,7 @@ isKnownType rec =
 
 -- column 74, the case type, and column 50, the first letter of the first name
 abbrev pub caseTypeOf : List ℕ → ℕ
-caseTypeOf rec = getD rec 73 0
+caseTypeOf rec = column 74 rec
 
 abbrev pub firstInitial : List ℕ → ℕ
-firstInitial rec = getD rec 49 0
+firstInitial rec = column 50 rec

@@ -2,13 +2,17 @@
 use Prim.Native.Nat.{ℕ, zero, suc, _+_, _-_, _*_, _/_, _%_, _^_, _≤_}
 use mathlib.Core.List.{List, [], _∷_, _++_}
 use mathlib.Core.Bool.{Bool, true, false, _&&_, _||_}
-use lib.ListN.{length, take, drop, replicate}
+use lib.ListN.{length, take, drop, replicate, getD}
 use lib.Dec.{eqb}
 use Rattle.text.specs.Characters.{isByte, isDigit, space, zeroDigit}
 
 -- columns first to last of s
 abbrev pub columns : ℕ → ℕ → List ℕ → List ℕ
 columns first last s = take (last + 1 - first) (drop (first - 1) s)
+
+-- the byte in column n
+abbrev pub column : ℕ → List ℕ → ℕ
+column n s = getD s (n - 1) 0
 
 -- s with f in columns first to last
 abbrev pub placed : ℕ → ℕ → List ℕ → List ℕ → List ℕ
