@@ -21,7 +21,7 @@ use Rattle.casemaster.specs.Refusals.{oldMasterRefusal}
 use Rattle.casemaster.specs.Search.{RowPut}
 use Rattle.casemaster.proofs.RefusalsLaws.{old-master-rows}
 use Rattle.casemaster.specs.Row.{withZeroCents}
-use Rattle.addcents.specs.Convert.{convertCall, addedAs, convertRun, convertOutcome, AreCentsAdded}
+use Rattle.addcents.specs.Convert.{ConvertCall, addedAs, convertRun, convertOutcome, AreCentsAdded}
 use Rattle.addcents.specs.Zeroed.{Zeroed}
 use Rattle.addcents.specs.declared.convert.CentsAdded.the-variants.{Done, Refused}
 
@@ -45,22 +45,25 @@ zeroed-next m₀ m after i h z r =
 
 -- ---- the outcome
 
-module _ (master : List ℕ) (rows : ℕ) where
-  pub convert-refused : (n : ℕ) → n ≡ oldMasterRefusal master rows → (n ≡ 0 → ⊥) → AreCentsAdded (convertCall master rows) (addedAs (Refused n) master)
+module _ (limit : ℕ) (master : List ℕ) (rows : ℕ) where
+  abbrev call : ConvertCall
+  call = record { master = master; rows = rows; limit = limit }
+
+  pub convert-refused : (n : ℕ) → n ≡ oldMasterRefusal limit master rows → (n ≡ 0 → ⊥) → AreCentsAdded call (addedAs (Refused n) master)
   unfolding convertOutcome
-  convert-refused n e h = record { is = outcome-refused _ master (convertRun (convertCall master rows)) n e h }
+  convert-refused n e h = record { is = outcome-refused _ master (convertRun call) n e h }
 
-  pub rows-inside : oldMasterRefusal master rows ≡ 0 → rows * 200 ≤ length master
-  rows-inside e = omega (arith, old-master-rows master rows e)
+  pub rows-inside : oldMasterRefusal limit master rows ≡ 0 → rows * 200 ≤ length master
+  rows-inside e = omega (arith, old-master-rows limit master rows e)
 
-  pub convert-done : (after : List ℕ) → oldMasterRefusal master rows ≡ 0 → Zeroed master rows after
-      → AreCentsAdded (convertCall master rows) (addedAs Done after)
+  pub convert-done : (after : List ℕ) → oldMasterRefusal limit master rows ≡ 0 → Zeroed master rows after
+      → AreCentsAdded call (addedAs Done after)
   unfolding convertOutcome
   convert-done after e z =
       let m : after ≡ over (joined (map withZeroCents (rowsOf rows master))) master =
       holds-over 200 master after rows (map withZeroCents (rowsOf rows master)) (record { blocks-are = z .rows-are; rest-kept = z .rest-kept })
       (omega (arith, z .same-length, rows-inside e)) in
-      record { is = rw m (outcome-done _ master (convertRun (convertCall master rows)) e) }
+      record { is = rw m (outcome-done _ master (convertRun call) e) }
 
 -- ---- a row converted
 

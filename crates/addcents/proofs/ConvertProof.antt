@@ -56,12 +56,12 @@ rows-sound rows h s =
 -- ---- a conversion carried out
 
 module _ (c : ConvertCall) (o : ConvertOutcome) (i : AreCentsAdded c o) (t : isCarriedOut (o .answer) ≡ true) where
-  passed : oldMasterRefusal (c .master) (c .rows) ≡ 0
+  passed : oldMasterRefusal (c .limit) (c .master) (c .rows) ≡ 0
   unfolding convertOutcome
   passed = none-holds _ (c .master) (convertRun c) (ap (λ (p : ConvertOutcome). isCarriedOut (p .answer)) (sym (i .is)) ∙ t)
 
   wide-before : All IsWide (oldRows c)
-  wide-before = blocks-wide 200 (c .rows) (c .master) (rows-inside (c .master) (c .rows) passed)
+  wide-before = blocks-wide 200 (c .rows) (c .master) (rows-inside (c .limit) (c .master) (c .rows) passed)
 
   left-are : newRows c o ≡ converted (oldRows c)
   unfolding convertOutcome over
@@ -76,7 +76,7 @@ converts c o i t =
     let w = wide-before c o i t in
     let e = left-are c o i t in
     record {
-      sound = rw e (rows-sound (oldRows c) w (old-master-sound (c .master) (c .rows) (passed c o i t)));
+      sound = rw e (rows-sound (oldRows c) w (old-master-sound (c .limit) (c .master) (c .rows) (passed c o i t)));
       keys = rw e (keys-kept (oldRows c) w);
       dollars = rw e (all-kept rowArrearage rowArrearage dollars-kept (oldRows c) w);
       status = rw e (all-kept rowStatus rowStatus status-kept (oldRows c) w);

@@ -4,6 +4,7 @@ use mathlib.Core.Path.{_≡_}
 use mathlib.Core.List.{List, map}
 use Rattle.answers.specs.Answer.{Answer, refused, done, NoResult, Outcome, Run, outcomeBy}
 use Rattle.text.specs.Blocks.{joined, over}
+use Rattle.layout.specs.Limits.{maxRows}
 use Rattle.casemaster.specs.Row.{withZeroCents}
 use Rattle.casemaster.specs.Master.{rowsOf}
 use Rattle.casemaster.specs.Refusals.{oldMasterRefusal}
@@ -14,9 +15,12 @@ use Rattle.addcents.specs.declared.convert.CentsAdded.the-variants.{Done
 pub record ConvertCall : Type 0 where
   pub master : List ℕ
   pub rows : ℕ
+  -- the most rows, which refusal 3 takes; nothing else does
+  pub limit : ℕ
 
+-- the call, from what is lent, with the limit that the code has
 abbrev pub convertCall : List ℕ → ℕ → ConvertCall
-convertCall master rows = record { master = master; rows = rows }
+convertCall master rows = record { master = master; rows = rows; limit = maxRows }
 
 -- the answer: done, or a refusal's number
 abbrev pub convertAnswer : CentsAdded → Answer NoResult
@@ -35,7 +39,7 @@ abbrev pub convertRun : ConvertCall → Run NoResult (List ℕ)
 convertRun c = record { result = tt; buffers = over (joined (map withZeroCents (rowsOf (c .rows) (c .master)))) (c .master) }
 
 unfoldable pub convertOutcome : ConvertCall → ConvertOutcome
-convertOutcome c = outcomeBy (oldMasterRefusal (c .master) (c .rows)) (c .master) (convertRun c)
+convertOutcome c = outcomeBy (oldMasterRefusal (c .limit) (c .master) (c .rows)) (c .master) (convertRun c)
 
 -- what a call leaves: the promise of `add_cents`
 pub record AreCentsAdded (c : ConvertCall) (o : ConvertOutcome) : Type 0 where

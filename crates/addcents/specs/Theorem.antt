@@ -1,4 +1,4 @@
--- What a conversion that is carried out leaves, read off the master: no sentence of the papers, a consequence. Assumes nothing.
+-- What a conversion that is carried out leaves, read off the master: no sentence of the papers, a consequence. Over any limit. Assumes nothing.
 use Prim.Native.Nat.{ℕ, _*_}
 use mathlib.Core.Path.{_≡_}
 use mathlib.Core.List.{List, map}

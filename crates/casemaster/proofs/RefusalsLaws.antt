@@ -79,14 +79,14 @@ module _ (limit : ℕ) (master : List ℕ) (rows : ℕ) where
   unfolding masterRefusal refusal4
   master-sound e = not-false (areSoundRows (rowsOf rows master)) (not-four limit master rows (not (areSoundRows (rowsOf rows master))) e)
 
-module _ (master : List ℕ) (rows : ℕ) where
-  pub old-master-rows : oldMasterRefusal master rows ≡ 0 → rows ≤ length master / 200
+  -- and so are those without cents
+  pub old-master-rows : oldMasterRefusal limit master rows ≡ 0 → rows ≤ length master / 200
   unfolding oldMasterRefusal
-  old-master-rows e = rows-inside maxRows master rows (not (areSoundOldRows (rowsOf rows master))) e
+  old-master-rows e = rows-inside limit master rows (not (areSoundOldRows (rowsOf rows master))) e
 
-  pub old-master-sound : oldMasterRefusal master rows ≡ 0 → areSoundOldRows (rowsOf rows master) ≡ true
+  pub old-master-sound : oldMasterRefusal limit master rows ≡ 0 → areSoundOldRows (rowsOf rows master) ≡ true
   unfolding oldMasterRefusal
-  old-master-sound e = not-false (areSoundOldRows (rowsOf rows master)) (not-four maxRows master rows (not (areSoundOldRows (rowsOf rows master))) e)
+  old-master-sound e = not-false (areSoundOldRows (rowsOf rows master)) (not-four limit master rows (not (areSoundOldRows (rowsOf rows master))) e)
 
 -- a master of one row, sound or not
 pub one-row : (row : List ℕ) → length row ≡ 200 → masterRefusal maxRows row 1 0 ≡ cond (isSoundRow row) 0 4

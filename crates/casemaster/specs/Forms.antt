@@ -4,7 +4,6 @@ use Prim.Native.Nat.{ℕ}
 use mathlib.Core.List.{List}
 use mathlib.Core.Bool.{Bool, not, _&&_}
 use Rattle.answers.specs.Answer.{refuseIf}
-use Rattle.layout.specs.Limits.{maxRows}
 use Rattle.layout.specs.Key.{isSoundKey}
 use Rattle.casemaster.specs.Row.{rowKey, areFieldsSound, isEndSound, isOldEndSound}
 use Rattle.casemaster.specs.Master.{rowsOf, areSoundBy}
@@ -22,5 +21,5 @@ isSoundIn form row = isSoundKey (rowKey row) && (areFieldsSound row && isEndSoun
 unfoldable pub areSoundIn : Form → List (List ℕ) → Bool
 areSoundIn form rows = areSoundBy (isSoundIn form) rows
 
-unfoldable pub refusalIn : Form → List ℕ → ℕ → ℕ
-refusalIn form master rows = refuseIf (refusal3 maxRows master rows) 3 (refuseIf (not (areSoundIn form (rowsOf rows master))) 4 0)
+unfoldable pub refusalIn : ℕ → Form → List ℕ → ℕ → ℕ
+refusalIn limit form master rows = refuseIf (refusal3 limit master rows) 3 (refuseIf (not (areSoundIn form (rowsOf rows master))) 4 0)

@@ -6,7 +6,6 @@ use mathlib.Core.Bool.{Bool, not, _||_}
 use lib.Dec.{eqb, ltb}
 use lib.ListN.{length}
 use Rattle.answers.specs.Answer.{refuseIf}
-use Rattle.layout.specs.Limits.{maxRows}
 use Rattle.casemaster.specs.Row.{rowWidth}
 use Rattle.casemaster.specs.Master.{rowsOf, areSoundRows, areSoundOldRows}
 
@@ -23,5 +22,5 @@ unfoldable pub masterRefusal : ℕ → List ℕ → ℕ → ℕ → ℕ
 masterRefusal limit master rows behind = refuseIf (refusal3 limit master rows) 3 (refuseIf (refusal4 master rows) 4 behind)
 
 -- over rows without cents
-unfoldable pub oldMasterRefusal : List ℕ → ℕ → ℕ
-oldMasterRefusal master rows = refuseIf (refusal3 maxRows master rows) 3 (refuseIf (not (areSoundOldRows (rowsOf rows master))) 4 0)
+unfoldable pub oldMasterRefusal : ℕ → List ℕ → ℕ → ℕ
+oldMasterRefusal limit master rows = refuseIf (refusal3 limit master rows) 3 (refuseIf (not (areSoundOldRows (rowsOf rows master))) 4 0)

@@ -10,7 +10,7 @@ ghost use Rattle.casemaster.specs.Forms.{refusalIn};
 
 // The number of the first of refusals 3 and 4 that holds, or 0.
 fn refusal_in(master: &[u8], rows: usize, form: Form) -> u64
-    ensures { λ r. ⌜ r ≡ refusalIn form (now (master .entry)) rows ⌝ }
+    ensures { λ r. ⌜ r ≡ refusalIn maxRows form (now (master .entry)) rows ⌝ }
 {
     if master.len() % ROW_WIDTH != 0 {
         return 3;
@@ -37,7 +37,7 @@ pub fn master_refusal(master: &[u8], rows: usize) -> u64
 
 // Over rows without cents.
 pub fn old_master_refusal(master: &[u8], rows: usize) -> u64
-    ensures { λ r. ⌜ r ≡ oldMasterRefusal (now (master .entry)) rows ⌝ }
+    ensures { λ r. ⌜ r ≡ oldMasterRefusal maxRows (now (master .entry)) rows ⌝ }
 {
     refusal_in(master, rows, Form::Old)
 }

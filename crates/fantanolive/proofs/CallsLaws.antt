@@ -4,6 +4,7 @@ use mathlib.Core.Path.{_≡_, ap, _∙_, sym}
 use mathlib.Core.List.{List}
 use Rattle.answers.specs.Answer.{Answer, returned}
 use Rattle.answers.proofs.AnswerLaws.{returned-by}
+use Rattle.layout.specs.Limits.{maxRows}
 use Rattle.batch.specs.Apply.{appliedAs, applyOutcome, IsOutcome}
 use Rattle.lookup.specs.Find.{foundOf, findAnswer}
 use Rattle.reconciliation.specs.Reconcile.{reconciledAs, reconcileOutcome}
@@ -22,15 +23,15 @@ apply-left c master verdicts rejects result answer told o e =
     returned-by (λ (a : Applied). appliedAs a master verdicts rejects) applyNumbers result (applyOutcome c) answer told (o .is) e
 
 pub find-left : (master : List ℕ) (rows : ℕ) (key : List ℕ) (place : ℕ) (answer told : Found)
-    → foundOf answer ≡ findAnswer master rows key → answer ≡ told
+    → foundOf answer ≡ findAnswer maxRows master rows key → answer ≡ told
     → findLeftBy (foundOf told) place ≡ findLeft master rows key place
 unfolding findLeft
 find-left master rows key place answer told o e =
     ap (λ (a : Found). findLeftBy (foundOf a) place) (sym e) ∙ ap (λ (a : Answer ℕ). findLeftBy a place) o
 
 pub reconcile-left : (master : List ℕ) (rows : ℕ) (state date out left : List ℕ) (records : ℕ) (answer told : Reconciled)
-    → reconciledAs answer left ≡ reconcileOutcome master rows state date out → answer ≡ told
+    → reconciledAs answer left ≡ reconcileOutcome maxRows master rows state date out → answer ≡ told
     → returned (λ n. n) records (reconciledAs told left) ≡ reconcileLeft master rows state date out records
 unfolding reconcileLeft
 reconcile-left master rows state date out left records answer told o e =
-    returned-by (λ (a : Reconciled). reconciledAs a left) (λ n. n) records (reconcileOutcome master rows state date out) answer told o e
+    returned-by (λ (a : Reconciled). reconciledAs a left) (λ n. n) records (reconcileOutcome maxRows master rows state date out) answer told o e

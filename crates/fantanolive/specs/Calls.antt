@@ -3,6 +3,7 @@
 use Prim.Native.Nat.{ℕ}
 use mathlib.Core.List.{List, [], _∷_}
 use Rattle.answers.specs.Answer.{Answer, refusalNumber, numbersOf, Returned, returned}
+use Rattle.layout.specs.Limits.{maxRows}
 use Rattle.batch.specs.Apply.{ApplyResult, ApplyBuffers, applyOutcome}
 use Rattle.lookup.specs.Find.{findAnswer}
 use Rattle.reconciliation.specs.Reconcile.{reconcileOutcome}
@@ -29,10 +30,10 @@ abbrev pub findLeftBy : Answer ℕ → ℕ → FindLeft
 findLeftBy answer kept = record { number = refusalNumber answer; place = numbersOf (λ p. p) kept answer }
 
 unfoldable pub findLeft : List ℕ → ℕ → List ℕ → ℕ → FindLeft
-findLeft master rows key place = findLeftBy (findAnswer master rows key) place
+findLeft master rows key place = findLeftBy (findAnswer maxRows master rows key) place
 
 -- ---- fantanolive_reconcile
 
 -- the number of REC records, and every byte of the buffer
 unfoldable pub reconcileLeft : List ℕ → ℕ → List ℕ → List ℕ → List ℕ → ℕ → Returned ℕ (List ℕ)
-reconcileLeft master rows state date out records = returned (λ n. n) records (reconcileOutcome master rows state date out)
+reconcileLeft master rows state date out records = returned (λ n. n) records (reconcileOutcome maxRows master rows state date out)

@@ -12,7 +12,6 @@ use Rattle.answers.proofs.AnswerLaws.{outcome-refused, outcome-done}
 use Rattle.text.specs.Fields.{every}
 use Rattle.text.specs.Blocks.{over}
 use Rattle.text.specs.ByteOrder.{rising}
-use Rattle.layout.specs.Limits.{maxRows}
 use Rattle.layout.specs.Key.{isSoundKey}
 use Rattle.casemaster.specs.Refusals.{masterRefusal}
 use Rattle.casemaster.proofs.RefusalsLaws.{master-passed, master-refused}
@@ -25,27 +24,27 @@ pub keys-told : (keys : List ℕ) → length keys % 12 ≡ 0 → areKeys keys �
 unfolding areKeys
 keys-told keys h = rw (eq-eqb (length keys % 12) 0 h)
 
-module _ (master : List ℕ) (rows : ℕ) (keys places : List ℕ) where
+module _ (limit : ℕ) (master : List ℕ) (rows : ℕ) (keys places : List ℕ) where
   abbrev refusal : ℕ
-  refusal = manyRefusal master rows keys places
+  refusal = manyRefusal limit master rows keys places
 
   abbrev outcome : ManyOutcome
-  outcome = manyOutcome master rows keys places
+  outcome = manyOutcome limit master rows keys places
 
   -- ---- the first refusal that holds
 
-  pub refused-master : (masterRefusal maxRows master rows 0 ≡ 0 → ⊥) → refusal ≡ masterRefusal maxRows master rows 0
+  pub refused-master : (masterRefusal limit master rows 0 ≡ 0 → ⊥) → refusal ≡ masterRefusal limit master rows 0
   unfolding manyRefusal
-  refused-master h = master-refused maxRows master rows h _
+  refused-master h = master-refused limit master rows h _
 
-  module _ (e : masterRefusal maxRows master rows 0 ≡ 0) where
+  module _ (e : masterRefusal limit master rows 0 ≡ 0) where
     pub refused-27 : areKeys keys ≡ false → refusal ≡ 27
     unfolding manyRefusal
-    refused-27 t = master-passed maxRows master rows e _ ∙ rw t
+    refused-27 t = master-passed limit master rows e _ ∙ rw t
 
     pub refused-28 : areKeys keys ≡ true → length places < length keys / 12 → refusal ≡ 28
     unfolding manyRefusal
-    refused-28 t l = master-passed maxRows master rows e _ ∙ rw (t, lt-ltb (length places) (length keys / 12) l)
+    refused-28 t l = master-passed limit master rows e _ ∙ rw (t, lt-ltb (length places) (length keys / 12) l)
 
   -- ---- the outcome
 
@@ -53,10 +52,10 @@ module _ (master : List ℕ) (rows : ℕ) (keys places : List ℕ) where
   unfolding manyOutcome
   many-refused = outcome-refused refusal places (manyRun master rows keys places)
 
-  pub many-master : (number : ℕ) → number ≡ masterRefusal maxRows master rows 0 → (number ≡ 0 → ⊥) → manyAs (Refused number) places ≡ outcome
+  pub many-master : (number : ℕ) → number ≡ masterRefusal limit master rows 0 → (number ≡ 0 → ⊥) → manyAs (Refused number) places ≡ outcome
   many-master number e h = many-refused number (e ∙ sym (refused-master (λ z. h (e ∙ z)))) h
 
-  module _ (e : masterRefusal maxRows master rows 0 ≡ 0) where
+  module _ (e : masterRefusal limit master rows 0 ≡ 0) where
     pub many-27 : areKeys keys ≡ false → manyAs (Refused 27) places ≡ outcome
     many-27 t = many-refused 27 (sym (refused-27 e t)) (λ z. omega arith)
 
@@ -69,7 +68,7 @@ module _ (master : List ℕ) (rows : ℕ) (keys places : List ℕ) where
       unfolding manyOutcome manyRefusal over
       many-done after comparisons l w =
           let k = length keys / 12 in
-          let p : refusal ≡ 0 = master-passed maxRows master rows e _ ∙ rw (t, le-ltb (length places) k l) in
+          let p : refusal ≡ 0 = master-passed limit master rows e _ ∙ rw (t, le-ltb (length places) k l) in
           let a : wholeWalk master rows keys .answers ≡ take k after = ap (λ (z : LookedUp). z .answers) (sym (w .walked)) in
           let n : wholeWalk master rows keys .comparisons ≡ comparisons = ap (λ (z : LookedUp). z .comparisons) (sym (w .walked)) in
           let d : take k after ++ drop k places ≡ after = ap (λ (z : List ℕ). take k after ++ z) (sym (w .rest-kept)) ∙ take-append-drop k after in

@@ -4,7 +4,6 @@ use mathlib.Core.List.{List}
 use mathlib.Core.Bool.{Bool, true, false, not}
 use mathlib.Core.Option.{Option, none, some}
 use Rattle.answers.specs.Answer.{refuseIf, Answer, refused, done, answerBy}
-use Rattle.layout.specs.Limits.{maxRows}
 use Rattle.layout.specs.Key.{isSoundKey}
 use Rattle.casemaster.specs.Master.{rowsOf}
 use Rattle.casemaster.specs.Rows.{placeWith}
@@ -21,10 +20,10 @@ abbrev pub refusal15 : Option ℕ → Bool
 refusal15 none = true
 refusal15 (some p) = false
 
--- refused, in order: 3; 4; 14; 15
-unfoldable pub findRefusal : List ℕ → ℕ → List ℕ → ℕ
-findRefusal master rows key =
-    masterRefusal maxRows master rows (refuseIf (refusal14 key) 14 (refuseIf (refusal15 (placeWith key (rowsOf rows master))) 15 0))
+-- refused, in order: 3; 4; 14; 15; the limit is that of 3, and nothing else takes it
+unfoldable pub findRefusal : ℕ → List ℕ → ℕ → List ℕ → ℕ
+findRefusal limit master rows key =
+    masterRefusal limit master rows (refuseIf (refusal14 key) 14 (refuseIf (refusal15 (placeWith key (rowsOf rows master))) 15 0))
 
 -- what each answer of the call stands for: the place of the key's row, or a refusal's number
 abbrev pub foundOf : Found → Answer ℕ
@@ -37,5 +36,5 @@ placeFound none = 0
 placeFound (some p) = p
 
 -- the place of the key's row, deleted or not, the first being 0; no buffer is lent that can be written
-unfoldable pub findAnswer : List ℕ → ℕ → List ℕ → Answer ℕ
-findAnswer master rows key = answerBy (findRefusal master rows key) (placeFound (placeWith key (rowsOf rows master)))
+unfoldable pub findAnswer : ℕ → List ℕ → ℕ → List ℕ → Answer ℕ
+findAnswer limit master rows key = answerBy (findRefusal limit master rows key) (placeFound (placeWith key (rowsOf rows master)))

@@ -8,7 +8,6 @@ use Rattle.answers.specs.Answer.{refuseIf, Answer, refused, done, Outcome, Run,
 use Rattle.text.specs.Fields.{every}
 use Rattle.text.specs.Blocks.{blocks, over}
 use Rattle.text.specs.ByteOrder.{Order, less, equal, greater, orderOf, rising}
-use Rattle.layout.specs.Limits.{maxRows}
 use Rattle.layout.specs.Key.{isSoundKey}
 use Rattle.casemaster.specs.Row as Row
 use Rattle.casemaster.specs.Master.{rowsOf}
@@ -69,10 +68,11 @@ wholeWalk master rows keys = walk (keysIn keys) 0 (rowsOf rows master)
 
 -- ---- the call
 
--- refused, in order: 3; 4; 27, keys unsound or not strictly rising; 28, an answer list shorter than the keys
-unfoldable pub manyRefusal : List ℕ → ℕ → List ℕ → List ℕ → ℕ
-manyRefusal master rows keys places =
-    masterRefusal maxRows master rows
+-- refused, in order: 3; 4; 27, keys unsound or not strictly rising; 28, an answer list shorter than the keys; the limit is that of 3, and nothing
+-- else takes it
+unfoldable pub manyRefusal : ℕ → List ℕ → ℕ → List ℕ → List ℕ → ℕ
+manyRefusal limit master rows keys places =
+    masterRefusal limit master rows
     (refuseIf (not (areKeys keys)) 27
     (refuseIf (ltb (length places) (length keys / 12)) 28 0))
 
@@ -93,5 +93,5 @@ abbrev pub manyRun : List ℕ → ℕ → List ℕ → List ℕ → Run ℕ (Lis
 manyRun master rows keys places =
     record { result = wholeWalk master rows keys .comparisons; buffers = over (wholeWalk master rows keys .answers) places }
 
-unfoldable pub manyOutcome : List ℕ → ℕ → List ℕ → List ℕ → ManyOutcome
-manyOutcome master rows keys places = outcomeBy (manyRefusal master rows keys places) places (manyRun master rows keys places)
+unfoldable pub manyOutcome : ℕ → List ℕ → ℕ → List ℕ → List ℕ → ManyOutcome
+manyOutcome limit master rows keys places = outcomeBy (manyRefusal limit master rows keys places) places (manyRun master rows keys places)

@@ -4,6 +4,7 @@ use casemaster::search;
 use casemaster::search::Place;
 use layout::key;
 ghost use mathlib.Core.Path.{_≡_};
+ghost use Rattle.layout.specs.Limits.{maxRows};
 ghost use Rattle.lookup.specs.Find.{foundOf, findAnswer};
 
 // The answer of the call: the place of the key's row, or the number of the refusal.
@@ -14,7 +15,7 @@ pub enum Found {
 
 // The place of the row with a key, deleted or not, the first being 0.
 pub fn find(master: &[u8], rows: usize, key: &[u8]) -> Found
-    ensures { λ r. ⌜ foundOf r ≡ findAnswer (now (master .entry)) rows (now (key .entry)) ⌝ }
+    ensures { λ r. ⌜ foundOf r ≡ findAnswer maxRows (now (master .entry)) rows (now (key .entry)) ⌝ }
 {
     let refusal = refusals::master_refusal(master, rows);
     if refusal != 0 {

@@ -14,6 +14,7 @@ ghost use Rattle.text.specs.Fields.{every};
 ghost use Rattle.text.specs.Blocks.{blocks};
 ghost use Rattle.text.specs.ByteOrder.{orderIn, orderOf, rising};
 ghost use Rattle.layout.specs.Key.{isSoundKey};
+ghost use Rattle.layout.specs.Limits.{maxRows};
 ghost use Rattle.lookup.specs.Many.{areKeys, manyAs, manyOutcome};
 ghost use Rattle.lookup.specs.Steps.{HasWalked};
 
@@ -128,7 +129,7 @@ fn walk(m: &[u8], n: usize, keys: &[u8], k: usize, places: &mut [u32]) -> u64
 
 // Looks many cases up in one walk: the place of each key's row, deleted or not, the first being 0, or 4,294,967,295.
 pub fn find_many(master: &[u8], rows: usize, keys: &[u8], places: &mut [u32]) -> FoundMany
-    ensures { λ r. ⌜ manyAs r (now (places .exit)) ≡ manyOutcome (now (master .entry)) rows (now (keys .entry)) (now (places .entry)) ⌝ }
+    ensures { λ r. ⌜ manyAs r (now (places .exit)) ≡ manyOutcome maxRows (now (master .entry)) rows (now (keys .entry)) (now (places .entry)) ⌝ }
 {
     let refusal = refusals::master_refusal(master, rows);
     if refusal != 0 {

@@ -1,4 +1,4 @@
--- The most rows that a master may have take so few pages that the number of each fits its digits. Assumes nothing.
+-- The most rows that a master may have take so few pages that the number of each fits its digits, as `EveryPrinting` asks. Assumes nothing.
 use Prim.Native.Nat.{_^_, _<_}
 use lib.Dec.{lit≤}
 use Rattle.layout.specs.Limits.{maxRows}

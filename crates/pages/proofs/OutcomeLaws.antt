@@ -9,7 +9,6 @@ use Rattle.answers.proofs.AnswerLaws.{outcome-refused, outcome-done}
 use Rattle.text.specs.Blocks.{joined, over, Holds}
 use Rattle.text.proofs.BlocksLaws.{holds-over}
 use Rattle.text.proofs.HoldsLaws.{holds-count}
-use Rattle.layout.specs.Limits.{maxRows}
 use Rattle.casemaster.specs.Master.{rowsOf}
 use Rattle.casemaster.specs.Refusals.{masterRefusal}
 use Rattle.casemaster.proofs.RefusalsLaws.{master-passed, master-refused}
@@ -18,12 +17,12 @@ use Rattle.pages.specs.Steps.{goingOn}
 use Rattle.pages.specs.declared.printing.Printed.the-variants.{Done, Refused}
 use Rattle.pages.proofs.PageLaws.{count-pages, printed-length, turned}
 
-module _ (master : List ℕ) (rows : ℕ) (out : List ℕ) where
+module _ (limit : ℕ) (master : List ℕ) (rows : ℕ) (out : List ℕ) where
   abbrev refusal : ℕ
-  refusal = pagesRefusal master rows out
+  refusal = pagesRefusal limit master rows out
 
   abbrev outcome : PagesOutcome
-  outcome = pagesOutcome master rows out
+  outcome = pagesOutcome limit master rows out
 
   abbrev lines : List (List ℕ)
   lines = caseLines (rowsOf rows master)
@@ -32,15 +31,15 @@ module _ (master : List ℕ) (rows : ℕ) (out : List ℕ) where
   unfolding pagesOutcome
   pages-refused = outcome-refused refusal out (pagesRun master rows out)
 
-  pub pages-master : (number : ℕ) → number ≡ masterRefusal maxRows master rows 0 → (number ≡ 0 → ⊥) → pagesAs (Refused number) out ≡ outcome
+  pub pages-master : (number : ℕ) → number ≡ masterRefusal limit master rows 0 → (number ≡ 0 → ⊥) → pagesAs (Refused number) out ≡ outcome
   unfolding pagesRefusal
-  pages-master number e h = pages-refused number (e ∙ sym (master-refused maxRows master rows (λ z. h (e ∙ z)) _)) h
+  pages-master number e h = pages-refused number (e ∙ sym (master-refused limit master rows (λ z. h (e ∙ z)) _)) h
 
   -- how many lines of every kind there are
   pub room-is : (live : ℕ) → live ≡ length lines → length (goingOn 1 0 lines) ≡ live + 2 * ((live + 57) / 58)
   room-is live e = rw (turned lines .fresh 1, e) (printed-length 1 lines)
 
-  module _ (e : masterRefusal maxRows master rows 0 ≡ 0) (live : ℕ) (c : live ≡ length lines) where
+  module _ (e : masterRefusal limit master rows 0 ≡ 0) (live : ℕ) (c : live ≡ length lines) where
     printed-is : length (printed (rowsOf rows master)) ≡ live + 2 * ((live + 57) / 58)
     printed-is = rw c (printed-length 1 lines)
 
@@ -48,14 +47,14 @@ module _ (master : List ℕ) (rows : ℕ) (out : List ℕ) where
     unfolding pagesRefusal
     pages-31 l =
         let b = lt-ltb (length out) (length (printed (rowsOf rows master)) * 132) (omega (arith, printed-is)) in
-        pages-refused 31 (sym (master-passed maxRows master rows e _ ∙ rw b)) (λ z. omega arith)
+        pages-refused 31 (sym (master-passed limit master rows e _ ∙ rw b)) (λ z. omega arith)
 
     pub pages-done : (after : List ℕ) (k : ℕ) → live + 2 * ((live + 57) / 58) ≤ length out / 132 → length after ≡ length out
         → Holds 132 out after k (goingOn 1 0 lines) → pagesAs (Done ((live + 57) / 58)) after ≡ outcome
     unfolding pagesOutcome pagesRefusal
     pages-done after k l w h =
         let b = le-ltb (length out) (length (printed (rowsOf rows master)) * 132) (omega (arith, printed-is)) in
-        let p : refusal ≡ 0 = master-passed maxRows master rows e _ ∙ rw b in
+        let p : refusal ≡ 0 = master-passed limit master rows e _ ∙ rw b in
         let n : length (pagesOf lines) ≡ (live + 57) / 58 = count-pages (pageCount (length lines)) lines ∙ rw c in
         let t : goingOn 1 0 lines ≡ printed (rowsOf rows master) = turned lines .fresh 1 in
         let a : after ≡ over (joined (printed (rowsOf rows master))) out =

@@ -1,5 +1,5 @@
 -- Of every call that is carried out: the pages are the lines of the live rows cut by 58, so joined they are these lines, and what is
--- read off the buffer is what was printed. Assumes nothing.
+-- read off the buffer is what was printed; the rows are no more than the limit, so that each page number fits its digits. Assumes nothing.
 use Prim.Native.Nat.{ℕ, zero, suc, _+_, _*_, _^_, _≤_, _<_}
 use mathlib.Core.Path.{_≡_, refl, sym, ap, _∙_}
 use mathlib.Core.Bool.{Bool, true, false, cond}
@@ -16,7 +16,6 @@ use Rattle.text.proofs.BlocksLaws.{blocks-get, length-blocks}
 use Rattle.text.proofs.NumberLaws.{number-digits}
 use Rattle.text.proofs.WidthLaws.{All, all-append, all-take, all-drop, blocks-wide, blocks-joined}
 use Rattle.casemaster.specs.Row.{isLive}
-use Rattle.layout.specs.Limits.{maxRows}
 use Rattle.casemaster.specs.Master.{rowsOf}
 use Rattle.casemaster.specs.Refusals.{refusal3, refusal4, masterRefusal}
 use Rattle.casemaster.proofs.RefusalsLaws.{master-rows, master-limit}
@@ -24,7 +23,6 @@ use Rattle.pages.specs.Forms.{pageDigits, caseLine, heading, foot}
 use Rattle.pages.specs.Pages.{caseLines, firstPages, pageCount, pagesOf, page, printedFrom, printed, pagesRefusal, PagesOutcome, pagesRun, pagesOutcome}
 use Rattle.pages.specs.Theorem.{allLines, ArePages, EveryPrinting}
 use Rattle.pages.proofs.LineColumns.{line-columns, heading-columns, foot-columns}
-use Rattle.pages.proofs.LimitLaws.{few-pages}
 use Rattle.pages.proofs.PageLaws.{count-pages, printed-length}
 use Rattle.pages.proofs.CaseLinesLaws.{no-lines, lines-more}
 
@@ -103,7 +101,7 @@ lines-few (row ∷ rows) = rw (lines-more row rows) (go (isLive row) (lines-few 
 
 -- ---- a call that is carried out
 
-module _ (master : List ℕ) (rows : ℕ) (out : List ℕ) (e : masterRefusal maxRows master rows 0 ≡ 0) where
+module _ (limit : ℕ) (few : pageCount limit < 10 ^ pageDigits) (master : List ℕ) (rows : ℕ) (out : List ℕ) (e : masterRefusal limit master rows 0 ≡ 0) where
   abbrev lines : List (List ℕ)
   lines = caseLines (rowsOf rows master)
 
@@ -118,7 +116,7 @@ module _ (master : List ℕ) (rows : ℕ) (out : List ℕ) (e : masterRefusal ma
   unfolding over
   read-back =
       blocks-joined 132 (printed (rowsOf rows master)) (drop (length (joined (printed (rowsOf rows master)))) out)
-      (pages-wide count 1 lines (lines-wide (rowsOf rows master) (blocks-wide 200 rows master (omega (arith, master-rows maxRows master rows e)))))
+      (pages-wide count 1 lines (lines-wide (rowsOf rows master) (blocks-wide 200 rows master (omega (arith, master-rows limit master rows e)))))
 
   numbers : (i : ℕ) → i < count → number (columns 7 (6 + pageDigits) (take 132 (drop (i * 60 * 132) left))) ≡ i + 1
   numbers i h =
@@ -128,7 +126,7 @@ module _ (master : List ℕ) (rows : ℕ) (out : List ℕ) (e : masterRefusal ma
       sym b ∙ ap (λ (z : List (List ℕ)). getD z (i * 60) []) read-back ∙ heading-at count lines 1 i h (omega arith) in
       let z : 1 + i ≡ i + 1 = omega arith in
       let f : i + 1 < 10 ^ pageDigits =
-      omega (arith, few-pages, master-limit maxRows master rows e, lines-few (rowsOf rows master), length-blocks 200 rows master) in
+      omega (arith, few, master-limit limit master rows e, lines-few (rowsOf rows master), length-blocks 200 rows master) in
       rw (a, z) (heading-number (i + 1) f)
 
   are-pages : ArePages (rowsOf rows master) (length (pagesOf lines)) left
@@ -146,9 +144,9 @@ module _ (master : List ℕ) (rows : ℕ) (out : List ℕ) (e : masterRefusal ma
         none-live = λ z. rw z;
       })
 
-not-refused : (master : List ℕ) (rows : ℕ) (out : List ℕ) → pagesRefusal master rows out ≡ 0 → masterRefusal maxRows master rows 0 ≡ 0
+not-refused : (limit : ℕ) (master : List ℕ) (rows : ℕ) (out : List ℕ) → pagesRefusal limit master rows out ≡ 0 → masterRefusal limit master rows 0 ≡ 0
 unfolding pagesRefusal masterRefusal
-not-refused master rows out e = go (refusal3 maxRows master rows) (refusal4 master rows) _ e
+not-refused limit master rows out e = go (refusal3 limit master rows) (refusal4 master rows) _ e
   where
     go : (a b : Bool) (behind : ℕ) → refuseIf a 3 (refuseIf b 4 behind) ≡ 0 → refuseIf a 3 (refuseIf b 4 0) ≡ 0
     go true b behind e = e
@@ -157,7 +155,7 @@ not-refused master rows out e = go (refusal3 maxRows master rows) (refusal4 mast
 
 pub every-printing : EveryPrinting
 unfolding pagesOutcome
-every-printing master rows out o n e d =
-    let k = done-is (pagesRefusal master rows out) out (pagesRun master rows out) n (ap (λ (x : PagesOutcome). x .answer) (sym e) ∙ d) in
+every-printing limit master rows out o n few e d =
+    let k = done-is (pagesRefusal limit master rows out) out (pagesRun master rows out) n (ap (λ (x : PagesOutcome). x .answer) (sym e) ∙ d) in
     let p : o .buffers ≡ over (joined (printed (rowsOf rows master))) out = ap (λ (x : PagesOutcome). x .buffers) e ∙ k .2 in
-    rw (p, ← k .1) (are-pages master rows out (not-refused master rows out (k .0)))
+    rw (p, ← k .1) (are-pages limit few master rows out (not-refused limit master rows out (k .0)))

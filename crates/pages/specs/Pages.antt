@@ -5,7 +5,6 @@ use lib.Dec.{ltb}
 use lib.ListN.{length, take, drop}
 use Rattle.answers.specs.Answer.{refuseIf, Answer, refused, done, Outcome, Run, outcomeBy}
 use Rattle.text.specs.Blocks.{joined, over}
-use Rattle.layout.specs.Limits.{maxRows}
 use Rattle.casemaster.specs.Row.{isLive}
 use Rattle.casemaster.specs.Master.{rowsOf, rowsThat}
 use Rattle.casemaster.specs.Refusals.{masterRefusal}
@@ -47,10 +46,10 @@ printed rows = printedFrom 1 (pagesOf (caseLines rows))
 
 -- ---- the call
 
--- refused, in order: 3; 4; 31, a buffer too short for the pages
-unfoldable pub pagesRefusal : List ℕ → ℕ → List ℕ → ℕ
-pagesRefusal master rows out =
-    masterRefusal maxRows master rows (refuseIf (ltb (length out) (length (printed (rowsOf rows master)) * pageWidth)) 31 0)
+-- refused, in order: 3; 4; 31, a buffer too short for the pages; the limit is that of 3, and nothing else takes it
+unfoldable pub pagesRefusal : ℕ → List ℕ → ℕ → List ℕ → ℕ
+pagesRefusal limit master rows out =
+    masterRefusal limit master rows (refuseIf (ltb (length out) (length (printed (rowsOf rows master)) * pageWidth)) 31 0)
 
 -- the answer: how many pages there are, or a refusal's number
 abbrev pub pagesAnswer : Printed → Answer ℕ
@@ -69,5 +68,5 @@ abbrev pub pagesRun : List ℕ → ℕ → List ℕ → Run ℕ (List ℕ)
 pagesRun master rows out =
     record { result = length (pagesOf (caseLines (rowsOf rows master))); buffers = over (joined (printed (rowsOf rows master))) out }
 
-unfoldable pub pagesOutcome : List ℕ → ℕ → List ℕ → PagesOutcome
-pagesOutcome master rows out = outcomeBy (pagesRefusal master rows out) out (pagesRun master rows out)
+unfoldable pub pagesOutcome : ℕ → List ℕ → ℕ → List ℕ → PagesOutcome
+pagesOutcome limit master rows out = outcomeBy (pagesRefusal limit master rows out) out (pagesRun master rows out)

@@ -1,6 +1,7 @@
 -- Document 02, item 12: joined, the lines of all pages are the live rows, each a single time; the pages are numbered, full but for the last,
--- and none where no row is live. Over whole calls. Assumes nothing.
-use Prim.Native.Nat.{ℕ, suc, _+_, _*_, _≤_, _<_}
+-- and none where no row is live. Over whole calls and any limit; page numbers of six digits ask that the most rows take fewer than 1,000,000
+-- pages. Assumes nothing.
+use Prim.Native.Nat.{ℕ, suc, _+_, _*_, _^_, _≤_, _<_}
 use mathlib.Core.Path.{_≡_}
 use mathlib.Core.List.{List, [], _∷_, _++_}
 use lib.ListN.{length, take, drop, getD}
@@ -9,7 +10,7 @@ use Rattle.text.specs.Blocks.{blocks}
 use Rattle.text.specs.Fields.{columns, number}
 use Rattle.casemaster.specs.Master.{rowsOf}
 use Rattle.pages.specs.Forms.{pageWidth, pageDigits}
-use Rattle.pages.specs.Pages.{caseLines, printedFrom, PagesOutcome, pagesOutcome}
+use Rattle.pages.specs.Pages.{caseLines, pageCount, printedFrom, PagesOutcome, pagesOutcome}
 
 -- the lines of all pages, joined
 unfoldable pub allLines : List (List (List ℕ)) → List (List ℕ)
@@ -34,10 +35,11 @@ pub record ArePages (rows : List (List ℕ)) (n : ℕ) (out : List ℕ) : Type 0
   -- no live rows give none
   pub none-live : caseLines rows ≡ [] → n ≡ 0
 
--- of every call that is carried out
+-- of every call that is carried out; the pages of the most rows must have numbers of six digits
 abbrev pub EveryPrinting : Type 0
 EveryPrinting =
-    (master : List ℕ) (rows : ℕ) (out : List ℕ) (o : PagesOutcome) (n : ℕ)
-    → o ≡ pagesOutcome master rows out
+    (limit : ℕ) (master : List ℕ) (rows : ℕ) (out : List ℕ) (o : PagesOutcome) (n : ℕ)
+    → pageCount limit < 10 ^ pageDigits
+    → o ≡ pagesOutcome limit master rows out
     → o .answer ≡ done n
     → ArePages (rowsOf rows master) n (o .buffers)

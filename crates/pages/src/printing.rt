@@ -12,6 +12,7 @@ ghost use mathlib.Core.List.{[], _∷_, _++_};
 ghost use Prim.Native.Nat.{_+_, _*_, _^_, _≤_, _<_};
 ghost use lib.ListN.{length};
 ghost use Rattle.text.specs.Blocks.{blocks, Holds};
+ghost use Rattle.layout.specs.Limits.{maxRows};
 ghost use Rattle.casemaster.specs.Master.{rowsOf};
 ghost use Rattle.pages.specs.Forms.{foot};
 ghost use Rattle.pages.specs.Pages.{caseLines, pagesAs, pagesOutcome};
@@ -137,7 +138,7 @@ fn print_rows(out: &mut [u8], m: &[u8], n: usize) -> usize
 
 // Prints a master: every live row in key order, 58 lines to a page, or refuses.
 pub fn pages(master: &[u8], rows: usize, out: &mut [u8]) -> Printed
-    ensures { λ r. ⌜ pagesAs r (now (out .exit)) ≡ pagesOutcome (now (master .entry)) rows (now (out .entry)) ⌝ }
+    ensures { λ r. ⌜ pagesAs r (now (out .exit)) ≡ pagesOutcome maxRows (now (master .entry)) rows (now (out .entry)) ⌝ }
 {
     let refusal = refusals::master_refusal(master, rows);
     if refusal != 0 {

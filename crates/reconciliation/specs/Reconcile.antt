@@ -5,7 +5,6 @@ use mathlib.Core.Bool.{Bool, not, cond, _&&_}
 use lib.Dec.{eqb, ltb}
 use lib.ListN.{length, getD}
 use Rattle.answers.specs.Answer.{refuseIf, Answer, refused, done, Outcome, Run, outcomeBy}
-use Rattle.layout.specs.Limits.{maxRows}
 use Rattle.text.specs.Characters.{A, C, E, N, R, letterT}
 use Rattle.text.specs.Fields.{columns, sameBytes, digitField, spaces}
 use Rattle.layout.specs.States.{isState}
@@ -62,10 +61,10 @@ refusal13 date = not (isDate date)
 unfoldable pub refusalOfSpace : List ℕ → List (List ℕ) → List ℕ → Bool
 refusalOfSpace state rows out = ltb (length out) (245 * (length (recRecords state rows) + 1))
 
--- refused, in order: 3; 4; 12; 13; 11
-unfoldable pub reconcileRefusal : List ℕ → ℕ → List ℕ → List ℕ → List ℕ → ℕ
-reconcileRefusal master rows state date out =
-    masterRefusal maxRows master rows
+-- refused, in order: 3; 4; 12; 13; 11; the limit is that of 3, and nothing else takes it
+unfoldable pub reconcileRefusal : ℕ → List ℕ → ℕ → List ℕ → List ℕ → List ℕ → ℕ
+reconcileRefusal limit master rows state date out =
+    masterRefusal limit master rows
     (refuseIf (refusal12 state) 12
     (refuseIf (refusal13 date) 13
     (refuseIf (refusalOfSpace state (rowsOf rows master) out) 11 0)))
@@ -90,6 +89,6 @@ reconcileRun master rows state date out =
       buffers = over (joined (recRecords state (rowsOf rows master)) ++ rctRecord state date (rowsOf rows master)) out;
     }
 
-unfoldable pub reconcileOutcome : List ℕ → ℕ → List ℕ → List ℕ → List ℕ → ReconcileOutcome
-reconcileOutcome master rows state date out =
-    outcomeBy (reconcileRefusal master rows state date out) out (reconcileRun master rows state date out)
+unfoldable pub reconcileOutcome : ℕ → List ℕ → ℕ → List ℕ → List ℕ → List ℕ → ReconcileOutcome
+reconcileOutcome limit master rows state date out =
+    outcomeBy (reconcileRefusal limit master rows state date out) out (reconcileRun master rows state date out)

@@ -19,6 +19,7 @@ ghost use lib.ListN.{length};
 ghost use Rattle.text.specs.Characters;
 ghost use Rattle.text.specs.Fields.{columns, placed, Inside, digitField, spaces};
 ghost use Rattle.text.specs.Blocks.{blocks, Holds};
+ghost use Rattle.layout.specs.Limits.{maxRows};
 ghost use Rattle.casemaster.specs.Master.{rowsOf};
 ghost use Rattle.reconciliation.specs.Parts.{withIdentity, withCase, withEnd};
 ghost use Rattle.reconciliation.specs.Reconcile.{isReported, RCT, recRecord, recRecords, reportedOf, reconciledAs, reconcileOutcome};
@@ -200,7 +201,7 @@ pub fn reconcile(
     out: &mut [u8],
 ) -> Reconciled
     ensures { λ r. ⌜ reconciledAs r (now (out .exit))
-        ≡ reconcileOutcome (now (master .entry)) rows (now (state .entry)) (now (date .entry)) (now (out .entry)) ⌝ }
+        ≡ reconcileOutcome maxRows (now (master .entry)) rows (now (state .entry)) (now (date .entry)) (now (out .entry)) ⌝ }
 {
     let refusal = refusals::master_refusal(master, rows);
     if refusal != 0 {

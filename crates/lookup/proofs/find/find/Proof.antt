@@ -19,13 +19,13 @@ master-refusal-requires : tie.Need-master-refusal-requires
 master-refusal-requires c κs = search needs
 
 returns : tie.Need-returns
-returns c = find-refused (c .before .before .before .before .args .master .now) (c .before .before .before .before .args .rows) (c .before .before .before .before .args .key .now) _ (c .before .master-refusal .ensures) (c .if1 .taken)
+returns c = find-refused maxRows (c .before .before .before .before .args .master .now) (c .before .before .before .before .args .rows) (c .before .before .before .before .args .key .now) _ (c .before .master-refusal .ensures) (c .if1 .taken)
 
 is-sound-key-requires : tie.Need-is-sound-key-requires
 is-sound-key-requires c κs = search needs
 
 returns-2 : tie.Need-returns-2
-returns-2 c = find-unsound (c .before .before .before .before .before .before .args .master .now) (c .before .before .before .before .before .before .args .rows) (c .before .before .before .before .before .before .args .key .now) _ (c .before .before .before .master-refusal .ensures) (c .before .before .if1 .left) (sym (c .before .is-sound-key .ensures) ∙ not-true _ (c .if2 .taken))
+returns-2 c = find-unsound maxRows (c .before .before .before .before .before .before .args .master .now) (c .before .before .before .before .before .before .args .rows) (c .before .before .before .before .before .before .args .key .now) _ (c .before .before .before .master-refusal .ensures) (c .before .before .if1 .left) (sym (c .before .is-sound-key .ensures) ∙ not-true _ (c .if2 .taken))
 
 place-of-requires : tie.Need-place-of-requires
 place-of-requires c κs =
@@ -41,12 +41,12 @@ enum-told c = search needs
 returns-3 : tie.Need-returns-3
 returns-3 c =
     let p = subst (λ (z : Place). IsPlace z (c .before .before .before .before .before .before .before .before .before .before .args .key .now) (rowsOf (c .before .before .before .before .before .before .before .before .before .before .args .rows) (c .before .before .before .before .before .before .before .before .before .before .args .master .now))) (c .before .p .given .1) (c .before .before .before .place-of .ensures) in
-    find-at (c .before .before .before .before .before .before .before .before .before .before .args .master .now) (c .before .before .before .before .before .before .before .before .before .before .args .rows) (c .before .before .before .before .before .before .before .before .before .before .args .key .now) _ (c .before .before .before .before .before .before .before .master-refusal .ensures) (c .before .before .before .before .before .before .if1 .left) (sym (c .before .before .before .before .before .is-sound-key .ensures) ∙ not-false _ (c .before .before .before .before .if2 .left)) _ p
+    find-at maxRows (c .before .before .before .before .before .before .before .before .before .before .args .master .now) (c .before .before .before .before .before .before .before .before .before .before .args .rows) (c .before .before .before .before .before .before .before .before .before .before .args .key .now) _ (c .before .before .before .before .before .before .before .master-refusal .ensures) (c .before .before .before .before .before .before .if1 .left) (sym (c .before .before .before .before .before .is-sound-key .ensures) ∙ not-false _ (c .before .before .before .before .if2 .left)) _ p
 
 returns-4 : tie.Need-returns-4
 returns-4 c =
     let p = subst (λ (z : Place). IsPlace z (c .before .before .before .before .before .before .before .before .before .args .key .now) (rowsOf (c .before .before .before .before .before .before .before .before .before .args .rows) (c .before .before .before .before .before .before .before .before .before .args .master .now))) (c .enum-told .given .1) (c .before .before .place-of .ensures) in
-    find-missing (c .before .before .before .before .before .before .before .before .before .args .master .now) (c .before .before .before .before .before .before .before .before .before .args .rows) (c .before .before .before .before .before .before .before .before .before .args .key .now) _ (c .before .before .before .before .before .before .master-refusal .ensures) (c .before .before .before .before .before .if1 .left) (sym (c .before .before .before .before .is-sound-key .ensures) ∙ not-false _ (c .before .before .before .if2 .left)) (p .missing)
+    find-missing maxRows (c .before .before .before .before .before .before .before .before .before .args .master .now) (c .before .before .before .before .before .before .before .before .before .args .rows) (c .before .before .before .before .before .before .before .before .before .args .key .now) _ (c .before .before .before .before .before .before .master-refusal .ensures) (c .before .before .before .before .before .if1 .left) (sym (c .before .before .before .before .is-sound-key .ensures) ∙ not-false _ (c .before .before .before .if2 .left)) (p .missing)
 
 pub find-spec : {M : Type 1} → statement M
 find-spec =

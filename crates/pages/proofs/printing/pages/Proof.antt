@@ -16,7 +16,7 @@ master-refusal-requires c κs = search needs
 returns : tie.Need-returns
 returns c =
     let a = c .before .before .before .before .args in
-    pages-master (now (a .master)) (a .rows) (a .out .now) _ (c .before .master-refusal .ensures) (c .if1 .taken)
+    pages-master maxRows (now (a .master)) (a .rows) (a .out .now) _ (c .before .master-refusal .ensures) (c .if1 .taken)
 
 count-live-requires : tie.Need-count-live-requires
 count-live-requires c κs =
@@ -41,13 +41,13 @@ add-if2 c =
 returns-2 : tie.Need-returns-2
 returns-2 c =
     let a = c .before .before .before .before .before .before .args in
-    pages-31 (now (a .master)) (a .rows) (a .out .now) (sym (c .before .before .before .master-refusal .ensures) ∙ c .before .before .if1 .left) (c .before .count-live .result) (c .before .count-live .ensures .0) (c .if2 .taken)
+    pages-31 maxRows (now (a .master)) (a .rows) (a .out .now) (sym (c .before .before .before .master-refusal .ensures) ∙ c .before .before .if1 .left) (c .before .count-live .result) (c .before .count-live .ensures .0) (c .if2 .taken)
 
 print-rows-requires : tie.Need-print-rows-requires
 print-rows-requires c κs =
     let a = c .before .before .before .before .before .before .before .args in (
       omega (arith, master-rows maxRows (now (a .master)) (a .rows) (sym (c .before .before .before .before .master-refusal .ensures) ∙ c .before .before .before .if1 .left)),
-      omega (arith, room-is (now (a .master)) (a .rows) (a .out .now) (c .before .before .count-live .result) (c .before .before .count-live .ensures .0), c .before .if2 .left),
+      omega (arith, room-is maxRows (now (a .master)) (a .rows) (a .out .now) (c .before .before .count-live .result) (c .before .before .count-live .ensures .0), c .before .if2 .left),
     )
 
 same-length : tie.Need-same-length
@@ -56,7 +56,7 @@ same-length c = search needs
 returns-3 : tie.Need-returns-3
 returns-3 c =
     let a = c .before .before .before .before .before .before .before .before .before .before .args in
-    pages-done (now (a .master)) (a .rows) (a .out .now) (sym (c .before .before .before .before .before .before .before .master-refusal .ensures) ∙ c .before .before .before .before .before .before .if1 .left) (c .before .before .before .before .before .count-live .result) (c .before .before .before .before .before .count-live .ensures .0) (c .before .before .print-rows .last .0) (c .before .before .print-rows .result) (omega arith) (c .before .before .print-rows .kept .0) (c .before .before .print-rows .ensures)
+    pages-done maxRows (now (a .master)) (a .rows) (a .out .now) (sym (c .before .before .before .before .before .before .before .master-refusal .ensures) ∙ c .before .before .before .before .before .before .if1 .left) (c .before .before .before .before .before .count-live .result) (c .before .before .before .before .before .count-live .ensures .0) (c .before .before .print-rows .last .0) (c .before .before .print-rows .result) (omega arith) (c .before .before .print-rows .kept .0) (c .before .before .print-rows .ensures)
 
 pub pages-spec : {M : Type 1} → statement M
 pages-spec =

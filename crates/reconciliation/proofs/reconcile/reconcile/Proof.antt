@@ -30,7 +30,7 @@ master-refusal-requires c κs = search needs
 returns : tie.Need-returns
 returns c =
     let a = c .before .before .before .before .before .before .args in
-    reconcile-master (a .master .now) (a .rows) (a .state .now) (a .date .now) (a .out .now) (c .before .master-refusal .result) (c .before .master-refusal .ensures) (c .if1 .taken)
+    reconcile-master maxRows (a .master .now) (a .rows) (a .state .now) (a .date .now) (a .out .now) (c .before .master-refusal .result) (c .before .master-refusal .ensures) (c .if1 .taken)
 
 is-state-requires : tie.Need-is-state-requires
 is-state-requires c κs = search needs
@@ -39,7 +39,7 @@ returns-2 : tie.Need-returns-2
 returns-2 c =
     let a = c .before .before .before .before .before .before .before .before .args in
     let e : masterRefusal maxRows (a .master .now) (a .rows) 0 ≡ 0 = sym (c .before .before .before .master-refusal .ensures) ∙ c .before .before .if1 .left in
-    reconcile-12 (a .master .now) (a .rows) (a .state .now) (a .date .now) (a .out .now) e (sym (c .before .is-state .ensures) ∙ not-true _ (c .if2 .taken))
+    reconcile-12 maxRows (a .master .now) (a .rows) (a .state .now) (a .date .now) (a .out .now) e (sym (c .before .is-state .ensures) ∙ not-true _ (c .if2 .taken))
 
 is-date-requires : tie.Need-is-date-requires
 is-date-requires c κs = search needs
@@ -49,7 +49,7 @@ returns-3 c =
     let a = c .before .before .before .before .before .before .before .before .before .before .args in
     let e : masterRefusal maxRows (a .master .now) (a .rows) 0 ≡ 0 = sym (c .before .before .before .before .before .master-refusal .ensures) ∙ c .before .before .before .before .if1 .left in
     let s : isState (a .state .now) ≡ true = sym (c .before .before .before .is-state .ensures) ∙ not-false _ (c .before .before .if2 .left) in
-    reconcile-13 (a .master .now) (a .rows) (a .state .now) (a .date .now) (a .out .now) e s (sym (c .before .is-date .ensures) ∙ not-true _ (c .if3 .taken))
+    reconcile-13 maxRows (a .master .now) (a .rows) (a .state .now) (a .date .now) (a .out .now) e s (sym (c .before .is-date .ensures) ∙ not-true _ (c .if3 .taken))
 
 count-cases-requires : tie.Need-count-cases-requires
 count-cases-requires c κs =
@@ -62,7 +62,7 @@ returns-4 c =
     let e : masterRefusal maxRows (a .master .now) (a .rows) 0 ≡ 0 = sym (c .before .before .before .before .before .before .before .before .master-refusal .ensures) ∙ c .before .before .before .before .before .before .before .if1 .left in
     let s : isState (a .state .now) ≡ true = sym (c .before .before .before .before .before .before .is-state .ensures) ∙ not-false _ (c .before .before .before .before .before .if2 .left) in
     let d : isDate (a .date .now) ≡ true = sym (c .before .before .before .before .is-date .ensures) ∙ not-false _ (c .before .before .before .if3 .left) in
-    reconcile-11 (a .master .now) (a .rows) (a .state .now) (a .date .now) (a .out .now) e s d (omega (arith, c .before .before .count-cases .ensures .0, c .if4 .taken))
+    reconcile-11 maxRows (a .master .now) (a .rows) (a .state .now) (a .date .now) (a .out .now) e s d (omega (arith, c .before .before .count-cases .ensures .0, c .if4 .taken))
 
 put-records-requires : tie.Need-put-records-requires
 put-records-requires c κs =
@@ -105,7 +105,7 @@ returns-5 c =
     let w : length r ≡ 245 = search needs in
     let rows : List (List ℕ) = rowsOf (a .rows) (a .master .now) in
     let l : length (recRecords (a .state .now) rows) < length (a .out .now) / 245 = omega (arith, k .0, c .before .before .before .before .before .before .before .before .before .before .if4 .left) in
-    reconcile-done (a .master .now) (a .rows) (a .state .now) (a .date .now) (a .out .now) e s d (p .result) (c .before .before .copy-in .last .0) l n
+    reconcile-done maxRows (a .master .now) (a .rows) (a .state .now) (a .date .now) (a .out .now) e s d (p .result) (c .before .before .copy-in .last .0) l n
     (c .before .before .copy-in .ensures
     ∙ holds-last 245 r (p .ensures) w (omega (arith, p .kept .0))
     ∙ ap (λ (z : List ℕ). over (joined (recRecords (a .state .now) rows) ++ z) (a .out .now))
