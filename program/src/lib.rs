@@ -14,6 +14,7 @@ mod memory;
 mod nearest;
 mod number;
 mod progress;
+mod quote;
 mod records;
 mod report;
 mod start;

@@ -222,6 +222,10 @@ locked but those of --html and --csv.",
                 "write the names of the columns in place of a batch",
             ),
             optional("--state", "ST", "the state of the control record"),
+            flag(
+                "--as-is",
+                "take values as they stand, also where digits are wanted",
+            ),
             OUT,
             FORCE,
             MODE,
@@ -236,10 +240,16 @@ locked but those of --html and --csv.",
 Makes a batch from FILE, a CSV file in UTF-8: the first line names fields, each
 other line is a detail, with its transaction type in its column. Columns may
 stand in any order and be left out; a short amount gets zeros before it, an SSN
-may have hyphens, \\xNN is a byte that is no character. The control record
-behind them has the totals of the details and the state that is given, or that
-of the first detail. What doesn't fit its field is an error, with line, column
-and value, and nothing is written. `export` of a batch writes such a file.",
+may have hyphens, \\xNN is a byte that is no character. Rows of empty cells are
+skipped, and columns that a reject file alone has. The control record behind the
+details has their totals and the state that is given, or that of the first
+detail.
+
+What doesn't fit its field is an error, with line, column and value, and nothing
+is written. So is what is no number in a column of digits, unless --as-is takes
+it: amounts (whole dollars), SSN, ZIP code, process year, date (CCYYMMDD) and
+local codes. `export` of a batch writes such a file; with --as-is `build` gives
+the same batch whatever stands in it.",
         statuses: WRITES,
         run: commands::build::run,
     },
@@ -266,8 +276,10 @@ and value, and nothing is written. `export` of a batch writes such a file.",
         made: &["--out"],
         help: "\
 Writes the details of BATCH with the control record that they ask for, and says
-what was wrong with the one that was there. A batch without one gets one. A
-record that was lost on the way goes unseen then: know why it was wrong.",
+what was wrong with the one that was there. A batch without one gets one; one
+with control records among its details is refused. It says how many details have
+another state. A record that was lost on the way goes unseen then: know why it
+was wrong.",
         statuses: WRITES,
         run: commands::control::run,
     },

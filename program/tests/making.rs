@@ -33,6 +33,10 @@ fn the_papers_batch() {
         PAPER.replace("\r\n", "\n\n"),
         PAPER.replace("SMITH", "\"SMITH\"").trim_end().to_string(),
         PAPER.replace("obligor_last_name", " Obligor_Last_Name "),
+        PAPER.replace("obligor_last_name", "Obligor Last Name"),
+        // rows and columns that a spreadsheet leaves empty
+        format!(",,\r\n{PAPER},,,,,,\r\n , ,\r\n"),
+        PAPER.replace("\r\n", ",,\r\n"),
     ] {
         folder.write("details.csv", other.as_bytes());
         assert_eq!(folder.run(&with(&BUILD, &["--force"])).status, 0);
@@ -57,21 +61,29 @@ fn wrong_texts() -> Vec<(String, &'static str)> {
         ),
         (
             PAPER.replace("ssn", "number"),
-            "line 1: no field is named 'number'; `fantanolive build --template`",
+            "line 1: no field is named 'number'; `fantanolive build --template --out FILE` writes",
         ),
         (
             PAPER.replace("ssn", "transaction_type"),
             "line 1: two columns are named 'transaction_type'",
         ),
         (
-            PAPER.replace("SMYTH", "SMYTH,X,X"),
-            "line 3: 9 cells, and the first line names 7",
+            PAPER.replace("SMYTH", "SMYTH,,100,X,X"),
+            "line 3: cell 8 is 'X', and the first line has no name there",
         ),
         (
             PAPER.replace("SMYTH", "\"SMYTH"),
             "line 3: quotation marks are not closed",
         ),
-        (String::new(), "has no line of names"),
+        (String::new(), "the file has no line of names"),
+        (
+            PAPER.replace(',', ";"),
+            "the columns seem to be parted by semicolons: save the file with commas",
+        ),
+        (
+            PAPER.lines().skip(1).collect::<Vec<_>>().join("\n"),
+            "line 1 names no field, the first cell being 'A': is the line of names missing",
+        ),
         (
             PAPER.lines().next().expect("a line").to_string(),
             "give the state with --state",
@@ -96,11 +108,120 @@ fn what_is_no_batch_or_no_text() {
     let ran = folder("making-state", &PAPER.replace("OH", "XX")).run(&BUILD);
     assert_eq!(ran.status, 2, "{ran:?}");
     let folder = folder("making-bytes", "");
-    folder.write("details.csv", &[b'a', 0xFF]);
-    assert!(folder
-        .run(&BUILD)
-        .err
-        .contains("is no text in UTF-8: byte 1"));
+    for (bytes, words) in [
+        (&b"a\nb\xFF"[..], "line 2 is no text in UTF-8: byte 3"),
+        (b"\xFF\xFEa\0", "line 1: the file is in UTF-16"),
+    ] {
+        folder.write("details.csv", bytes);
+        let ran = folder.run(&BUILD);
+        assert!(ran.status == 3 && ran.err.contains(words), "{ran:?}");
+    }
+}
+
+/// A CSV file of one detail with a value in a column.
+fn with_value(column: &str, value: &str) -> String {
+    format!("submitting_state_code,case_type_indicator,{column}\nOH,N,\"{value}\"\n")
+}
+
+/// Columns of digits with values that are none, and what is wanted.
+const NO_DIGITS: [(&str, &str, &str); 14] = [
+    ("arrearage_amount", "1,500", "whole dollars, digits only"),
+    ("arrearage_amount", "1500.00", "whole dollars, digits only"),
+    ("arrearage_amount", "-1500", "whole dollars, digits only"),
+    ("arrearage_amount", "(1,500)", "whole dollars, digits only"),
+    ("arrearage_amount", "  50", "whole dollars, digits only"),
+    ("ssn", "12345678", "nine digits"),
+    ("ssn", "123 45 67", "nine digits"),
+    ("local_code", "25", "three digits, or nothing"),
+    ("transfer_local_code", "5", "three digits, or nothing"),
+    ("date_issued", "1/5/2007", "CCYYMMDD"),
+    ("date_issued", "01152007x", "CCYYMMDD"),
+    ("process_year", "07", "four digits"),
+    ("obligor_zip_code", "4321", "five or nine digits"),
+    ("obligor_zip_code", "43215-123", "five or nine digits"),
+];
+
+#[test]
+fn what_is_no_digits() {
+    for (column, value, wanted) in NO_DIGITS {
+        let folder = folder("making-digits", &with_value(column, value));
+        let ran = folder.run(&BUILD);
+        assert_eq!((ran.status, ran.out.as_str()), (3, ""), "{ran:?}");
+        let text = ran.err.replace("\n    ", " ");
+        assert!(
+            text.contains(&format!("line 2, column {column}: ")),
+            "{text}"
+        );
+        assert!(text.contains(wanted), "{text}");
+        let hint = "--as-is takes such values as they stand";
+        assert!(text.contains(hint), "{text}");
+        assert!(!folder.has("made.bin"));
+        // one that is too long for its field is an error then too
+        let ran = folder.run(&with(&BUILD, &["--as-is"]));
+        let is_long = value == "01152007x" && ran.status == 3;
+        assert!(ran.status == 0 || is_long, "{ran:?}");
+    }
+}
+
+#[test]
+fn details_of_no_case_type() {
+    let folder = folder("making-neither", &PAPER.replace("A,N", "A,X"));
+    let ran = folder.run(&BUILD);
+    assert!(
+        ran.out.contains("    of which neither   1\n"),
+        "{}",
+        ran.out
+    );
+    let ran = folder.run(&with(&BUILD, &["--force", "--json"]));
+    assert!(ran.out.contains("\"neither\":1"), "{}", ran.out);
+}
+
+/// A reject file that was exported is built: the columns of a reject record alone are passed over.
+#[test]
+fn rejects_are_built_again() {
+    let folder = folder("making-rejects", "");
+    folder.write("rejects.bin", &paper_rejects());
+    let export = "export rejects rejects.bin --out details.csv --force";
+    assert_eq!(folder.run(&words(export)).status, 0);
+    let ran = folder.run(&BUILD);
+    assert_eq!(ran.status, 0, "{ran:?}");
+    let note = "passed over, since a detail has no such field: rejected_error_codes, ocse_last_name, filler_244_244";
+    let text = ran.out.replace("\n    ", " ");
+    assert!(text.contains(note), "{text}");
+    let built = folder.read("made.bin");
+    assert_eq!(built[..245], paper_batch()[245..490]);
+}
+
+/// No message of build has more of an SSN than its last four digits.
+#[test]
+fn ssns_are_masked_in_errors() {
+    let record = "OH025123456789OH-1           SMITH               JOHN";
+    let texts = [
+        record.to_string(),
+        format!("ssn,{record}\n"),
+        format!("ssn\n{record}\n"),
+        format!("case_id\n{record}\n"),
+        with_value("ssn", "123 45 6789"),
+        with_value("ssn", "123.45.6789"),
+        with_value("ssn", "1234-56789"),
+        with_value("ssn", "123\u{2013}45\u{2013}6789"),
+        with_value("ssn", "123456789x"),
+        with_value("obligor_last_name", "Smith 123/45/6789"),
+        with_value("arrearage_amount", "123-456-789"),
+        format!("ssn\n012345678,{record}\n"),
+    ];
+    for (csv, form) in texts
+        .iter()
+        .flat_map(|text| [(text, "--wait=0"), (text, "--json")])
+    {
+        let folder = folder("making-masked", csv);
+        let ran = folder.run(&with(&BUILD, &[form]));
+        assert_eq!(ran.status, 3, "{csv}: {ran:?}");
+        let told = ran.out + &ran.err;
+        assert!(told.contains("**"), "{told}");
+        let digits: String = told.chars().filter(char::is_ascii_digit).collect();
+        assert!(!digits.contains("56789") && !told.contains("123"), "{told}");
+    }
 }
 
 #[test]
@@ -164,12 +285,11 @@ fn exported_and_built_again() {
         let export = "export batch batch.bin --out details.csv --force";
         let ran = folder.run(&words(export));
         assert_eq!(ran.status, 0, "{ran:?}");
-        assert!(
-            ran.out.contains("left out; `build` makes the same"),
-            "{}",
-            ran.out
-        );
-        let ran = folder.run(&with(&BUILD, &["--force"]));
+        let plain = ran.out.contains("left out; `build` makes the same");
+        let as_is = ran.out.contains("left out; `build --as-is` makes the same");
+        assert!(plain || as_is, "{}", ran.out);
+        let more: &[&str] = if plain { &[] } else { &["--as-is"] };
+        let ran = folder.run(&with(&with(&BUILD, &["--force"]), more));
         assert_eq!(ran.status, 0, "{ran:?}");
         assert!(
             folder.read("made.bin") == folder.read("batch.bin"),
@@ -287,6 +407,51 @@ fn control_records_of_other_files() {
     large[64..72].copy_from_slice(&ebcdic("99999999"));
     let many: Vec<u8> = (0..1100).flat_map(|_| large[..245].to_vec()).collect();
     assert_eq!(run(&many, &[]).status, 3);
+}
+
+#[test]
+fn control_records_and_states() {
+    let folder = folder("making-states", "");
+    let run = |bytes: &[u8], more: &[&str]| {
+        folder.write("batch.bin", bytes);
+        let control = ["control", "batch.bin", "--out", "made.bin", "--force"];
+        folder.run(&with(&control, more))
+    };
+    let ran = run(&paper_batch(), &["--state", "TX"]);
+    assert_eq!(ran.status, 0, "{ran:?}");
+    let heading = "control: the state is changed from 'OH' to 'TX'\n";
+    assert!(ran.out.starts_with(heading), "{}", ran.out);
+    let note = "  2 of 2 details have another state than TX, record 1 the first";
+    assert!(ran.out.contains(note), "{}", ran.out);
+    let mut mixed = paper_batch();
+    mixed[245..247].copy_from_slice(&ebcdic("KY"));
+    let ran = run(&mixed, &["--json"]);
+    let note = "1 of 2 details have another state than OH, record 2 the first";
+    assert!(ran.out.contains(note), "{}", ran.out);
+    let ran = run(
+        &[&paper_batch()[..490], &control(0, 1, 0, 1)].concat(),
+        &["--state", "TX"],
+    );
+    assert!(ran.out.starts_with("control: the control record was wrong"));
+    assert!(ran
+        .out
+        .contains("  the state is changed from 'OH' to 'TX'\n"));
+}
+
+#[test]
+fn control_records_among_the_details() {
+    let folder = folder("making-among", "");
+    let several = [paper_batch(), paper_batch(), paper_batch()].concat();
+    let blank = [paper_batch(), ebcdic(&" ".repeat(245))].concat();
+    let shown = "record 3 looks like a control record: it has CTL in columns 3-5";
+    for (bytes, count) in [(several, "2 control records"), (blank, "1 control record")] {
+        folder.write("batch.bin", &bytes);
+        let ran = folder.run(&["control", "batch.bin", "--out", "made.bin"]);
+        assert_eq!((ran.status, ran.out.as_str()), (3, ""), "{ran:?}");
+        let words = format!("batch.bin: {count} among the details\n  {shown}\n");
+        assert!(ran.err.contains(&words), "{}", ran.err);
+        assert!(!folder.has("made.bin"));
+    }
 }
 
 /// Texts that look like CSV files, or don't.

@@ -1,25 +1,30 @@
 //! build: a batch from a CSV file, with its control record.
 
-use fantanolive::{Refusal, RECORD};
+use fantanolive::{Refusal, Totals, RECORD};
 
 use crate::arguments::Arguments;
-use crate::code_page::{argument, Charset, Decoder};
-use crate::commands::output::print_summary;
+use crate::code_page::argument;
+use crate::commands::output::print_with_notes;
 use crate::commands::records::to_charset;
 use crate::failure::{counted, shown, Failure, Status};
 use crate::files::outputs::{Outputs, Wanted};
 use crate::files::read::{open, unread};
 use crate::progress::Progress;
-use crate::records::columns::{detail, Field, Kind};
+use crate::records::columns::{detail, Kind};
 use crate::records::control_record::batch_of;
-use crate::records::csv_fields::{bytes_of, field_named, name_of};
+use crate::records::csv_details::{Errors, Reader};
+use crate::records::csv_fields::name_of;
 use crate::records::csv_lines::{lines_of, Line};
+use crate::records::csv_text::{other_separator, text_of};
 use crate::report::csv::put_line;
 use crate::report::notes::refused;
 use crate::report::summary::Summary;
 
 /// How many errors are told.
 const MOST: usize = 10;
+
+/// What takes values that are no digits.
+const AS_IS: &str = "--as-is takes such values as they stand, for a batch that is to stay faulty";
 
 pub fn run(arguments: &Arguments, progress: &Progress) -> Result<Status, Failure> {
     let template = arguments.flag("--template");
@@ -40,20 +45,30 @@ pub fn run(arguments: &Arguments, progress: &Progress) -> Result<Status, Failure
         return write_template(arguments, progress, outputs);
     }
     let lines = read_lines(arguments, progress)?;
-    let details = details_of(arguments, &lines)?;
-    let state = state_of(arguments, &details)?;
-    let built = batch_of(&state, &details).map_err(|refusal| not_built(refusal, arguments))?;
-    let (mut batch, totals) = built;
+    let read = Reader::new(arguments.flag("--as-is")).details(&lines);
+    let details = read.map_err(|errors| stopped(arguments, errors))?;
+    let state = state_of(arguments, &details.bytes)?;
+    let built = batch_of(&state, &details.bytes);
+    let (mut batch, totals) = built.map_err(|refusal| not_built(refusal, arguments))?;
     to_charset(&mut batch, arguments.charset())?;
     let staged = vec![outputs.stage_records("--out", progress, &batch, RECORD)?];
+    let records = (details.bytes.len() / RECORD) as u64;
+    let summary = summary_of(records, &totals).placed(outputs.put_in_place(staged)?);
+    print_with_notes(arguments, progress, &summary, &details.notes)
+}
+
+fn summary_of(records: u64, totals: &Totals) -> Summary {
     let summary = Summary::new("build", Status::Done)
-        .number("details", (details.len() / RECORD) as u64)
+        .number("details", records)
         .of_which("TANF", totals.tanf_count)
-        .of_which("Non-TANF", totals.non_tanf_count)
+        .of_which("Non-TANF", totals.non_tanf_count);
+    let summary = match records - totals.tanf_count - totals.non_tanf_count {
+        0 => summary,
+        others => summary.of_which("neither", others),
+    };
+    summary
         .number("TANF dollars", totals.tanf_amount)
         .number("Non-TANF dollars", totals.non_tanf_amount)
-        .placed(outputs.put_in_place(staged)?);
-    print_summary(arguments, progress, &summary)
 }
 
 /// Writes the names of the columns that people fill.
@@ -70,7 +85,7 @@ fn write_template(
     let summary = Summary::new("build", Status::Done)
         .number("columns", names.len() as u64)
         .placed(outputs.put_in_place(vec![staged])?);
-    print_summary(arguments, progress, &summary)
+    print_with_notes(arguments, progress, &summary, &[])
 }
 
 fn read_lines(arguments: &Arguments, progress: &Progress) -> Result<Vec<Line>, Failure> {
@@ -80,11 +95,12 @@ fn read_lines(arguments: &Arguments, progress: &Progress) -> Result<Vec<Line>, F
     let mut bytes = Vec::new();
     let mut file = open(path).map_err(failed)?;
     std::io::Read::read_to_end(&mut file, &mut bytes).map_err(failed)?;
-    let text = String::from_utf8(bytes).map_err(|error| {
-        let place = error.utf8_error().valid_up_to();
-        let what = format!("is no text in UTF-8: byte {place}");
-        Failure::file(path, what)
-    })?;
+    let text = text_of(bytes).map_err(|what| Failure::file(path, what))?;
+    if let Some(words) = other_separator(&text) {
+        let what =
+            format!("the columns seem to be parted by {words}: save the file with commas, as CSV");
+        return Err(Failure::file(path, what));
+    }
     lines_of(&text).map_err(|line| {
         let what =
             format!("line {line}: quotation marks are not closed, or something stands behind them");
@@ -92,74 +108,20 @@ fn read_lines(arguments: &Arguments, progress: &Progress) -> Result<Vec<Line>, F
     })
 }
 
-/// What is wrong with the file as a whole or in its lines; nothing is written.
-fn stopped(arguments: &Arguments, mut notes: Vec<String>) -> Failure {
-    let errors = notes.len() as u64;
+/// What is wrong in the lines of the file; nothing is written.
+fn stopped(arguments: &Arguments, errors: Errors) -> Failure {
+    let mut notes = errors.list;
+    let count = notes.len() as u64;
     if notes.len() > MOST {
         notes.truncate(MOST);
-        notes.push(format!("and {} more", errors - MOST as u64));
+        notes.push(format!("and {} more", count - MOST as u64));
+    }
+    if errors.of_digits {
+        notes.push(AS_IS.to_string());
     }
     Failure::Stopped {
-        message: format!("{}: {}", shown(arguments.path(0)), counted(errors, "error")),
+        message: format!("{}: {}", shown(arguments.path(0)), counted(count, "error")),
         notes,
-    }
-}
-
-/// The fields of the columns by the first line.
-fn columns_of(arguments: &Arguments, first: &Line) -> Result<Vec<&'static Field>, Failure> {
-    let mut fields: Vec<&'static Field> = Vec::new();
-    let mut notes = Vec::new();
-    for name in &first.cells {
-        match field_named(detail::FIELDS, name) {
-            Some(field) if fields.contains(&field) => {
-                notes.push(format!("line {}: two columns are named '{name}'", first.number));
-            }
-            Some(field) => fields.push(field),
-            None => notes.push(format!(
-                "line {}: no field is named '{name}'; `fantanolive build --template` writes the names",
-                first.number
-            )),
-        }
-    }
-    match notes.is_empty() {
-        true => Ok(fields),
-        false => Err(stopped(arguments, notes)),
-    }
-}
-
-/// The details that the lines give.
-fn details_of(arguments: &Arguments, lines: &[Line]) -> Result<Vec<u8>, Failure> {
-    let Some((first, lines)) = lines.split_first() else {
-        return Err(Failure::file(arguments.path(0), "has no line of names"));
-    };
-    let fields = columns_of(arguments, first)?;
-    let decoder = Decoder::new(Charset::Ebcdic);
-    let mut details = Vec::with_capacity(lines.len() * RECORD);
-    let mut notes = Vec::new();
-    for line in lines {
-        let number = line.number;
-        if line.cells.len() > fields.len() {
-            let (cells, columns) = (line.cells.len(), fields.len());
-            notes.push(format!(
-                "line {number}: {cells} cells, and the first line names {columns}"
-            ));
-            continue;
-        }
-        let mut record = argument(&[b' '; RECORD]);
-        for (field, cell) in fields.iter().zip(&line.cells) {
-            match bytes_of(&decoder, field, cell) {
-                Ok(bytes) => field.set(&mut record, &bytes),
-                Err(wrong) => {
-                    let name = name_of(field);
-                    notes.push(format!("line {number}, column {name}: '{cell}' {wrong}"));
-                }
-            }
-        }
-        details.extend(record);
-    }
-    match notes.is_empty() {
-        true => Ok(details),
-        false => Err(stopped(arguments, notes)),
     }
 }
 

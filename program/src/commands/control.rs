@@ -4,20 +4,23 @@ use fantanolive::{totals, Refusal, RECORD};
 
 use crate::arguments::Arguments;
 use crate::code_page::{argument, convert, Charset};
-use crate::commands::output::print;
-use crate::failure::{Failure, Status};
+use crate::commands::output::print_with_notes;
+use crate::failure::{counted, grouped, Failure, Status};
 use crate::files::length;
 use crate::files::outputs::{Outputs, Wanted};
 use crate::files::read::{read, Input};
 use crate::progress::Progress;
+use crate::records::among_details::{control_records, of_other_states};
 use crate::records::columns::control;
 use crate::records::control_record::{control_record, fields_of, refusal_of};
 use crate::records::field::{Form, Placeholder};
 use crate::records::kinds::BATCH;
 use crate::report::batch_notes::of_batch;
 use crate::report::notes::refused;
-use crate::report::screen::Style;
 use crate::report::summary::Summary;
+
+/// How many control records among the details are listed.
+const MOST: usize = 10;
 
 pub fn run(arguments: &Arguments, progress: &Progress) -> Result<Status, Failure> {
     let charset = arguments.charset();
@@ -32,42 +35,63 @@ pub fn run(arguments: &Arguments, progress: &Progress) -> Result<Status, Failure
     if !notes.is_empty() {
         return Err(refused(Refusal::WrongBatch, notes));
     }
-    let (wrong, notes) = what_is_wrong(&batch);
-    let summary = put_right(arguments, &mut batch)?.verdict(wrong);
+    let form = Form::new(Charset::Ebcdic, Placeholder::Dot, false);
+    let is_marked = |last: &[u8]| BATCH.marked(last, &form).is_some();
+    let has_one = batch.last().is_some_and(is_marked);
+    see_no_others(&batch, has_one)?;
+    let state = state_of(arguments, &batch, has_one)?;
+    let (wrong, notes) = what_is_wrong(&batch, has_one, &state, &form);
+    let summary = put_right(&mut batch, has_one, &state, &form)?.verdict(wrong);
     if charset.is_ascii() {
         // the batch came from ASCII, and a control record is text
         let _ = convert(&mut batch.bytes, charset);
     }
     let staged = vec![outputs.stage_records("--out", progress, &batch.bytes, RECORD)?];
     let summary = summary.placed(outputs.put_in_place(staged)?);
-    print(
-        arguments,
-        progress,
-        &summary,
-        |screen| {
-            let mut notes = notes.iter();
-            notes.try_for_each(|note| screen.wrapped(Style::Plain, "  ", note, 4))
-        },
-        |json| {
-            json.name("notes")?;
-            json.begin_array()?;
-            notes.iter().try_for_each(|note| json.text(note))?;
-            json.end_array()
-        },
-    )
+    print_with_notes(arguments, progress, &summary, &notes)
+}
+
+/// The details, without the control record that is there.
+fn details_of(batch: &Input, has_one: bool) -> &[u8] {
+    let records = batch.records() - usize::from(has_one);
+    &batch.bytes[..records * RECORD]
+}
+
+/// Sees that no control record stands among the details: several batches may stand one behind the other.
+fn see_no_others(batch: &Input, has_one: bool) -> Result<(), Failure> {
+    let others = control_records(details_of(batch, has_one));
+    if others.is_empty() {
+        return Ok(());
+    }
+    let note = |number: &usize| {
+        let number = grouped(*number as u64);
+        format!("record {number} looks like a control record: it has CTL in columns 3-5")
+    };
+    let mut notes: Vec<String> = others.iter().take(MOST).map(note).collect();
+    if others.len() > MOST {
+        notes.push(format!("and {} more", others.len() - MOST));
+    }
+    let next = "take it out, or give each batch a file of its own and `fantanolive merge` them";
+    notes.push(next.to_string());
+    let count = counted(others.len() as u64, "control record");
+    Err(Failure::Stopped {
+        message: format!("{}: {count} among the details", batch.name()),
+        notes,
+    })
 }
 
 /// Gives a batch the control record that its details ask for, in the place of the one that is there or behind them.
-fn put_right(arguments: &Arguments, batch: &mut Input) -> Result<Summary, Failure> {
-    let form = Form::new(Charset::Ebcdic, Placeholder::Dot, false);
-    let is_marked = |last: &[u8]| BATCH.marked(last, &form).is_some();
-    let has_one = batch.last().is_some_and(is_marked);
-    let state = state_of(arguments, batch, has_one)?;
+fn put_right(
+    batch: &mut Input,
+    has_one: bool,
+    state: &[u8],
+    form: &Form,
+) -> Result<Summary, Failure> {
     if !has_one {
         batch.bytes.extend(argument(&[b' '; RECORD]));
     }
     let totals = totals(&batch.bytes).map_err(|refusal| refused(refusal, Vec::new()))?;
-    let record = control_record(&state, &totals).ok_or_else(|| {
+    let record = control_record(state, &totals).ok_or_else(|| {
         let what = "the amounts add up to more than eleven digits: cut the batch first";
         Failure::file(&batch.path, what)
     })?;
@@ -85,15 +109,31 @@ fn put_right(arguments: &Arguments, batch: &mut Input) -> Result<Summary, Failur
     Ok(summary)
 }
 
-/// What the library says of the batch as it is, and what is known of it.
-fn what_is_wrong(batch: &Input) -> (String, Vec<String>) {
-    match refusal_of(&batch.bytes) {
-        None => ("the control record was right".to_string(), Vec::new()),
-        Some(refusal) => (
-            format!("the control record was wrong: {}", refusal.text().wrong),
-            of_batch(refusal, batch),
-        ),
+/// What the library says of the batch as it is, what becomes of its state, and what is known of it.
+fn what_is_wrong(batch: &Input, has_one: bool, state: &[u8], form: &Form) -> (String, Vec<String>) {
+    let new = form.field(&control::STATE, state);
+    let last = batch.last().filter(|_| has_one);
+    let old = last.map(|last| form.field(&control::STATE, last));
+    let changed = old.filter(|old| *old != new);
+    let changed = changed.map(|old| format!("the state is changed from '{old}' to '{new}'"));
+    let (verdict, mut notes) = match (refusal_of(&batch.bytes), changed) {
+        (None, None) => ("the control record was right".to_string(), Vec::new()),
+        (None, Some(changed)) => (changed, Vec::new()),
+        (Some(refusal), changed) => {
+            let mut notes = of_batch(refusal, batch);
+            notes.extend(changed);
+            let wrong = refusal.text().wrong;
+            (format!("the control record was wrong: {wrong}"), notes)
+        }
+    };
+    if let Some((count, first)) = of_other_states(details_of(batch, has_one), state) {
+        let all = counted((batch.records() - usize::from(has_one)) as u64, "detail");
+        let (count, first) = (grouped(count as u64), grouped(first as u64));
+        notes.push(format!(
+            "{count} of {all} have another state than {new}, record {first} the first: `fantanolive check` says what becomes of them"
+        ));
     }
+    (verdict, notes)
 }
 
 /// The state that is given, that of the control record, or that of the first detail.

@@ -11,7 +11,7 @@ use crate::mask::masked;
 use crate::progress::Progress;
 use crate::records::field::{Form, Placeholder};
 use crate::report::json::Json;
-use crate::report::screen::{printable, report_output, Output, Screen};
+use crate::report::screen::{printable, report_output, Output, Screen, Style};
 use crate::report::summary::Summary;
 
 /// Prints a summary and what goes with it, as text or as members of one JSON object; with --quiet the text is the summary's
@@ -46,6 +46,30 @@ pub fn print_summary(
     summary: &Summary,
 ) -> Result<Status, Failure> {
     print(arguments, progress, summary, |_| Ok(()), |_| Ok(()))
+}
+
+/// Prints a summary and notes.
+pub fn print_with_notes(
+    arguments: &Arguments,
+    progress: &Progress,
+    summary: &Summary,
+    notes: &[String],
+) -> Result<Status, Failure> {
+    print(
+        arguments,
+        progress,
+        summary,
+        |screen| {
+            let mut notes = notes.iter();
+            notes.try_for_each(|note| screen.wrapped(Style::Plain, "  ", note, 4))
+        },
+        |json| {
+            json.name("notes")?;
+            json.begin_array()?;
+            notes.iter().try_for_each(|note| json.text(note))?;
+            json.end_array()
+        },
+    )
 }
 
 /// How fields are written: SSNs whole with --full, other bytes than characters in the way of text or JSON.

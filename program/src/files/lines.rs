@@ -1,5 +1,5 @@
 //! Files of lines: ASCII with a line feed behind each record, or a carriage return and a line feed; the last may lack it. A line
-//! that is shorter than a record gets spaces.
+//! that is shorter than a record gets spaces; empty lines at the end are none.
 
 use crate::failure::{grouped, Failure};
 use crate::files::read::Input;
@@ -18,7 +18,7 @@ pub fn records_of(mut input: Input) -> Result<Input, Failure> {
     }
     let mut records = Vec::with_capacity(text.len());
     let mut lines: Vec<&[u8]> = text.split(|&byte| byte == b'\n').collect();
-    if lines.last().is_some_and(|last| last.is_empty()) {
+    while matches!(lines.last(), Some(&b"" | &b"\r")) {
         lines.pop();
     }
     let has_no_ends = lines.len() == 1;

@@ -7,19 +7,24 @@ use super::columns::{detail, Field, Kind, Layout};
 use super::field::Form;
 use crate::code_page::{argument, Decoder};
 
+/// A name in the form of those of columns.
+fn in_form(name: &str) -> String {
+    let name = name.trim().to_lowercase();
+    name.replace("(s)", "s").replace([' ', '-'], "_")
+}
+
 /// The name of a field's column: `obligor_last_name`, with its columns for a filler.
 pub fn name_of(field: &Field) -> String {
-    let name = field.name.to_lowercase();
-    let name = name.replace("(s)", "s").replace([' ', '-'], "_");
+    let name = in_form(field.name);
     match field.kind {
         Kind::Filler => format!("{name}_{}_{}", field.first, field.last),
         _ => name,
     }
 }
 
-/// The field of a column.
+/// The field of a column, by its name as `export` writes it or as `show` does.
 pub fn field_named<'a>(fields: &'a [Field], name: &str) -> Option<&'a Field> {
-    let name = name.trim().to_lowercase();
+    let name = in_form(name);
     fields.iter().find(|field| name_of(field) == name)
 }
 
@@ -94,7 +99,7 @@ pub fn bytes_of(decoder: &Decoder, field: &Field, cell: &str) -> Result<Vec<u8>,
 }
 
 /// An SSN of the form 123-45-6789 without its hyphens; it would not fit with them.
-fn plain_ssn<'a>(field: &Field, cell: &'a str) -> Cow<'a, str> {
+pub fn plain_ssn<'a>(field: &Field, cell: &'a str) -> Cow<'a, str> {
     let bytes = cell.as_bytes();
     let has_hyphens = bytes.len() == 11 && bytes[3] == b'-' && bytes[6] == b'-';
     match field.kind == Kind::Ssn && has_hyphens {
@@ -128,6 +133,11 @@ mod tests {
         assert_eq!(name_of(&detail::EXCLUSIONS), "exclusion_indicators");
         assert_eq!(name_of(&detail::FILLER), "filler_228_244");
         assert_eq!(field_named(detail::FIELDS, " SSN "), Some(&detail::SSN));
+        for name in ["Obligor Last Name", "OBLIGOR-LAST_NAME"] {
+            assert_eq!(field_named(detail::FIELDS, name), Some(&detail::LAST_NAME));
+        }
+        let exclusions = field_named(detail::FIELDS, "Exclusion Indicator(s)");
+        assert_eq!(exclusions, Some(&detail::EXCLUSIONS));
         assert_eq!(field_named(detail::FIELDS, "name"), None);
     }
 

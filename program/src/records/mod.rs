@@ -1,6 +1,7 @@
 //! Records: the columns of each kind, the kinds of files, and fields as text.
 
 pub mod address_faults;
+pub mod among_details;
 pub mod amounts;
 pub mod case_change;
 pub mod code_fields;
@@ -8,8 +9,12 @@ pub mod columns;
 pub mod compared;
 pub mod contact_faults;
 pub mod control_record;
+pub mod csv_columns;
+pub mod csv_details;
+pub mod csv_digits;
 pub mod csv_fields;
 pub mod csv_lines;
+pub mod csv_text;
 pub mod cuts;
 pub mod exclusion_words;
 pub mod field;
