@@ -250,15 +250,40 @@ fn take_option(
         (None, None) => OsString::new(),
         (None, Some(_)) => return Err(arguments.wrong(format!("{name} takes no value"))),
         (Some(_), Some(value)) => OsString::from(value),
-        (Some(value), None) => rest
-            .next()
-            .ok_or_else(|| arguments.wrong(format!("{name} wants a value: {name} {value}")))?,
+        (Some(value), None) => value_behind(arguments, name, value, rest.next())?,
     };
     if arguments.value(option.name).is_some() {
         return Err(arguments.wrong(format!("{name} is given twice")));
     }
     arguments.options.push((option.name, value));
     Ok(())
+}
+
+/// The value that stands behind an option. What begins as options do is none: the value was forgotten.
+fn value_behind(
+    arguments: &Arguments,
+    name: &str,
+    value: &str,
+    given: Option<OsString>,
+) -> Result<OsString, Failure> {
+    let Some(given) = given else {
+        return Err(arguments.wrong(format!("{name} wants a value: {name} {value}")));
+    };
+    if !given.as_bytes().starts_with(b"--") {
+        return Ok(given);
+    }
+    let wanted = match value {
+        "FILE" | "PREFIX" => "a file's name".to_string(),
+        value => format!("a value, {name} {value}"),
+    };
+    let given = given.to_string_lossy();
+    let option = given.split('=').next().unwrap_or_default();
+    Err(arguments.wrong(match arguments.command.option(option) {
+        Some(_) => format!("{name} wants {wanted}, and {option} is an option"),
+        None => {
+            format!("{name} wants {wanted}; one that begins with -- is given as {name}={given}")
+        }
+    }))
 }
 
 /// Sees that every operand and every option that is needed is there.

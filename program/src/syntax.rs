@@ -97,7 +97,7 @@ const MODE: Opt = optional(
 const WAIT: Opt = optional(
     "--wait",
     "SECONDS",
-    "wait so long while another run is at work",
+    "if another run holds the file, wait up to SECONDS for it",
 );
 const DRY_RUN: Opt = flag("--dry-run", "say what would be done, and change nothing");
 const LIMIT: Opt = optional("--limit", "N", "list at most N records in place of ten");
@@ -312,7 +312,8 @@ other, with the same list and year, the parts leave the rows and give the
 verdicts that BATCH does where all are carried out. So that this holds, all
 records of a key that has a B go into one part: --at is refused elsewhere, with
 the keys that stop it, and --records cuts earlier. BATCH must have a control
-record that is right. There are at most 999 parts.",
+record that is right. There are at most 999 parts. Files of an earlier run with
+higher numbers stop it; with --force they stay, and are named.",
         statuses: WRITES,
         run: commands::split::run,
     },
@@ -325,7 +326,7 @@ record that is right. There are at most 999 parts.",
             OUT,
             flag(
                 "--anyway",
-                "merge although a key with a B is in several files",
+                "merge a batch twice, or a key with a B in several files",
             ),
             FORCE,
             MODE,
@@ -342,7 +343,7 @@ Writes one batch: the details of FIRST, those of SECOND and so on, and a control
 record with the sums of their totals. Applied, it leaves the rows and gives the
 verdicts that the batches give one behind the other, with the same list and
 year, where all are carried out and no key with a B has records in two of them.
-Where one has, nothing is written without --anyway.",
+Where one has, or a batch is given twice, nothing is written without --anyway.",
         statuses: WRITES,
         run: commands::merge::run,
     },
@@ -538,13 +539,16 @@ Writes a REC record for each live row of the state, and the RCT record.",
         help: "\
 Compares RECEIVED, a reconciliation file, with the one that MASTER gives for the
 state, by key: cases only here, cases only there, and fields that differ. The
-two fields that the federal side alone fills (80 and 81) are not compared.
+two fields that the federal side alone fills (80 and 81) are not compared. The
+counts and the state of RECEIVED's RCT record are held against its records.
 
 With --records it writes a batch of C, L, R and M records, with its control
 record, that leads the other side's copies to MASTER: amounts in whole dollars,
-and an M of zero for a case that MASTER has as deleted. Names, notice dates,
-cases that are only here and those that MASTER never had are left to you.
-Status 1 means that a case is not the same.",
+and an M of zero for a case that MASTER has as deleted. It is for the federal
+side, and not to be applied to MASTER. Names, notice dates, cases that are only
+here and those that MASTER never had are left to you, and without --locals those
+that need an L record. Status 1 means that a case is not the same, or RECEIVED
+not what it says of itself.",
         statuses: WRITES_WITH_REJECTS,
         run: commands::compare::run,
     },
@@ -609,7 +613,7 @@ posted to MASTER before is not posted again without --again.",
     },
     Command {
         name: "add-cents",
-        purpose: "give a master from before the cents 00 cents, once",
+        purpose: "add 00 cents to an old master whose rows have none, once",
         operands: &["MASTER"],
         kept: &["MASTER"],
         options: &[WAIT, JSON],

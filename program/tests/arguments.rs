@@ -74,6 +74,22 @@ fn arguments_of_apply() {
         ("apply m b", "--locals FILE is missing"),
         ("apply m b c", "'c' is one argument too many"),
         ("apply m b --year", "--year wants a value: --year YYYY"),
+        (
+            "apply m b --locals --lines",
+            "--locals wants a file's name, and --lines is an option",
+        ),
+        (
+            "apply m b --locals --mode=640",
+            "--locals wants a file's name, and --mode is an option",
+        ),
+        (
+            "apply m b --year --all",
+            "--year wants a value, --year YYYY, and --all is an option",
+        ),
+        (
+            "apply m b --locals --codes",
+            "one that begins with -- is given as --locals=--codes",
+        ),
     ] {
         wrong(&words(arguments), message, of_apply);
     }

@@ -21,8 +21,10 @@ fn rec(ssn: &str, case_type: &str, name: [&str; 2], amount: &str) -> Vec<u8> {
     ])
 }
 
-fn rct(records: usize) -> Vec<u8> {
-    let counts = format!("RCTOH{:09}{records:09}{records:09}20071231", 0);
+/// The RCT record of so many TANF and Non-TANF cases.
+fn rct(tanf: usize, non_tanf: usize) -> Vec<u8> {
+    let all = tanf + non_tanf;
+    let counts = format!("RCTOH{tanf:09}{non_tanf:09}{all:09}20071231");
     record(&[(1, &counts)])
 }
 
@@ -33,7 +35,7 @@ fn folder(name: &str) -> Folder {
     let received = [
         rec("555555555", "A", ["DOE", "JANE"], "00000040"),
         rec("123456789", "N", ["SMITH", "JOHN"], "00000030"),
-        rct(2),
+        rct(1, 1),
     ];
     folder.write("received.bin", &received.concat());
     folder
@@ -66,7 +68,10 @@ fn cases_here_and_there() {
 #[test]
 fn names_are_the_masters() {
     let folder = folder("compare-names");
-    let received = [rec("123456789", "N", ["SMYTH", "JOHN"], "00000025"), rct(1)];
+    let received = [
+        rec("123456789", "N", ["SMYTH", "JOHN"], "00000025"),
+        rct(0, 1),
+    ];
     folder.write("received.bin", &received.concat());
     let ran = folder.run(&COMPARE);
     let shown =
@@ -212,9 +217,84 @@ fn files_that_are_none() {
         assert_eq!((ran.status, ran.out.as_str()), (3, ""), "{ran:?}");
         assert!(ran.err.contains(words), "{}", ran.err);
     }
-    folder.write("received.bin", &rct(0));
+    folder.write("received.bin", &rct(0, 0));
     assert_eq!(folder.run(&COMPARE).status, 1);
     let mut wrong = COMPARE;
     wrong[4] = "XX";
     assert_eq!(folder.run(&wrong).status, 2);
+}
+
+/// The received file's own counts and state are held against its records, in every form of the report.
+#[test]
+fn what_the_file_says_of_itself() {
+    let folder = folder("compare-itself");
+    let received = folder.read("received.bin");
+    let cut = [&received[..245], &received[490..]].concat();
+    folder.write("received.bin", &cut);
+    let files = ["--csv", "list.csv", "--html", "page.html"];
+    let ran = folder.run(&with(&COMPARE, &files));
+    assert_eq!(ran.status, 1, "{ran:?}");
+    let heading =
+        "compare: 3 cases are not the same; the received file is not what it says of itself\n";
+    assert!(ran.out.starts_with(heading), "{}", ran.out);
+    let note = "the RCT record states 1 as Non-TANF Cases Returned (15-23), and the file has 0: is it whole?";
+    let text = ran.out.replace("\n    ", " ");
+    let (above, below) = text.split_once("3 cases that are not").expect("a list");
+    assert!(above.contains(note) && !below.contains(note), "{text}");
+    for file in ["list.csv", "page.html"] {
+        let report = String::from_utf8(folder.read(file)).expect("it is text");
+        assert!(report.contains(note), "{report}");
+    }
+    let json = folder.run(&with(&COMPARE, &["--json"])).out;
+    assert!(json.contains(&format!("\"notes\":[\"{note}\",")), "{json}");
+    // every case the same, and another state in the RCT record
+    let reconcile = "reconcile two.bin --state OH --date 20071231 --out own.bin";
+    assert_eq!(folder.run(&words(reconcile)).status, 0);
+    let mut own = folder.read("own.bin");
+    own[493..495].copy_from_slice(&ebcdic("KY"));
+    folder.write("received.bin", &own);
+    let ran = folder.run(&COMPARE);
+    assert_eq!(ran.status, 1, "{ran:?}");
+    assert!(ran
+        .out
+        .starts_with("compare: every case is the same; the received file is"));
+    let note = "  the RCT record is of state 'KY' (4-5), and --state is OH\n";
+    assert!(ran.out.contains(note), "{}", ran.out);
+    let ran = folder.run(&["compare", "two.bin", "own.bin", "--state", "KY"]);
+    assert!(ran
+        .out
+        .contains("2 of 2 records have another state than KY, record 1 the first"));
+}
+
+/// The batch is for the other side, and what it lacks is said.
+#[test]
+fn what_is_said_of_the_batch() {
+    let folder = folder("compare-batch");
+    let two = folder.read("two.bin");
+    let mut coded = two.clone();
+    coded[12..15].copy_from_slice(&ebcdic("007"));
+    folder.write("two.bin", &coded);
+    let batch = with(&COMPARE, &["--records", "records.bin", "--force"]);
+    let text = folder.run(&batch).out;
+    let note =
+        "  1 case needs an L record, and no code is listed without --locals FILE: left to you\n";
+    assert!(text.contains(note), "{text}");
+    let of_them = "  the batch is for the federal side: don't apply it to MASTER";
+    assert!(!text.contains(of_them), "{text}");
+    let left = "SMITH, JOHN  differs, left to you\n";
+    assert!(text.contains(left), "{text}");
+    // a list without the code, and one with it
+    for (codes, is_left) in [("001", true), ("007", false)] {
+        folder.write("locals.bin", &ebcdic(codes));
+        let text = folder.run(&with(&batch, &["--locals", "locals.bin"])).out;
+        assert!(!text.contains("--locals FILE"), "{text}");
+        assert_eq!(text.contains(left), is_left, "{text}");
+        assert_eq!(text.contains(of_them), !is_left, "{text}");
+    }
+    folder.write("two.bin", &two);
+    let text = folder.run(&batch).out;
+    assert!(text.contains("SMITH, JOHN  differs\n") && text.contains("only there, left to you\n"));
+    let json = folder.run(&with(&batch, &["--json"])).out;
+    let member = "\"found\":\"differs\",\"left_to_you\":\"no\"";
+    assert!(json.contains(member), "{json}");
 }

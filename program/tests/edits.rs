@@ -165,6 +165,14 @@ fn keys_and_lists() {
     let ran = folder.run(&with(&plain, &["--local-code", "007"]));
     assert_eq!(ran.status, 2);
     assert!(ran.err.contains("refused 29: "), "{}", ran.err);
+    let missing =
+        "  --local-code: the list of local codes is missing: give it with --locals FILE\n";
+    assert!(ran.err.contains(missing), "{}", ran.err);
+    let ran = folder.run(&with(&EDIT, &["--local-code", "002", "--force"]));
+    assert!(
+        ran.status == 2 && !ran.err.contains("is missing"),
+        "{ran:?}"
+    );
     assert_eq!(folder.run(&with(&plain, &["--amount", "1"])).status, 0);
 }
 
@@ -200,7 +208,7 @@ fn values_that_no_record_leads_to() {
 }
 
 /// Command lines that are not carried out: what is behind the usual one, the status and a part of the message.
-const WRONG: [(&[&str], i32, &str); 10] = [
+const WRONG: [(&[&str], i32, &str); 13] = [
     (&[], 3, "nothing is wanted: give one of --case-id"),
     (
         &["--case-id", "1234567890123456"],
@@ -208,9 +216,14 @@ const WRONG: [(&[&str], i32, &str); 10] = [
         "at most 15 characters",
     ),
     (
-        &["--case-id", "k2"],
-        2,
-        "byte 0 is hexadecimal 6B, a lower case letter",
+        &["--case-id", "Ok2"],
+        3,
+        "--case-id: character 2 of 'Ok2' is 'k', a lower case letter: use upper case",
+    ),
+    (
+        &["--case-id", "1234\u{DC}56789"],
+        3,
+        "--case-id: character 5 of '1234\u{DC}56789' is '\u{DC}': use A to Z, digits",
     ),
     (&["--local-code", "7"], 3, "--local-code wants three digits"),
     (
@@ -223,12 +236,30 @@ const WRONG: [(&[&str], i32, &str); 10] = [
         3,
         "--amount is at most 99999999",
     ),
-    (&["--amount", "12.50"], 3, "--amount wants a number"),
-    (&["--amount", "-1"], 3, "--amount wants a number"),
     (
-        &["--exclusions", "XYZ"],
+        &["--amount", "24.50"],
         3,
-        "--exclusions: exclusion word unknown; use ADM",
+        "--amount wants whole dollars, digits only, not '24.50'",
+    ),
+    (
+        &["--amount", "-1"],
+        3,
+        "--amount wants whole dollars, digits only, not '-1'",
+    ),
+    (
+        &["--exclusions", "RET,XYZ"],
+        3,
+        "--exclusions: 'XYZ' is none of the words; exclusion word unknown; use ADM",
+    ),
+    (
+        &["--exclusions", "pas RET"],
+        3,
+        "--exclusions: 'pas' is to be in upper case, PAS; ",
+    ),
+    (
+        &["--exclusions", "RET;PAS"],
+        3,
+        "--exclusions: 'RET;PAS' is none of the words; ",
     ),
     (
         &["--exclusions", "ADM,RET,VEN,SAL,TAX,PAS,FIN,DCK,ADM,RET,V"],

@@ -305,3 +305,53 @@ fn devices_and_pipes_as_inputs() {
     let ran = folder.run_with_input(&check, "");
     assert_eq!(ran.status, 1);
 }
+
+/// What a file of a kind that is never in ASCII is told has no option that its command doesn't take.
+#[test]
+fn masters_and_tables_in_ascii() {
+    let folder = Folder::with_master("lengths-kept");
+    let mut rows = two_rows("00");
+    for row in rows.chunks_mut(200) {
+        row[194] = 0x40;
+    }
+    let rows = ascii(&rows);
+    for (master, words) in [
+        (
+            ended(&rows, 200, b"\n"),
+            "stands behind every row; take them out",
+        ),
+        (
+            [&rows[..], b"\n"].concat(),
+            "the file is in ASCII, and one of this kind never is",
+        ),
+    ] {
+        folder.write("master.bin", &master);
+        folder.write("table.bin", &master);
+        for command in [
+            "find master.bin OH123456789N",
+            "show master master.bin",
+            "pages master.bin --out p.bin",
+        ] {
+            let ran = folder.run(&common::words(command));
+            let text = ran.err.replace("\n    ", " ");
+            assert!(text.contains(words), "{command}: {text}");
+            assert!(
+                !text.contains("--lines") && !text.contains("--ascii"),
+                "{text}"
+            );
+        }
+        let ran = folder.run(&common::words("codes table.bin --state OH --out codes.bin"));
+        assert!(ran.status == 2 && !ran.err.contains("--lines"), "{ran:?}");
+    }
+}
+
+#[test]
+fn a_carriage_return_in_a_line() {
+    let folder = Folder::with_master("lengths-return");
+    let mut text = ended(&ascii(&paper_batch()), 245, b"\n");
+    text[100] = b'\r';
+    folder.write("batch.bin", &text);
+    let err = message(&folder, &with(&CHECK, &["--lines"]), 2);
+    let words = "a carriage return that ends no line: take it out";
+    assert!(err.contains(words), "{err}");
+}

@@ -49,61 +49,49 @@ fn batches_of_lines() {
     assert!(ran.status == 0 && ran.out.contains("SMYTH"), "{ran:?}");
 }
 
-/// Empty lines at the end are dropped, whatever command reads them; those before a record are none the less.
+/// Empty lines that may stand at the end.
+const EMPTY: [&str; 5] = ["\n", "\n\n", "\r\n", "\r\n\r\n\n", "\r"];
+
 #[test]
-fn empty_lines_at_the_end() {
+fn empty_lines_at_the_end_of_a_batch() {
     let folder = Folder::with_example("lines-empty");
     let wanted = checked(&folder, &[]).out;
     let text = lines(&paper_batch(), 245, "\n", true);
-    for more in ["\n", "\n\n", "\r\n", "\r\n\r\n\n", "\r"] {
+    let whole = lines(&paper_batch(), 245, "\n", false);
+    for more in EMPTY {
         folder.write("batch.bin", &[&text, more.as_bytes()].concat());
         folder.write("locals.bin", more.as_bytes());
         let ran = checked(&folder, &["--lines"]);
         assert_eq!((ran.status, &ran.out), (1, &wanted), "{ran:?}");
-        let weekly = [&lines(&weekly(), 240, "\r\n", true), more.as_bytes()].concat();
-        folder.write("weekly.txt", &weekly);
-        let contacts = [&lines(&contact_file(), 220, "\n", true), more.as_bytes()].concat();
-        folder.write("contacts.txt", &contacts);
-        folder.write("two.bin", &two_rows("00"));
-        let whole = lines(&paper_batch(), 245, "\n", false);
-        leave(
-            &folder,
-            &[
-                (
-                    "control batch.bin --out made --lines --force",
-                    0,
-                    "made",
-                    whole,
-                ),
-                (
-                    "post two.bin weekly.txt --lines",
-                    1,
-                    "two.bin",
-                    two_rows_posted(),
-                ),
-                (
-                    "contacts table.bin contacts.txt --new --lines",
-                    1,
-                    "table.bin",
-                    contact_table(),
-                ),
-            ],
-        );
-        for made in ["table.bin", "table.bin.log", "two.bin.log"] {
-            let _ = std::fs::remove_file(folder.path(made));
-        }
+        let control = "control batch.bin --out made --lines --force";
+        leave(&folder, &[(control, 0, "made", whole.clone())]);
     }
     // one in the middle is a record of spaces
     let middle = String::from_utf8(text).expect("it is text");
-    folder.write("batch.bin", middle.replacen('\n', "\n\n", 1).as_bytes());
-    assert_eq!(
-        folder
-            .run(&words("show batch batch.bin --lines"))
-            .out
-            .matches("\n     ")
-            .count(),
-        3
-    );
+    let middle = middle.replacen('\n', "\n\n", 1);
+    folder.write("batch.bin", middle.as_bytes());
+    let ran = folder.run(&words("show batch batch.bin --lines"));
+    assert!(ran.out.starts_with("records 1 to 4 of 4"), "{}", ran.out);
+}
+
+#[test]
+fn empty_lines_at_the_end_of_other_files() {
+    for more in EMPTY {
+        let folder = Folder::new("lines-empty-others");
+        let with_more = |bytes: &[u8], width: usize, end: &str| {
+            [&lines(bytes, width, end, true), more.as_bytes()].concat()
+        };
+        folder.write("weekly.txt", &with_more(&weekly(), 240, "\r\n"));
+        folder.write("contacts.txt", &with_more(&contact_file(), 220, "\n"));
+        folder.write("two.bin", &two_rows("00"));
+        let contacts = "contacts table.bin contacts.txt --new --lines";
+        let post = "post two.bin weekly.txt --lines";
+        let commands = [
+            (contacts, 1, "table.bin", contact_table()),
+            (post, 1, "two.bin", two_rows_posted()),
+        ];
+        leave(&folder, &commands);
+    }
 }
 
 /// Sees that each of these commands ends with a status and leaves a file.

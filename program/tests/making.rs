@@ -77,6 +77,16 @@ fn wrong_texts() -> Vec<(String, &'static str)> {
         ),
         (String::new(), "the file has no line of names"),
         (
+            PAPER.lines().next().expect("a line").to_string(),
+            "give the state with --state",
+        ),
+    ]
+}
+
+/// The same of files that are no CSV files with a line of names.
+fn other_texts() -> Vec<(String, &'static str)> {
+    vec![
+        (
             PAPER.replace(',', ";"),
             "the columns seem to be parted by semicolons: save the file with commas",
         ),
@@ -84,16 +94,12 @@ fn wrong_texts() -> Vec<(String, &'static str)> {
             PAPER.lines().skip(1).collect::<Vec<_>>().join("\n"),
             "line 1 names no field, the first cell being 'A': is the line of names missing",
         ),
-        (
-            PAPER.lines().next().expect("a line").to_string(),
-            "give the state with --state",
-        ),
     ]
 }
 
 #[test]
 fn what_does_not_fit() {
-    for (csv, words) in wrong_texts() {
+    for (csv, words) in wrong_texts().into_iter().chain(other_texts()) {
         let folder = folder("making-wrong", &csv);
         let ran = folder.run(&BUILD);
         assert_eq!((ran.status, ran.out.as_str()), (3, ""), "{csv}: {ran:?}");

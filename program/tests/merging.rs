@@ -130,8 +130,10 @@ fn a_key_with_a_b_in_several() {
 #[test]
 fn the_b_may_be_in_any_of_them() {
     let folder = folder("merging-places");
-    let one = |kind: &str| {
-        let record = detail(kind, "123456789", "N", "SMITH", "");
+    // the first name differs, so that no batch is there twice
+    let one = |kind: &str, name: &str| {
+        let mut record = detail(kind, "123456789", "N", "SMITH", "");
+        record[49..54].copy_from_slice(&ebcdic(&name.to_uppercase()[..5]));
         [record, control(0, 1, 0, 0)].concat()
     };
     for (first, second, third, status) in [
@@ -146,7 +148,7 @@ fn the_b_may_be_in_any_of_them() {
         for (name, kind) in FILES.iter().zip([first, second, third]) {
             let batch = match kind {
                 "" => control(0, 0, 0, 0),
-                kind => one(kind),
+                kind => one(kind, name),
             };
             folder.write(name, &batch);
         }
@@ -279,4 +281,29 @@ fn command_lines_and_places() {
     assert_eq!(folder.run(&onto).status, 3);
     assert_eq!(folder.run(&with(&onto, &["--force"])).status, 3);
     assert_eq!(folder.read("master.bin"), paper_row());
+}
+
+#[test]
+fn a_batch_that_is_there_twice() {
+    let folder = folder("merging-twice");
+    folder.write("copy.bin", &batches()[0]);
+    for (other, note) in [
+        ("first.bin", "first.bin is given twice"),
+        ("copy.bin", "copy.bin has the same records as first.bin"),
+    ] {
+        let merge = ["merge", "first.bin", other, "--out", "merged.bin"];
+        let ran = folder.run(&merge);
+        assert_eq!((ran.status, ran.out.as_str()), (3, ""), "{ran:?}");
+        assert!(ran.err.contains("a batch is there twice"), "{}", ran.err);
+        assert!(ran.err.contains(&format!("  {note}\n")), "{}", ran.err);
+        assert!(!folder.has("merged.bin"));
+        let ran = folder.run(&with(&merge, &["--anyway"]));
+        assert_eq!(ran.status, 0, "{ran:?}");
+        assert!(ran.out.contains(&format!("  {note}\n")), "{}", ran.out);
+        fs::remove_file(folder.path("merged.bin")).expect("it is there");
+    }
+    // batches without details change nothing
+    folder.write("none.bin", &control(0, 0, 0, 0));
+    let merge = ["merge", "none.bin", "none.bin", "--out", "merged.bin"];
+    assert_eq!(folder.run(&merge).status, 0);
 }

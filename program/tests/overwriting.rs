@@ -30,7 +30,7 @@ fn makers() -> Vec<Vec<&'static str>> {
         vec!["to-ebcdic", "text.txt", "--out", ""],
         with(&edit, &["--amount", "7", "--out", ""]),
         vec!["records", "master.bin", "master.bin", "--out", ""],
-        vec!["merge", "batch.bin", "batch.bin", "--out", ""],
+        vec!["merge", "batch.bin", "batch.bin", "--anyway", "--out", ""],
     ]
 }
 

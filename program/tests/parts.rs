@@ -327,3 +327,32 @@ fn more_parts_than_names() {
         }
     }
 }
+
+/// Parts of an earlier run behind the last one stop it, or are named.
+#[test]
+fn files_with_higher_numbers() {
+    let folder = folder("parts-higher");
+    folder.write("part004", b"x");
+    folder.write("part017", b"x");
+    let at = with(&SPLIT, &["--at", "1,3"]);
+    let before = folder.names();
+    let ran = folder.run(&at);
+    assert_eq!((ran.status, ran.out.as_str()), (3, ""), "{ran:?}");
+    let notes = "  part004 is there, and is no part of this batch\n  part017 is there, and is no part of this batch\n";
+    assert!(ran
+        .err
+        .contains("the batch has 3 parts, and there are files with higher numbers"));
+    assert!(ran.err.contains(notes), "{}", ran.err);
+    assert_eq!(folder.names(), before);
+    let ran = folder.run(&with(&at, &["--force"]));
+    assert_eq!(ran.status, 0, "{ran:?}");
+    let notes = notes.replace("  part", "part");
+    assert!(ran.out.ends_with(&notes), "{}", ran.out);
+    let ran = folder.run(&with(&at, &["--force", "--json"]));
+    assert!(
+        ran.out.contains("\"notes\":[\"part004 is there"),
+        "{}",
+        ran.out
+    );
+    assert_eq!(folder.read("part004"), b"x");
+}

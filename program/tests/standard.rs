@@ -16,6 +16,12 @@ fn folder(name: &str) -> Folder {
     folder.write("left.bin", &second_rows());
     folder.write("journal.bin", &second_journal());
     folder.write("text.txt", b"ABC 123");
+    // other batches, each with a case ID of its own
+    for (name, digit) in [("second.bin", "2"), ("third.bin", "3")] {
+        let mut batch = paper_batch();
+        batch[14..15].copy_from_slice(&ebcdic(digit));
+        folder.write(name, &batch);
+    }
     folder
 }
 
@@ -39,7 +45,7 @@ fn run(folder: &Folder, arguments: &[&str], input: &[u8]) -> (i32, Vec<u8>, Stri
 #[test]
 fn every_input_may_be_standard_input() {
     let records = ["records", "master.bin", "master.bin"];
-    let merge = ["merge", "batch.bin", "batch.bin", "batch.bin"];
+    let merge = ["merge", "batch.bin", "second.bin", "third.bin"];
     for (arguments, place) in [
         (APPLY.to_vec(), 2),
         (APPLY.to_vec(), 4),
@@ -88,7 +94,14 @@ fn every_file_made_may_be_standard_output() {
         vec!["to-ebcdic", "text.txt", "--out", "out.bin"],
         vec!["to-ascii", "batch.bin", "--out", "out.bin"],
         with(&edit, &["--amount", "7", "--out", "out.bin"]),
-        vec!["merge", "batch.bin", "batch.bin", "--out", "out.bin"],
+        vec![
+            "merge",
+            "batch.bin",
+            "batch.bin",
+            "--anyway",
+            "--out",
+            "out.bin",
+        ],
     ] {
         let (plain, folder) = (folder("standard-made"), folder("standard-output"));
         let wanted = plain.run(&arguments);

@@ -2,12 +2,12 @@
 
 use std::os::unix::ffi::OsStrExt;
 
-use fantanolive::{code_text, codes, to_ebcdic, NotConverted, Refusal};
+use fantanolive::{code_text, codes, to_ebcdic, NotConverted};
 
 use crate::arguments::Arguments;
 use crate::code_page::argument;
 use crate::failure::Failure;
-use crate::files::length::{byte_words, place_note};
+use crate::quote::quoted;
 use crate::records::columns::{detail, row, Field};
 use crate::records::exclusion_words::set_of;
 use crate::report::notes::refused;
@@ -71,12 +71,24 @@ fn case_id(arguments: &Arguments) -> Result<Option<(Field, Vec<u8>)>, Failure> {
     match to_ebcdic(&text, &mut bytes) {
         Ok(()) => Ok(Some((row::CASE_ID, bytes))),
         Err(NotConverted::NoCounterpart { place }) => {
-            let byte = usize::try_from(place).map_or(0, |at| text[at]);
-            let note = place_note(place, byte, None);
-            let note = format!("--case-id: {note}{}", byte_words(&[byte], false));
-            Err(refused(Refusal::NoCounterpart, vec![note]))
+            let at = usize::try_from(place).unwrap_or_default();
+            let value = String::from_utf8_lossy(&text);
+            let value = quoted(value.trim_end());
+            let wrong = wrong_character(&text[at..]);
+            let what = format!("--case-id: character {} of {value} is {wrong}", at + 1);
+            Err(arguments.wrong(what))
         }
         Err(other) => Err(refused(other.refusal(), Vec::new())),
+    }
+}
+
+/// The first character of a text that has no counterpart in EBCDIC, and what to do.
+fn wrong_character(text: &[u8]) -> String {
+    let text = String::from_utf8_lossy(text);
+    match text.chars().next() {
+        Some(c @ 'a'..='z') => format!("'{c}', a lower case letter: use upper case"),
+        Some(c) => format!("'{c}': use A to Z, digits, space and - , . ( ) / & ' #"),
+        None => String::new(),
     }
 }
 
@@ -98,19 +110,37 @@ fn exclusions(arguments: &Arguments) -> Result<Option<(Field, Vec<u8>)>, Failure
     match set_of(&text) {
         Ok(set) => Ok(Some((row::EXCLUSIONS, vec![set]))),
         Err(verdict) => {
+            let mut words = wrong_words(&String::from_utf8_lossy(&text));
             let texts = codes(verdict).filter_map(code_text);
-            let words: Vec<String> = texts
-                .map(|text| format!("{}; {}", text.wrong, text.mend))
-                .collect();
+            words.extend(texts.map(|text| format!("{}; {}", text.wrong, text.mend)));
             Err(arguments.wrong(format!("--exclusions: {}", words.join("; "))))
         }
     }
 }
 
+/// The words of a list that the library doesn't take by themselves.
+fn wrong_words(text: &str) -> Vec<String> {
+    let taken = |word: &str| set_of(format!("{word:<40}").as_bytes()).is_ok();
+    let words = text.split([',', ' ']).filter(|word| !taken(word));
+    let told = words.map(|word| {
+        let upper = word.to_ascii_uppercase();
+        match upper != word && taken(&upper) {
+            true => format!("{} is to be in upper case, {upper}", quoted(word)),
+            false => format!("{} is none of the words", quoted(word)),
+        }
+    });
+    told.collect()
+}
+
 /// Whole dollars with 00 cents; a row without dollars is deleted.
 fn balance(arguments: &Arguments) -> Result<Vec<(Field, Vec<u8>)>, Failure> {
-    let Some(dollars) = arguments.number("--amount")? else {
+    let Some(value) = arguments.value("--amount") else {
         return Ok(Vec::new());
+    };
+    let Ok(Some(dollars)) = arguments.number("--amount") else {
+        let value = quoted(&value.to_string_lossy());
+        let what = format!("--amount wants whole dollars, digits only, not {value}");
+        return Err(arguments.wrong(what));
     };
     if dollars > MOST_DOLLARS {
         let what = format!("--amount is at most {MOST_DOLLARS}, in whole dollars");

@@ -9,23 +9,28 @@ use crate::commands::master::{notes_of, read_master};
 use crate::commands::output::{form_of, print};
 use crate::commands::records::to_charset;
 use crate::commands::report_files::{self, with_reports};
-use crate::failure::{counted, shown, Failure, Status};
+use crate::failure::{counted, headed, shown, Failure, Status};
 use crate::files::length;
 use crate::files::outputs::{Outputs, Wanted};
 use crate::files::read::{read, Input};
 use crate::files::replace::Staged;
 use crate::memory::zeros;
 use crate::progress::Progress;
+use crate::records::columns::{rec, row};
 use crate::records::compared::{key_of, Compared, Found, Key};
 use crate::records::control_record::batch_of;
 use crate::records::field::{Form, Placeholder};
 use crate::records::kinds::RECONCILIATION;
+use crate::records::received::notes_on;
 use crate::records::towards_here::records_for;
 use crate::report::comparison::{chart_of, Comparison};
 use crate::report::html::Page;
 use crate::report::listing::Listing;
 use crate::report::notes::{of_last_record, of_locals, refused};
 use crate::report::summary::Summary;
+
+/// What is to be known of the batch.
+const FOR_THEM: &str = "the batch is for the federal side: don't apply it to MASTER, which has these values; an M there takes the cents away, and one for a deleted case is rejected";
 
 /// A date; REC records have none of it.
 const DATE: &[u8] = b"20000101";
@@ -41,23 +46,23 @@ pub fn run(arguments: &Arguments, progress: &Progress) -> Result<Status, Failure
     let there = &received.bytes[..(received.records() - 1) * RECORD];
     progress.now("comparing the cases");
     let compared = Compared::of(&here[..here.len() - RECORD], there);
-    let mut summary = summary_of(arguments, &compared);
+    let mut beside = Beside::of(arguments, &received, there);
+    let mut summary = summary_of(arguments, &compared, !beside.notes.is_empty());
     let mut batch = Vec::new();
     if arguments.flag("--records") {
         let made = Made::of(&compared, &master, &locals)?;
         summary = made.counted(summary);
         batch = made.batch(arguments, charset)?;
+        beside.notes.extend(made.notes(arguments));
+        beside.left = made.left;
     }
-    let mut staged = stage_reports(&outputs, arguments, progress, &summary, &compared)?;
+    let mut staged = stage_reports(&outputs, arguments, progress, &summary, &compared, &beside)?;
     if arguments.flag("--records") {
         staged.push(outputs.stage_records("--records", progress, &batch, RECORD)?);
     }
     let summary = summary.placed(outputs.put_in_place(staged)?);
-    let comparison = Comparison {
-        compared: &compared,
-        form: form_of(arguments, Charset::Ebcdic),
-        listing: &listing,
-    };
+    let form = form_of(arguments, Charset::Ebcdic);
+    let comparison = beside.comparison(&compared, form, &listing);
     print(
         arguments,
         progress,
@@ -65,6 +70,40 @@ pub fn run(arguments: &Arguments, progress: &Progress) -> Result<Status, Failure
         |screen| comparison.put_text(screen),
         |json| comparison.put_json(json),
     )
+}
+
+/// What the report has beside the cases.
+struct Beside {
+    notes: Vec<String>,
+    /// For each case whether no record of the batch is its own; none where no batch is asked for.
+    left: Vec<bool>,
+}
+
+impl Beside {
+    fn of(arguments: &Arguments, received: &Input, records: &[u8]) -> Beside {
+        let form = Form::new(Charset::Ebcdic, Placeholder::Dot, false);
+        let last = received.last().unwrap_or_default();
+        let state = arguments.state().unwrap_or_default();
+        Beside {
+            notes: notes_on(records, last, &state, &form),
+            left: Vec::new(),
+        }
+    }
+
+    fn comparison<'a>(
+        &'a self,
+        compared: &'a Compared<'a>,
+        form: Form,
+        listing: &'a Listing,
+    ) -> Comparison<'a> {
+        Comparison {
+            compared,
+            notes: &self.notes,
+            left: &self.left,
+            form,
+            listing,
+        }
+    }
 }
 
 /// The files that are asked for.
@@ -88,13 +127,12 @@ fn stage_reports<'a>(
     progress: &Progress,
     summary: &Summary,
     compared: &Compared,
+    beside: &Beside,
 ) -> Result<Vec<Staged<'a>>, Failure> {
     let full = arguments.flag("--full");
-    let comparison = Comparison {
-        compared,
-        form: Form::new(Charset::Ebcdic, Placeholder::Dot, full),
-        listing: &Listing::of(arguments)?,
-    };
+    let form = Form::new(Charset::Ebcdic, Placeholder::Dot, full);
+    let listing = Listing::of(arguments)?;
+    let comparison = beside.comparison(compared, form, &listing);
     let page = Page {
         about: report_files::about(arguments, &shown(arguments.path(1))),
         chart: (
@@ -144,19 +182,22 @@ fn reconciled(
     Ok(out)
 }
 
-fn summary_of(arguments: &Arguments, compared: &Compared) -> Summary {
+fn summary_of(arguments: &Arguments, compared: &Compared, is_odd: bool) -> Summary {
     let found = compared.found.len() as u64;
-    let verdict = match found {
+    let mut verdict = match found {
         0 => "every case is the same".to_string(),
         1 => "1 case is not the same".to_string(),
         found => format!("{} are not the same", counted(found, "case")),
     };
+    if is_odd {
+        verdict += "; the received file is not what it says of itself";
+    }
     let only_here = compared.count(|found| matches!(found, Found::OnlyHere(_)));
     let only_there = compared.count(|found| matches!(found, Found::OnlyThere(_)));
     let differing = compared.count(|found| matches!(found, Found::Differs(..)));
     let again = compared.count(|found| matches!(found, Found::Again(_)));
     let same = compared.same as u64;
-    Summary::new("compare", Status::of_rejects(found > 0))
+    Summary::new("compare", Status::of_rejects(found > 0 || is_odd))
         .verdict(verdict)
         .text("state", arguments.state().unwrap_or_default())
         .sum(
@@ -180,19 +221,26 @@ fn summary_of(arguments: &Arguments, compared: &Compared) -> Summary {
         )
 }
 
-/// The cases there that differ or are not here, by the numbers of their records, each with the place of its row in the master; those
-/// without a row are left out.
-fn rows_of(compared: &Compared, master: &Input) -> Result<Vec<(usize, u32)>, Failure> {
-    let case = |found: &Found| match *found {
+/// A case there that differs or is not here: its place among those found, the number of its record, and the place of its row.
+struct WithRow {
+    at: usize,
+    there: usize,
+    row: u32,
+}
+
+/// The cases there that differ or are not here; those without a row in the master are left out.
+fn rows_of(compared: &Compared, master: &Input) -> Result<Vec<WithRow>, Failure> {
+    let case = |(at, found): (usize, &Found)| match *found {
         Found::Differs(_, there) | Found::OnlyThere(there) => {
             let key = key_of(compared.there(there));
             let is_sound = find(&[], 0, &key) != Err(Refusal::UnsoundKey);
-            is_sound.then_some((key, there))
+            let row = NO_PLACE;
+            is_sound.then_some((key, WithRow { at, there, row }))
         }
         _ => None,
     };
-    let cases: Vec<(Key, usize)> = compared.found.iter().filter_map(case).collect();
-    let keys: Vec<Key> = cases.iter().map(|(key, _)| *key).collect();
+    let found = compared.found.iter().enumerate();
+    let (keys, mut cases): (Vec<Key>, Vec<WithRow>) = found.filter_map(case).unzip();
     let mut places = zeros(keys.len())?;
     // the master was sound a moment ago, and the keys rise
     let _ = find_many(
@@ -201,50 +249,71 @@ fn rows_of(compared: &Compared, master: &Input) -> Result<Vec<(usize, u32)>, Fai
         keys.as_flattened(),
         &mut places,
     );
-    let rows = cases.into_iter().zip(places);
-    let in_master = rows.filter(|(_, place)| *place != NO_PLACE);
-    Ok(in_master
-        .map(|((_, there), place)| (there, place))
-        .collect())
+    for (case, place) in cases.iter_mut().zip(places) {
+        case.row = place;
+    }
+    cases.retain(|case| case.row != NO_PLACE);
+    Ok(cases)
 }
 
 /// The records that lead the other side to the master.
 struct Made {
     details: Vec<u8>,
-    /// Cases with records; those without, since none changes what differs or none leads there.
-    with: u64,
-    without: u64,
+    /// For each case whether it has no records, since none changes what differs or none leads there.
+    left: Vec<bool>,
+    /// How many of those have another local code there, and no records since theirs isn't in the list.
+    of_list: u64,
 }
 
 impl Made {
     fn of(compared: &Compared, master: &Input, locals: &Input) -> Result<Made, Failure> {
         let mut made = Made {
             details: Vec::new(),
-            with: 0,
-            without: 0,
+            left: vec![true; compared.found.len()],
+            of_list: 0,
         };
-        for (there, place) in rows_of(compared, master)? {
-            let row = master.record(place as usize);
-            match records_for(compared.there(there), row, &locals.bytes) {
+        for case in rows_of(compared, master)? {
+            let row = master.record(case.row as usize);
+            let theirs = compared.there(case.there);
+            match records_for(theirs, row, &locals.bytes) {
                 Ok(records) if !records.is_empty() => {
                     made.details.extend(records);
-                    made.with += 1;
+                    made.left[case.at] = false;
                 }
                 Err(Refusal::WrongLocals) => {
                     return Err(refused(Refusal::WrongLocals, of_locals(locals)));
                 }
+                Err(Refusal::NoRecords) => {
+                    let differs = rec::LOCAL_CODE.of(theirs) != row::LOCAL_CODE.of(row);
+                    made.of_list += u64::from(differs);
+                }
                 _ => {}
             }
         }
-        made.without = compared.found.len() as u64 - made.with;
         Ok(made)
     }
 
     fn counted(&self, summary: Summary) -> Summary {
+        let without = self.left.iter().filter(|is_left| **is_left).count();
         summary
             .number("records", (self.details.len() / RECORD) as u64)
-            .number("cases with records", self.with)
-            .number("cases without records", self.without)
+            .number("cases with records", (self.left.len() - without) as u64)
+            .number("cases without records", without as u64)
+    }
+
+    /// What the batch is for, and what it lacks.
+    fn notes(&self, arguments: &Arguments) -> Vec<String> {
+        let mut notes = Vec::new();
+        if !self.details.is_empty() {
+            notes.push(FOR_THEM.to_string());
+        }
+        if self.of_list > 0 && !arguments.flag("--locals") {
+            let cases = headed(self.of_list, ("case needs", "cases need"));
+            notes.push(format!(
+                "{cases} an L record, and no code is listed without --locals FILE: left to you"
+            ));
+        }
+        notes
     }
 
     fn batch(&self, arguments: &Arguments, charset: Charset) -> Result<Vec<u8>, Failure> {

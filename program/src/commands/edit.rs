@@ -38,7 +38,7 @@ pub fn run(arguments: &Arguments, progress: &Progress) -> Result<Status, Failure
     let records = change.records().map_err(|refusal| {
         let notes = match refusal {
             Refusal::WrongLocals => notes::of_locals(&locals),
-            _ => of_wanted(&change, refusal),
+            _ => notes_on(arguments, &change, refusal),
         };
         refused(refusal, notes)
     })?;
@@ -54,6 +54,17 @@ pub fn run(arguments: &Arguments, progress: &Progress) -> Result<Status, Failure
         .number("records", (records.len() / RECORD) as u64)
         .placed(outputs.put_in_place(staged)?);
     report(arguments, progress, &summary, &change, &records)
+}
+
+/// What is known of a wanted row that was refused: where no list is given, no local code but 000 is in it.
+fn notes_on(arguments: &Arguments, change: &CaseChange, refusal: Refusal) -> Vec<String> {
+    let mut notes = of_wanted(change, refusal);
+    let of_code = || change.refused_fields(refusal).contains(&row::LOCAL_CODE);
+    if refusal == Refusal::NoRecords && !arguments.flag("--locals") && of_code() {
+        let note = "--local-code: the list of local codes is missing: give it with --locals FILE";
+        notes.push(note.to_string());
+    }
+    notes
 }
 
 /// The key that is given, or the one line of standard input.

@@ -7,7 +7,7 @@ use fantanolive::{Refusal, RECORD};
 
 use crate::arguments::Arguments;
 use crate::code_page::{convert, Charset};
-use crate::commands::output::{form_of, print};
+use crate::commands::output::{form_of, print, put_notes};
 use crate::failure::{headed, Failure, Status};
 use crate::files::outputs::{Outputs, Wanted};
 use crate::files::read::{read, Input};
@@ -40,7 +40,9 @@ pub fn run(arguments: &Arguments, progress: &Progress) -> Result<Status, Failure
     let mut merged = merged_from_left(&batches)?;
     let form = form_of(arguments, Charset::Ebcdic);
     let shared = Shared::of(&merged, &batches, form);
+    let twice = Twice::of(&batches);
     if !arguments.flag("--anyway") {
+        twice.see_none()?;
         shared.see_none()?;
     }
     let last = &merged[merged.len() - RECORD..];
@@ -58,9 +60,52 @@ pub fn run(arguments: &Arguments, progress: &Progress) -> Result<Status, Failure
         arguments,
         progress,
         &summary,
-        |screen| shared.put_text(screen),
-        |json| shared.put_json(json),
+        |screen| {
+            twice.put_text(screen)?;
+            shared.put_text(screen)
+        },
+        |json| {
+            put_notes(json, &twice.0)?;
+            shared.put_json(json)
+        },
     )
+}
+
+/// A note for each batch with details that is, byte for byte, one before it.
+struct Twice(Vec<String>);
+
+impl Twice {
+    fn of(batches: &[Input]) -> Twice {
+        let mut notes = Vec::new();
+        for (number, batch) in batches.iter().enumerate() {
+            let mut before = batches[..number].iter();
+            let same = before.find(|other| batch.records() > 1 && other.bytes == batch.bytes);
+            if let Some(other) = same {
+                let (name, other) = (batch.name(), other.name());
+                notes.push(match name == other {
+                    true => format!("{name} is given twice"),
+                    false => format!("{name} has the same records as {other}"),
+                });
+            }
+        }
+        Twice(notes)
+    }
+
+    fn see_none(&self) -> Result<(), Failure> {
+        if self.0.is_empty() {
+            return Ok(());
+        }
+        let what = "a batch is there twice, so that its records would be sent twice; --anyway merges them all the same";
+        Err(Failure::Stopped {
+            message: what.to_string(),
+            notes: self.0.clone(),
+        })
+    }
+
+    fn put_text<W: Write>(&self, screen: &mut Screen<W>) -> io::Result<()> {
+        let mut notes = self.0.iter();
+        notes.try_for_each(|note| screen.wrapped(Style::Warning, "  ", note, 4))
+    }
 }
 
 /// The first with the second, that with the third and so on.

@@ -63,13 +63,16 @@ pub fn print_with_notes(
             let mut notes = notes.iter();
             notes.try_for_each(|note| screen.wrapped(Style::Plain, "  ", note, 4))
         },
-        |json| {
-            json.name("notes")?;
-            json.begin_array()?;
-            notes.iter().try_for_each(|note| json.text(note))?;
-            json.end_array()
-        },
+        |json| put_notes(json, notes),
     )
+}
+
+/// The member of an object for notes.
+pub fn put_notes<W: Write>(json: &mut Json<W>, notes: &[String]) -> io::Result<()> {
+    json.name("notes")?;
+    json.begin_array()?;
+    notes.iter().try_for_each(|note| json.text(note))?;
+    json.end_array()
 }
 
 /// How fields are written: SSNs whole with --full, other bytes than characters in the way of text or JSON.

@@ -1,6 +1,6 @@
 //! split: a batch cut into parts that, applied one behind the other, do what it does.
 
-use std::ffi::OsString;
+use std::ffi::{OsStr, OsString};
 use std::io::{self, Write};
 use std::path::PathBuf;
 
@@ -8,8 +8,8 @@ use fantanolive::{totals, Totals, RECORD};
 
 use crate::arguments::Arguments;
 use crate::code_page::{convert, Charset};
-use crate::commands::output::{form_of, print};
-use crate::failure::{counted, headed, Failure, Status, STANDARD};
+use crate::commands::output::{form_of, print, put_notes};
+use crate::failure::{counted, headed, shown, Failure, Status, STANDARD};
 use crate::files::outputs::Outputs;
 use crate::files::read::{read, Input};
 use crate::files::replace::Staged;
@@ -44,6 +44,7 @@ pub fn run(arguments: &Arguments, progress: &Progress) -> Result<Status, Failure
     let ends = ends_of(arguments, &batch, &way)?;
     let files = files_of(arguments, ends.len())?;
     let outputs = Outputs::open_files(arguments, &files, &[arguments.path(0)])?;
+    let notes = of_others(arguments, files.len())?;
     let (parts, staged) = stage_parts(&outputs, charset, progress, &mut batch, &ends)?;
     let form = form_of(arguments, Charset::Ebcdic);
     let last = batch.last().unwrap_or_default();
@@ -55,6 +56,7 @@ pub fn run(arguments: &Arguments, progress: &Progress) -> Result<Status, Failure
     let made = Made {
         parts,
         files: names.collect(),
+        notes,
     };
     print(
         arguments,
@@ -196,12 +198,31 @@ fn files_of(arguments: &Arguments, parts: usize) -> Result<Vec<PathBuf>, Failure
         let what = format!("{} are more than {MOST}", counted(parts as u64, "part"));
         return Err(arguments.wrong(what));
     }
-    let name = |number: usize| {
-        let mut name: OsString = prefix.to_os_string();
-        name.push(format!("{number:03}"));
-        PathBuf::from(name)
-    };
-    Ok((1..=parts).map(name).collect())
+    Ok((1..=parts).map(|number| file_of(prefix, number)).collect())
+}
+
+fn file_of(prefix: &OsStr, number: usize) -> PathBuf {
+    let mut name: OsString = prefix.to_os_string();
+    name.push(format!("{number:03}"));
+    PathBuf::from(name)
+}
+
+/// Files of an earlier run with numbers behind that of the last part: they stop the run, or stay with --force and are named.
+fn of_others(arguments: &Arguments, parts: usize) -> Result<Vec<String>, Failure> {
+    let prefix = arguments.needed("--out");
+    let behind = (parts + 1..=MOST).map(|number| file_of(prefix, number));
+    let there = behind.filter(|file| file.symlink_metadata().is_ok());
+    let notes: Vec<String> = there
+        .map(|file| format!("{} is there, and is no part of this batch", shown(&file)))
+        .collect();
+    if notes.is_empty() || arguments.flag("--force") {
+        return Ok(notes);
+    }
+    let parts = counted(parts as u64, "part");
+    Err(Failure::Stopped {
+        message: format!("the batch has {parts}, and there are files with higher numbers: move them away, or give --force, and they stay"),
+        notes,
+    })
 }
 
 /// Writes each part with its control record.
@@ -243,6 +264,8 @@ fn part_of(batch: &Input, first: usize, end: usize) -> Result<(Part, Vec<u8>), F
 struct Made {
     parts: Vec<Part>,
     files: Vec<String>,
+    /// What is known of other files.
+    notes: Vec<String>,
 }
 
 impl Made {
@@ -264,7 +287,8 @@ impl Made {
                 total(totals.non_tanf_count, totals.non_tanf_amount),
             ))?;
         }
-        Ok(())
+        let mut notes = self.notes.iter();
+        notes.try_for_each(|note| screen.wrapped(Style::Warning, "", note, 2))
     }
 
     fn put_json<W: Write>(&self, json: &mut Json<W>) -> io::Result<()> {
@@ -282,7 +306,8 @@ impl Made {
             json.number_of("non_tanf_amount", totals.non_tanf_amount)?;
             json.end_object()?;
         }
-        json.end_array()
+        json.end_array()?;
+        put_notes(json, &self.notes)
     }
 }
 

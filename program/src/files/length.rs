@@ -89,7 +89,8 @@ fn likely_cause(input: &Input, is_wrong: bool) -> Option<String> {
     let (bytes, kind) = (&input.bytes[..input.read], input.kind);
     if let Some(end) = line_ends(bytes, kind.width) {
         let record = kind.record;
-        let what = match is_ascii(input) || input.charset.is_ascii() {
+        let is_text = is_ascii(input) || input.charset.is_ascii();
+        let what = match is_text && kind.takes_ascii() {
             true => "use --lines",
             false => "take them out",
         };
@@ -100,6 +101,9 @@ fn likely_cause(input: &Input, is_wrong: bool) -> Option<String> {
     if !is_wrong || !is_ascii(input) {
         let cut_off = "the file was cut off, or is of another kind";
         return is_wrong.then(|| cut_off.to_string());
+    }
+    if !kind.takes_ascii() {
+        return Some("the file is in ASCII, and one of this kind never is".to_string());
     }
     let lines = bytes.iter().filter(|&&byte| byte == b'\n').count() as u64;
     (lines > 0).then(|| {
@@ -172,7 +176,10 @@ pub fn of_place(input: &Input, place: u64, behind: Option<u8>) -> Vec<String> {
     // the first line end stands behind the first record
     let kind = (!has_line_ends || at < input.kind.width).then_some(input.kind);
     let note = place_note(place, byte, kind);
-    let words = byte_words(rest, at == 0);
+    let words = match byte {
+        b'\r' if input.of_lines => ", a carriage return that ends no line: take it out".to_string(),
+        _ => byte_words(rest, at == 0),
+    };
     vec![format!("{}: {note}{words}", input.name())]
 }
 

@@ -21,6 +21,8 @@ pub struct Input {
     pub path: PathBuf,
     pub kind: &'static FileKind,
     pub charset: Charset,
+    /// Whether it was a file of lines.
+    pub of_lines: bool,
     /// What was read, and behind it the room that was asked for.
     pub bytes: Vec<u8>,
     /// How much was read: the whole file; or one record more than the library takes, zeros behind the front.
@@ -44,6 +46,7 @@ impl Input {
             path: path.to_path_buf(),
             kind,
             charset: Charset::Ebcdic,
+            of_lines: false,
             bytes: zeros(room)?,
             read: 0,
             length: 0,
@@ -159,6 +162,7 @@ pub fn read_with_room(
         path: path.to_path_buf(),
         kind,
         charset,
+        of_lines: charset == Charset::Lines,
         bytes,
         read,
         length,

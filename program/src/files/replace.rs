@@ -161,7 +161,7 @@ fn create(temporary: &Path) -> io::Result<File> {
     })
 }
 
-/// Gives a file its mode when it is written, so that no one reads a part of it. The mask of the process has no say.
+/// Gives a file its mode when it is written, so that no one reads a part of it. The mode is set as it is given, whatever the umask.
 fn finish(file: &File, new: &NewFile) -> io::Result<()> {
     if let Some(access) = new.owner {
         access.share_owner(file);

@@ -33,6 +33,12 @@ pub struct FileKind {
 }
 
 impl FileKind {
+    /// Whether --ascii and --lines concern it: masters, tables and journals are as the library writes them.
+    pub fn takes_ascii(&self) -> bool {
+        let is_table = self.name == TABLE.name && self.most == TABLE.most;
+        !is_table && self.name != MASTER.name && self.name != JOURNAL.name
+    }
+
     /// The last record of this kind, where a record has its word.
     pub fn marked(&self, record: &[u8], form: &Form) -> Option<&Last> {
         let last = self.last.as_ref()?;

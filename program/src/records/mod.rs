@@ -25,6 +25,7 @@ pub mod made_up_case;
 pub mod money;
 pub mod name_changes;
 pub mod posting;
+pub mod received;
 pub mod room;
 pub mod selection;
 pub mod towards_here;

@@ -13,6 +13,10 @@ use crate::report::sheet::{Put, Sheet};
 
 pub struct Comparison<'a> {
     pub compared: &'a Compared<'a>,
+    /// What is known of the files.
+    pub notes: &'a [String],
+    /// For each case whether no record is made for it; none where none are made.
+    pub left: &'a [bool],
     pub form: Form,
     pub listing: &'a Listing,
 }
@@ -28,6 +32,19 @@ fn words(found: &Found) -> &'static str {
 }
 
 impl Comparison<'_> {
+    /// The same, and that no record is made for the case.
+    fn words(&self, at: usize, found: &Found) -> String {
+        match self.left.get(at) {
+            Some(true) => format!("{}, left to you", words(found)),
+            _ => words(found).to_string(),
+        }
+    }
+
+    /// The cases found up to a number, each with its place.
+    fn listed(&self, most: usize) -> impl Iterator<Item = (usize, &Found)> {
+        self.compared.found.iter().enumerate().take(most)
+    }
+
     /// The record by which a case is shown.
     fn record(&self, found: &Found) -> &[u8] {
         match *found {
@@ -65,14 +82,16 @@ impl Comparison<'_> {
 
     pub fn put_text<W: Write>(&self, screen: &mut Screen<W>) -> io::Result<()> {
         let count = self.compared.found.len();
+        let mut notes = self.notes.iter();
+        notes.try_for_each(|note| screen.wrapped(Style::Warning, "  ", note, 4))?;
         if count == 0 {
             return Ok(());
         }
         let heading = ("case that is not the same", "cases that are not the same");
         self.listing.put_heading(screen, count, heading)?;
-        for found in self.compared.found.iter().take(self.listing.most) {
+        for (at, found) in self.listed(self.listing.most) {
             let (key, name) = (self.key(found), self.name(found));
-            let line = format!("{key}  {name}  {}", words(found));
+            let line = format!("{key}  {name}  {}", self.words(at, found));
             screen.line(Style::Error, &line)?;
             for (field, here, there) in self.fields(found) {
                 let name = field.name;
@@ -83,13 +102,20 @@ impl Comparison<'_> {
     }
 
     pub fn put_json<W: Write>(&self, json: &mut Json<W>) -> io::Result<()> {
+        json.name("notes")?;
+        json.begin_array()?;
+        self.notes.iter().try_for_each(|note| json.text(note))?;
+        json.end_array()?;
         json.name("cases")?;
         json.begin_array()?;
-        for found in self.compared.found.iter().take(self.listing.most_in_files) {
+        for (at, found) in self.listed(self.listing.most_in_files) {
             json.begin_object()?;
             json.text_of("key", &self.key(found))?;
             json.text_of("name", &self.name(found))?;
             json.text_of("found", words(found))?;
+            if let Some(&is_left) = self.left.get(at) {
+                json.text_of("left_to_you", if is_left { "yes" } else { "no" })?;
+            }
             json.name("fields")?;
             json.begin_array()?;
             for (field, here, there) in self.fields(found) {
@@ -120,14 +146,17 @@ impl Sheet for Comparison<'_> {
     }
 
     fn put_lines(&self, put: &mut Put) -> io::Result<()> {
-        for found in self.compared.found.iter().take(self.listing.most_in_files) {
+        for note in self.notes {
+            put(&["", note, "note", "", "", ""])?;
+        }
+        for (at, found) in self.listed(self.listing.most_in_files) {
             let (key, name) = (self.key(found), self.name(found));
-            let fields = self.fields(found);
+            let (words, fields) = (self.words(at, found), self.fields(found));
             if fields.is_empty() {
-                put(&[&key, &name, words(found), "", "", ""])?;
+                put(&[&key, &name, &words, "", "", ""])?;
             }
             for (field, here, there) in fields {
-                put(&[&key, &name, words(found), field.name, &here, &there])?;
+                put(&[&key, &name, &words, field.name, &here, &there])?;
             }
         }
         Ok(())
