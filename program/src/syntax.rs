@@ -188,6 +188,7 @@ was applied to MASTER before is not applied again without --again.",
             ),
             optional("--journal", "FILE", "the same"),
             NEW,
+            flag("--again", "judge it although it was applied before"),
             FORCE,
             MODE,
             WAIT,
@@ -207,7 +208,11 @@ was applied to MASTER before is not applied again without --again.",
         help: "\
 Says what `apply` would do with BATCH: whether it is ready to be sent, and what
 is to be fixed in which record, the first ten of them. No file is written or
-locked but those of --html and --csv.",
+locked but those of --html and --csv.
+
+A batch that was applied to MASTER before isn't ready, with status 3 as `apply`
+ends; so is any batch where MASTER.log may not be read. --again leaves the first
+out of account.",
         statuses: WRITES_WITH_REJECTS,
         run: commands::apply::check,
     },
@@ -394,10 +399,11 @@ lost.",
 Prints the row with this key, the first row being 1, and its fields. A deleted
 row (status D) is found like a live one.
 
-KEY is state, SSN and case type (A or N), twelve characters: OH123456789N. Of
-several keys, in any order, every one is answered, in the order given; they are
-looked up together, in one walk over MASTER. The status is then 6 where one
-isn't found, 2 where one is no key.
+KEY is state, SSN and case type (A or N), twelve characters: OH123456789N. A
+hyphen or space may stand between its parts: oh-123-45-6789-n. Of several keys,
+in any order, every one is answered, in the order given; they are looked up
+together, in one walk over MASTER. The status is then 6 where one isn't found, 2
+where one is no key.
 
 With --keys the keys are read from FILE, one in a line; - in the place of KEY or
 FILE is standard input. So no SSN stands in the list of processes or the shell's
@@ -606,8 +612,9 @@ hold SSNs whole, so standard output can't be a terminal without --full.",
         made: &["--html", "--csv"],
         help: "\
 Posts the lines of FILE to MASTER in file order, replaces MASTER whole with a
-line in MASTER.log, and lists the lines that are not posted. A file that was
-posted to MASTER before is not posted again without --again.",
+line in MASTER.log, and lists the lines that are not posted, each with why and
+what to do, and the cases that were closed. A file that was posted to MASTER
+before is not posted again without --again; --dry-run ends with 3 then, too.",
         statuses: WRITES_WITH_REJECTS,
         run: commands::post::run,
     },
@@ -734,7 +741,7 @@ converted: column 195 of a row is no character.",
             optional(
                 "--search",
                 "TEXT",
-                "show records with this name, SSN or case ID",
+                "show records with this name, SSN (or its end) or case ID",
             ),
             flag("--all", "go on behind a record that can't be of this KIND"),
             flag(
@@ -760,8 +767,13 @@ KIND is what FILE holds: master, batch, rejects, reconciliation, contacts (a
 contact file or table), collections or locals. It stops at the first record that
 can't be one of its KIND: a row that isn't sound, or a byte of another file that
 is no character. SSNs are masked by their columns; where FILE has a wrong length
-or line ends, or the last record of another KIND, every digit is masked, unless
---full is given.",
+or line ends, or the last record of another KIND, or a code of locals is none,
+every digit is masked, unless --full is given.
+
+--where compares amounts, local codes and years as numbers, and of exclusions
+finds rows that have each word; a comma without an equals sign behind it is part
+of the value. --search finds names as reports write them, too: SMITH, JOHN. With
+--count the first of those that are found are shown, and all are counted.",
         statuses: &[Status::Done, Status::Problem],
         run: commands::show::run,
     },

@@ -301,8 +301,14 @@ fn new_files_are_their_owners_alone() {
         let ran = run_wide(&folder, &arguments);
         assert!(ran.status < 2, "{arguments:?}: {ran:?}");
         assert_eq!(mode(&folder, made), 0o600, "{made}");
+        // a log may be read by who may read the master
         for name in folder.names().iter().filter(|name| name.ends_with(".log")) {
-            assert_eq!(mode(&folder, name), 0o600, "{name}");
+            let wanted = if name == "master.bin.log" {
+                0o644
+            } else {
+                0o600
+            };
+            assert_eq!(mode(&folder, name), wanted, "{name}");
         }
         let folder = all_files("access-wider");
         let ran = folder.run(&with(&arguments, &["--mode", "644"]));
@@ -312,6 +318,67 @@ fn new_files_are_their_owners_alone() {
             let ran = folder.run(&with(&arguments, &["--mode", wrong]));
             assert_eq!(ran.status, 3, "{wrong}");
         }
+    }
+}
+
+#[test]
+fn logs_go_by_their_masters() {
+    let apply = with(&APPLY, &["--new", "--mode", "640"]);
+    let first = Folder::with_example("access-log-new");
+    assert_eq!(first.run(&apply).status, 1);
+    for name in ["master.bin", "master.bin.log"] {
+        assert_eq!(mode(&first, name), 0o640, "{name}");
+    }
+    for (of_master, of_log) in [(0o600, 0o600), (0o640, 0o640), (0o660, 0o640)] {
+        let folder = folder("access-log");
+        set_mode(&folder, "two.bin", of_master);
+        assert_eq!(folder.run(&POST).status, 1);
+        assert_eq!(mode(&folder, "two.bin.log"), of_log);
+        // one that is there stays as it is
+        set_mode(&folder, "two.bin.log", 0o604);
+        assert_eq!(folder.run(&with(&POST, &["--again"])).status, 1);
+        assert_eq!(mode(&folder, "two.bin.log"), 0o604);
+    }
+    let with_acl = folder("access-log-acl");
+    if !set(&with_acl.path("two.bin"), ACL, &acl()) {
+        skipped("the disk takes no ACL");
+        return;
+    }
+    assert_eq!(with_acl.run(&POST).status, 1);
+    assert_eq!(mode(&with_acl, "two.bin.log"), 0o600);
+}
+
+/// What can't be known of the log is no "ready", but the report is printed.
+#[test]
+fn logs_that_may_not_be_read() {
+    let folder = folder("access-log-closed");
+    folder.write("batch.bin", &paper_batch());
+    folder.write("locals.bin", &[]);
+    assert_eq!(folder.run(&POST).status, 1);
+    set_mode(&folder, ".", 0o755);
+    for name in ["two.bin", "weekly.bin", "batch.bin", "locals.bin"] {
+        set_mode(&folder, name, 0o644);
+    }
+    set_mode(&folder, "two.bin.log", 0o600);
+    let mut check = CHECK;
+    check[1] = "two.bin";
+    let dry = with(&POST, &["--dry-run", "--again"]);
+    for (arguments, start) in [
+        (&check[..], "check: not ready: "),
+        (&dry, "post: would be stopped: "),
+    ] {
+        let mut command = folder.command(arguments);
+        command.uid(65_534).gid(65_534);
+        let Ok(output) = command.output() else {
+            skipped("no other user can run the program");
+            return;
+        };
+        let ran: Ran = output.into();
+        assert_eq!(ran.status, 3, "{ran:?}");
+        assert!(ran.out.starts_with(start), "{}", ran.out);
+        let words = "two.bin.log can't be read: permission denied: it may have been ";
+        assert!(ran.out.contains(words), "{}", ran.out);
+        assert!(ran.out.contains("\n  rows "), "{}", ran.out);
     }
 }
 

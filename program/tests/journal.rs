@@ -120,6 +120,38 @@ fn the_old_master_to_the_byte() {
     assert!(!log.contains("123456789"));
 }
 
+/// A posting between the batch and its take-back: the batch is out, and may be applied again.
+#[test]
+fn what_was_taken_back_anyway_may_be_applied_again() {
+    let folder = applied("journal-anyway");
+    let last = [
+        line("987654321", "A", "00000000100", "00000000000"),
+        total(0, 1),
+    ];
+    folder.write("last.bin", &last.concat());
+    assert_eq!(folder.run(&["post", "two.bin", "last.bin"]).status, 0);
+    assert_eq!(folder.run(&BACK).status, 3);
+    assert_eq!(folder.run(&with(&BACK, &["--anyway"])).status, 0);
+    let log = folder.run(&["log", "two.bin"]).out;
+    let became: Vec<&str> = log
+        .lines()
+        .filter(|line| line.starts_with("20"))
+        .filter_map(|line| line.split("  ").nth(1))
+        .collect();
+    let wanted = [
+        "apply: taken back",
+        "post: carried out",
+        "take-back: carried out",
+    ];
+    assert_eq!(became, wanted);
+    let check = [&["check"][..], &JOURNALED[1..7], &["--quiet"]].concat();
+    assert_eq!(folder.run(&check).out, "check: ready to send\n");
+    assert_eq!(folder.run(&with(&JOURNALED, &["--force"])).status, 0);
+    // the posting is in the master still
+    assert_eq!(folder.run(&["post", "two.bin", "last.bin"]).status, 3);
+    assert_eq!(folder.run(&check).status, 3);
+}
+
 #[test]
 fn what_was_taken_back_may_be_applied_again() {
     let folder = applied("journal-again");
@@ -205,7 +237,7 @@ fn a_master_that_was_changed_since() {
         folder.read("two.bin"),
         [&two_rows("00")[..200], &kept].concat()
     );
-    let wanted = ["carried out", "carried out", "carried out"];
+    let wanted = ["taken back", "carried out", "carried out"];
     assert_eq!(outcomes(&folder), wanted);
 }
 

@@ -84,8 +84,8 @@ const COMMANDS: [(&str, i32, &str); 45] = [
     ),
     (
         "check master.bin batch.bin --locals locals.bin --year 2007",
-        1,
-        "would be carried out",
+        3,
+        "would be stopped",
     ),
     (
         "apply master.bin batch.bin --locals locals.bin --year 2007 --rejects rejects.bin --new",
@@ -169,7 +169,8 @@ fn every_command() {
         assert_eq!(ran.status, status, "{arguments}: {ran:?}");
         assert_eq!(ran.err, "", "{arguments}");
         assert_eq!(value(&ran.out), "\n", "{arguments}: {}", ran.out);
-        let is_done = ["carried out", "would be carried out"].contains(&outcome);
+        let done = ["carried out", "would be carried out", "would be stopped"];
+        let is_done = done.contains(&outcome);
         let schema = if is_done { command } else { "problem" };
         let start = format!(
             "{{\"command\":\"{command}\",\"version\":\"{}\",\"schema\":\"{schema}.1\",\"outcome\":\"{outcome}\",\"status\":{status},",

@@ -112,8 +112,17 @@ fn no_rows_and_masters_that_are_refused() {
     unsound[200] = 0;
     folder.write("unsound.bin", &unsound);
     folder.write("short.bin", &master()[..599]);
+    let disordered = [&master()[..400], &master()[..200]].concat();
+    folder.write("disordered.bin", &disordered);
     for (master, words) in [
-        ("unsound.bin", "row 2 of 3 is the first"),
+        (
+            "unsound.bin",
+            "row 2 of 3 is the first that is not sound by itself",
+        ),
+        (
+            "disordered.bin",
+            "row 3 of 3 is the first whose key is not above the one before",
+        ),
         ("short.bin", "refused 3: "),
     ] {
         let ran = folder.run(&with(&["find", master], &keys));
@@ -135,6 +144,42 @@ fn no_rows_and_masters_that_are_refused() {
         assert_eq!(ran.status, 3, "{ran:?}");
         assert!(ran.err.contains(words), "{}", ran.err);
     }
+}
+
+/// What of a key is wrong, without the SSN.
+#[test]
+fn parts_that_are_wrong() {
+    let folder = folder("keys-parts");
+    for (key, words) in [
+        ("XX123456789N", "key XX*********N: its state 'XX' is none"),
+        (
+            "OH123456789X",
+            "key OH*****6789X: its case type 'X' is none",
+        ),
+        (
+            "OH000456789N",
+            "key OH*********N: its SSN is none: area 000",
+        ),
+        ("OH12345678N", "the key: it has 11 characters, and not 12"),
+    ] {
+        let one = folder.run(&["find", "master.bin", key]);
+        assert_eq!(one.status, 2, "{one:?}");
+        assert!(one.err.contains(&format!("\n  {words}\n")), "{}", one.err);
+        let both = folder.run(&["find", "master.bin", key, "OH123456789N"]);
+        assert!(both.out.contains(&format!("\n  {words}\n")), "{}", both.out);
+        let json = folder.run(&["find", "master.bin", key, key, "--json"]);
+        assert!(json.out.contains(&format!("\"fault\":\"{words}\"")));
+    }
+    let text = "\u{feff}OH123456789N\n  OH123456789N\noh-123-45-6789-n\n";
+    folder.write("keys.txt", text.as_bytes());
+    let read = folder.run(&["find", "master.bin", "--keys", "keys.txt"]);
+    for words in [
+        "  line     1\n  the key: a byte order mark stands before it: save the file as plain ASCII\n",
+        "  line     2\n  the key: it begins with a space, which is to go\n",
+    ] {
+        assert!(read.out.contains(words), "{}", read.out);
+    }
+    assert_eq!(read.out.matches("find: found\n").count(), 1);
 }
 
 #[test]

@@ -133,6 +133,63 @@ fn nothing_is_done_twice() {
     assert_eq!(folder.run(&["post", "other.bin", "weekly.bin"]).status, 1);
 }
 
+/// The verdict says that a batch was applied, in every form, and with a status that is not 0.
+#[test]
+fn checks_of_what_was_done() {
+    let folder = folder("log-checked");
+    let add = [(1, "OH"), (6, "900000001"), (30, "DOE"), (50, "JANE")];
+    let add = record(&[&add[..], &[(65, "00000030"), (73, "AN")]].concat());
+    folder.write("batch.bin", &[add, control(0, 1, 0, 30)].concat());
+    let check = |more: &[&str]| folder.run(&with(&CHECK, more));
+    assert_eq!(check(&["--quiet"]).out, "check: ready to send\n");
+    assert_eq!(folder.run(&APPLY).status, 0);
+    let start = "check: not ready: it was applied to master.bin before, at 20";
+    let quiet = check(&["--quiet"]);
+    assert_eq!(quiet.status, 3);
+    assert!(quiet.out.starts_with(start), "{}", quiet.out);
+    let page = check(&["--html", "page.html"]);
+    assert_eq!(page.status, 3);
+    let page = String::from_utf8(folder.read("page.html")).expect("it is text");
+    assert!(page.contains(&format!("<h1 class=\"bad\">{start}")));
+    let json = check(&["--json"]).out;
+    let members = "\"outcome\":\"would be stopped\",\"status\":3,\"verdict\":\"not ready: it was applied to master.bin before, at 20";
+    assert!(json.contains(members), "{json}");
+    // with --again as apply takes it: now the case is there, and A raises it
+    let again = check(&["--again", "--quiet"]);
+    assert!(!again.out.contains("applied"), "{}", again.out);
+    assert_ne!(again.status, 3);
+    // what is to be fixed is told too
+    folder.write("batch.bin", &paper_batch());
+    assert_eq!(folder.run(&with(&APPLY, &["--force"])).status, 1);
+    let both = check(&["--quiet"]);
+    assert_eq!(both.status, 3);
+    assert!(both.out.ends_with("Z; 1 record to fix\n"), "{}", both.out);
+}
+
+#[test]
+fn dry_runs_of_what_was_done() {
+    let folder = folder("log-posted");
+    assert_eq!(folder.run(&POST).status, 1);
+    let dry = folder.run(&with(&POST, &["--dry-run", "--quiet"]));
+    assert_eq!(dry.status, 3, "{dry:?}");
+    let start = "post: would be stopped: it was posted to two.bin before, at 20";
+    assert!(dry.out.starts_with(start), "{}", dry.out);
+    assert!(dry.out.ends_with("; nothing is written\n"), "{}", dry.out);
+    let again = folder.run(&with(&POST, &["--dry-run", "--again", "--quiet"]));
+    assert_eq!(again.status, 1, "{again:?}");
+}
+
+#[test]
+fn files_that_are_no_masters() {
+    let folder = folder("log-no-master");
+    for name in ["weekly.bin", "batch.bin"] {
+        let ran = folder.run(&["log", name]);
+        assert_eq!(ran.status, 3, "{ran:?}");
+        let words = "is no master, and has no log beside it";
+        assert!(ran.err.contains(words), "{}", ran.err);
+    }
+}
+
 #[test]
 fn a_copy_that_is_put_back_may_be_posted_to() {
     let folder = folder("log-back");

@@ -27,9 +27,13 @@ fn total_of(amounts: [&str; 4]) -> Vec<u8> {
 fn the_money_in_json() {
     let folder = folder("money-json", &weekly());
     let json = folder.run(&with(&POST, &["--json"])).out;
+    let file = "\"collections_in_file\":{\"in_file\":30.01,\"posted\":30.01,\"not_posted\":0.00},\"adjustments_in_file\":{\"in_file\":1.50,\"posted\":0.50,\"not_posted\":1.00},";
+    assert!(json.contains(file), "{json}");
+    let closed = "\"closed\":[{\"key\":\"OH*****6789N\",\"name\":\"SMITH, JOHN\",\"excess\":5.01}]";
+    assert!(json.contains(closed), "{json}");
     let money = "\"collections\":{\"collected\":30.01,\"applied\":25.00,\"excess\":5.01},\"adjusted\":0.50,\"balances_before\":125.00,\"balances_after\":100.50,\"equation\":\"125.00 before + 0.50 adjusted = 100.50 after + 30.01 collected - 5.01 excess\",\"cases_closed\":1,\"cases_with_excess\":1";
     assert!(json.contains(money), "{json}");
-    let line = "\"collection\":0.00,\"adjustment\":1.00,\"reason\":\"closed in this file\",\"reason_words\":\"the case was closed by line 3 of this file\"";
+    let line = "\"collection\":0.00,\"adjustment\":1.00,\"reason\":\"closed in this file\",\"reason_words\":\"the case was closed by line 3 of this file\",\"to_fix\":\"see by ";
     assert!(json.contains(line), "{json}");
 }
 
@@ -64,9 +68,55 @@ fn each_reason() {
         .skip(1)
         .map(|line| line.replace('"', ""))
         .collect();
-    assert_eq!(lines, reasons);
+    assert_eq!(lines.len(), reasons.len());
+    for (line, reason) in lines.iter().zip(reasons) {
+        // what to do stands behind the reason
+        let fix = line.strip_prefix(reason).expect("it has this reason");
+        assert!(fix.len() > 20 && fix.starts_with(','), "{line}");
+    }
     let sums = "  collections            999,999,999.99 = 100.00 applied + 999,999,899.99 excess\n  adjusted               99,999,974.99\n  balances before        125.00\n  balances after         99,999,999.99\n";
     assert!(ran.out.contains(sums), "{}", ran.out);
+}
+
+/// The cases that were closed, the largest excess first, ten of them where nothing else is asked for.
+#[test]
+fn cases_that_were_closed() {
+    let ssn = |n: usize| format!("{:09}", 900_000_001 + n);
+    let rows = (0..12).flat_map(|n| row(&format!("OH{}N", ssn(n)), "00000001", "00"));
+    let rows: Vec<u8> = rows.collect();
+    let lines = (0..12).flat_map(|n| line(&ssn(n), "N", &format!("{:011}", 100 + n), NONE));
+    let lines: Vec<u8> = lines.chain(total(0, 12)).collect();
+    let folder = folder("money-closed", &lines);
+    folder.write("two.bin", &rows);
+    let ran = folder.run(&POST);
+    assert_eq!(ran.status, 0, "{ran:?}");
+    let list = "\n12 cases closed, the first 10\nOH*****0012N  SMITH, JOHN  excess 0.11\nOH*****0011N  SMITH, JOHN  excess 0.10\n";
+    assert!(ran.out.contains(list), "{}", ran.out);
+    let rest = "\n2 more: --all lists them, --html FILE writes them to a page\n";
+    assert!(ran.out.ends_with(rest), "{}", ran.out);
+    let all = folder.run(&with(&POST, &["--all", "--html", "page.html"]));
+    assert!(
+        all.out.ends_with("\nOH*****0001N  SMITH, JOHN\n"),
+        "{}",
+        all.out
+    );
+    let page = String::from_utf8(folder.read("page.html")).expect("it is text");
+    assert!(page.contains("<h2>12 cases closed</h2>"), "{page}");
+    assert_eq!(page.matches("<td data-name=\"Excess\">").count(), 12);
+}
+
+/// Refusal 23 tells what is stated, what the library counts, and the difference.
+#[test]
+fn counts_that_differ() {
+    let mut file = weekly();
+    let at = file.len() - 240;
+    file.splice(at.., total(5, 2));
+    let folder = folder("money-counts", &file);
+    let ran = folder.run(&POST);
+    assert_eq!(ran.status, 2, "{ran:?}");
+    let text = ran.err.replace("\n    ", " ");
+    let words = "(35-49): stated 5, counted 2, difference 3";
+    assert!(text.contains(words) && !text.contains("(50-64):"), "{text}");
 }
 
 #[test]

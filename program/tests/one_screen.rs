@@ -88,8 +88,51 @@ fn the_first_ten_and_the_rest() {
     let json = |more: &[&str]| check(&folder, &with(&["--json"], more)).out;
     assert_eq!(json(&[]).matches("\"record\":").count(), 12);
     assert_eq!(json(&["--limit", "3"]).matches("\"record\":").count(), 3);
+    assert!(json(&[]).contains("],\"left_out\":0}"));
+    assert!(json(&["--limit", "3"]).contains("],\"left_out\":9}"));
+    let rest = "\n11 more: --all lists them; without --limit files have them too\n";
+    let (_, text) = listed(&["--limit", "1", "--csv", "list.csv"]);
+    assert!(text.ends_with(rest), "{text}");
     for wrong in [&["--limit", "x"][..], &["--limit", "1", "--all"]] {
         assert_eq!(check(&folder, wrong).status, 3);
+    }
+}
+
+/// Where a list is cut the records to fix come first, in files as in text.
+#[test]
+fn errors_come_first() {
+    let warned = |n| detail(n, &[(3, "999"), (65, "00000030AN")]);
+    let wrong = |n| detail(n, &[(65, "00000010MN")]);
+    let details = [warned(1), warned(2), wrong(3), warned(4), wrong(5)];
+    let folder = folder("screen-first", &details, 110);
+    let numbers = |limit: &str| {
+        let files = ["--html", "page.html", "--csv", "list.csv"];
+        let limit = ["--limit", limit, "--force", "--json"];
+        let ran = check(&folder, &with(&limit, &files));
+        let json = ran.out.split("{\"record\":").skip(1);
+        let json = json.map(|part| part[..1].to_string());
+        let csv = String::from_utf8(folder.read("list.csv")).expect("it is text");
+        let csv = csv.lines().skip(1).map(|line| line[..1].to_string());
+        let page = String::from_utf8(folder.read("page.html")).expect("it is text");
+        let caption = page
+            .split("<h2>")
+            .last()
+            .and_then(|part| part.split('<').next());
+        let caption = caption.unwrap_or_default().to_string();
+        (json.collect::<String>(), csv.collect::<String>(), caption)
+    };
+    for (limit, records, caption) in [
+        ("2", "35", "5 records with a code, the first 2"),
+        ("3", "351", "5 records with a code, the first 3"),
+        ("0", "", "5 records with a code, none of them listed"),
+        ("5", "12345", "5 records with a code"),
+    ] {
+        let wanted = (
+            records.to_string(),
+            records.to_string(),
+            caption.to_string(),
+        );
+        assert_eq!(numbers(limit), wanted, "{limit}");
     }
 }
 
@@ -107,13 +150,35 @@ fn dollars_and_codes() {
 fn offices() {
     let folder = missing_cases("screen-offices");
     let text = check(&folder, &["--by-office", "--limit", "1"]).out;
-    let table = "\nBy local office\noffice      to fix      warned\nblank            6           0\n003              6           0\n";
+    let table = "\nBy local office\noffice             to fix      warned\nno local code           6           0\n003                     6           0\n";
     assert!(text.contains(table), "{text}");
     // spaces stand before digits, so record 1 of the blank office comes first
     assert!(text.contains("\nrecord 1  OH*****0001N"), "{text}");
     let json = check(&folder, &["--by-office", "--json"]).out;
     let offices = "\"offices\":[{\"local_code\":\"\",\"to_fix\":6,\"warned\":0},{\"local_code\":\"003\",\"to_fix\":6,\"warned\":0}]";
     assert!(json.contains(offices), "{json}");
+}
+
+/// A record without a code goes by its case's row.
+#[test]
+fn offices_of_cases() {
+    let folder = Folder::with_example("screen-cases");
+    let mut rows = two_rows("00");
+    rows[12..15].copy_from_slice(&ebcdic("025"));
+    folder.write("master.bin", &rows);
+    let wrong = |ssn: &str| record(&[(1, "OH"), (6, ssn), (30, "DOE"), (65, "00000010MN")]);
+    let batch = [wrong("123456789"), wrong("200110001"), control(0, 2, 0, 20)];
+    folder.write("batch.bin", &batch.concat());
+    let ran = folder.run(&with(&CHECK, &["--by-office", "--html", "page.html"]));
+    let table = "no local code           1           0\n025                     1           0\n";
+    assert!(ran.out.contains(table), "{}", ran.out);
+    let line = "record 1  OH*****6789N  type M  DOE  office 025\n";
+    assert!(ran.out.contains(line), "{}", ran.out);
+    let page = String::from_utf8(folder.read("page.html")).expect("it is text");
+    let table = "<h2>By local office</h2>";
+    assert!(page.contains(table), "{page}");
+    let line = "<td data-name=\"Office\">025</td><td data-name=\"To fix\">1</td><td data-name=\"Warned\">0</td>";
+    assert!(page.contains(line), "{page}");
 }
 
 /// Each code with the field that it is about and the value that was sent.

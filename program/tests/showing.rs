@@ -10,9 +10,17 @@ fn folder(name: &str) -> Folder {
     let mut third = row("OH987654322N", "00000300", "00");
     third[15..18].copy_from_slice(&ebcdic("A-7"));
     third[30..35].copy_from_slice(&ebcdic("DOE  "));
-    folder.write("rows.bin", &[two_rows("00"), third].concat());
+    third[12..15].copy_from_slice(&ebcdic("025"));
+    let mut rows = [two_rows("00"), third].concat();
+    // TAX, and RET with TAX
+    rows[200 + EXCLUSIONS] = 0x10;
+    rows[400 + EXCLUSIONS] = 0x12;
+    folder.write("rows.bin", &rows);
     folder
 }
+
+/// Where the set of exclusions stands in a row.
+const EXCLUSIONS: usize = 194;
 
 const SHOW: [&str; 3] = ["show", "master", "rows.bin"];
 
@@ -49,7 +57,7 @@ fn fields_that_are_asked_for() {
 }
 
 /// Searches, each with the numbers of the rows that are shown, and what is said of their count.
-const SEARCHES: [(&[&str], &str, &str); 13] = [
+const SEARCHES: [(&[&str], &str, &str); 25] = [
     (
         &["--where", "obligor_last_name=smith"],
         "1,2",
@@ -68,7 +76,43 @@ const SEARCHES: [(&[&str], &str, &str); 13] = [
     (&["--search", "123-45-6789"], "1", "1 row found"),
     (&["--search", "a-7"], "3", "1 row found"),
     (&["--search", "john"], "1,2,3", "3 rows found"),
-    (&["--search", "john", "--count", "2"], "1,2", "2 rows found"),
+    (
+        &["--search", "john", "--count", "2"],
+        "1,2",
+        "3 rows found, the first 2 are shown",
+    ),
+    (
+        &["--search", "john", "--count", "1"],
+        "1",
+        "3 rows found, the first is shown",
+    ),
+    (
+        &["--where", "status=", "--count", "0"],
+        "",
+        "3 rows found, none is shown",
+    ),
+    (
+        &["--search", "john", "--count", "3"],
+        "1,2,3",
+        "3 rows found",
+    ),
+    (&["--where", "arrearage_amount=25"], "1", "1 row found"),
+    (&["--where", "arrearage_amount=2"], "", "0 rows found"),
+    (&["--where", "local_code=25"], "3", "1 row found"),
+    (
+        &["--where", "exclusion_indicators=tax"],
+        "2,3",
+        "2 rows found",
+    ),
+    (
+        &["--where", "exclusion_indicators=RET,TAX"],
+        "3",
+        "1 row found",
+    ),
+    (&["--where", "exclusion_indicators="], "1", "1 row found"),
+    (&["--search", "4321"], "2", "1 row found"),
+    (&["--search", "OH*****6789N"], "1", "1 row found"),
+    (&["--search", "doe, john"], "3", "1 row found"),
     (&["--search", "john", "--from", "2"], "2,3", "2 rows found"),
     (
         &["--search", "987654321", "--where", "case_type_indicator=A"],
@@ -99,6 +143,10 @@ fn records_by_their_values() {
     }
     let json = folder.run(&with(&SHOW, &["--search", "doe", "--json"])).out;
     assert_eq!(json.matches("\"record\":").count(), 1, "{json}");
+    assert!(json.ends_with("],\"found\":1}\n"), "{json}");
+    let first = ["--search", "john", "--count", "1", "--json"];
+    let json = folder.run(&with(&SHOW, &first)).out;
+    assert!(json.ends_with("],\"found\":3}\n"), "{json}");
 }
 
 #[test]
@@ -111,6 +159,29 @@ fn no_ssn_is_shown_by_a_search() {
             "{}",
             ran.out
         );
+    }
+}
+
+/// A file that is no list of local codes may have SSNs, three digits of which look like a code.
+#[test]
+fn lists_that_are_none() {
+    let folder = folder("showing-locals");
+    let show = |more: &[&str]| folder.run(&with(&["show", "locals", "codes.bin"], more));
+    folder.write("codes.bin", &ebcdic("003025"));
+    let ran = show(&[]);
+    assert_eq!(ran.status, 0, "{ran:?}");
+    assert!(ran.out.contains("003") && ran.out.contains("025"));
+    for file in [ebcdic("OH123456789N"), ascii(&ebcdic("OH123456789N"))] {
+        folder.write("codes.bin", &file);
+        let form: &[&str] = if file[0] == b'O' { &["--ascii"] } else { &[] };
+        let ran = show(form);
+        assert_eq!(ran.status, 3, "{ran:?}");
+        assert!(ran.out.contains("     1  OH*\n"), "{}", ran.out);
+        assert!(ran.out.contains("     3  ***\n"), "{}", ran.out);
+        let words =
+            "codes.bin: code 1 of 4 is not three digits: the file is no list of local codes";
+        assert!(ran.err.contains(words), "{}", ran.err);
+        assert!(show(&with(form, &["--full"])).out.contains("234"));
     }
 }
 

@@ -476,3 +476,37 @@ fn the_table_of_statuses_is_in_the_help() {
         .out
         .contains("\n  6  not found"));
 }
+
+/// MASTER and the other file in the wrong order.
+#[test]
+fn files_in_the_wrong_order() {
+    let folder = Folder::with_master("statuses-order");
+    folder.write("weekly.bin", &weekly());
+    folder.write("two.bin", &two_rows("00"));
+    let (mut check, mut apply) = (CHECK, APPLY);
+    (check[1], check[2]) = (check[2], check[1]);
+    (apply[1], apply[2]) = (apply[2], apply[1]);
+    let post = ["post", "weekly.bin", "two.bin"];
+    let back = ["take-back", "weekly.bin", "two.bin", "--dry-run"];
+    for arguments in [&check[..], &apply, &post, &back] {
+        let ran = folder.run(arguments);
+        assert_eq!(ran.status, 2, "{ran:?}");
+        let text = ran.err.replace("\n    ", " ");
+        let words = " looks like a master, and ";
+        assert!(text.contains(words), "{text}");
+        assert!(text.contains("MASTER comes first"), "{text}");
+    }
+    // a file that is none, before one that is none
+    let ran = folder.run(&["post", "weekly.bin", "batch.bin"]);
+    assert!(!ran.err.contains("comes first"), "{}", ran.err);
+}
+
+/// A state that the table has no code of.
+#[test]
+fn states_without_codes() {
+    let folder = Folder::new("statuses-codes");
+    folder.write("table.bin", &[]);
+    let ran = folder.run(&words("codes table.bin --state PA --out codes.bin"));
+    let words = "codes: carried out, but the table has no local code of PA\n";
+    assert!(ran.out.starts_with(words), "{ran:?}");
+}

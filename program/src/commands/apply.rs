@@ -7,7 +7,7 @@ use fantanolive::{journal_size, Counts, Refusal, ERRORS, RECORD, ROW};
 
 use crate::arguments::Arguments;
 use crate::code_page::{convert, Charset};
-use crate::commands::master::read_master;
+use crate::commands::master::{read_master, swapped};
 use crate::commands::output::{form_of, print};
 use crate::commands::report_files::{self, with_reports};
 use crate::failure::{counted, shown, Failure, Status};
@@ -56,8 +56,12 @@ pub fn check(arguments: &Arguments, progress: &Progress) -> Result<Status, Failu
     let files = Files::read(arguments, progress)?;
     let before = previous_run("apply", &master, &files.master, &files.batch)?;
     let judged = files.judge(arguments, progress)?;
-    let mut summary = judged.summary("check").would_be();
-    if let Some(time) = before {
+    let against = before.against("applied", arguments.path(0), arguments.flag("--again"));
+    let mut summary = judged.summary("check", against.as_deref()).would_be();
+    if against.is_some() {
+        summary = summary.stopped();
+    }
+    if let Some(time) = before.time() {
         summary = summary.text("applied before", time);
     }
     let verdicts = judged.verdicts(arguments, Charset::Ebcdic);
@@ -85,7 +89,7 @@ pub fn apply(arguments: &Arguments, progress: &Progress) -> Result<Status, Failu
     let charset = arguments.charset();
     judged.write_rejects_in(charset)?;
     let rows = &judged.master.bytes[..judged.counts.rows as usize * ROW];
-    let summary = judged.summary("apply");
+    let summary = judged.summary("apply", None);
     let mut staged = vec![outputs.stage_records("--rejects", progress, &judged.rejects, RECORD)?];
     if let Some(journal) = &judged.journal {
         record = record.with_journal(Path::new(arguments.needed("--journal")), journal);
@@ -172,6 +176,9 @@ impl Files {
 
     /// What is known of the files where the batch is refused.
     fn notes_of(&mut self, refusal: Refusal, full: bool) -> Vec<String> {
+        if let Some(swapped) = swapped(&self.master, &self.batch) {
+            return vec![swapped];
+        }
         let (batch, master) = (&self.batch, &mut self.master);
         let rows = master.records();
         match refusal {
@@ -205,12 +212,11 @@ impl Lent {
     }
 }
 
-/// What a person wants to know first of a batch.
-fn verdict_of(command: &str, to_fix: u64, counts: &Counts) -> String {
+/// What a person wants to know first of a batch; something may be against applying it.
+fn verdict_of(command: &str, to_fix: u64, counts: &Counts, against: Option<&str>) -> String {
     let records = |count| counted(count, "record");
     let words = match (command, to_fix) {
-        ("check", 0) => "ready to send".to_string(),
-        ("check", _) => format!("not ready: {} to fix", records(to_fix)),
+        ("check", _) => readiness(to_fix, against),
         (_, 0) => "carried out, no record rejected".to_string(),
         _ => format!("carried out, {} rejected", records(to_fix)),
     };
@@ -220,6 +226,20 @@ fn verdict_of(command: &str, to_fix: u64, counts: &Counts) -> String {
     };
     let free = nearly_full(counts.rows).map(|free| format!(", {} free", counted(free, "row")));
     format!("{words}{warned}{}", free.unwrap_or_default())
+}
+
+/// Whether a batch can be sent, and what is against it.
+fn readiness(to_fix: u64, against: Option<&str>) -> String {
+    let to_fix = match to_fix {
+        0 => None,
+        to_fix => Some(format!("{} to fix", counted(to_fix, "record"))),
+    };
+    let against = against.map(str::to_string);
+    let reasons: Vec<String> = against.into_iter().chain(to_fix).collect();
+    match &reasons[..] {
+        [] => "ready to send".to_string(),
+        reasons => format!("not ready: {}", reasons.join("; ")),
+    }
 }
 
 impl Judged {
@@ -234,12 +254,12 @@ impl Judged {
         })
     }
 
-    fn summary(&self, command: &'static str) -> Summary {
+    fn summary(&self, command: &'static str, against: Option<&str>) -> Summary {
         let to_fix = self.verdicts.iter().filter(|&v| v & ERRORS != 0).count() as u64;
         let form = Form::new(Charset::Ebcdic, Placeholder::Dot, false);
         let last = self.batch.last().unwrap_or_default();
         let mut summary = Summary::new(command, Status::of_rejects(to_fix > 0))
-            .verdict(verdict_of(command, to_fix, &self.counts))
+            .verdict(verdict_of(command, to_fix, &self.counts, against))
             .text("state", form.field(&control::STATE, last))
             .number("details", self.verdicts.len() as u64)
             .of_which("accepted", self.counts.accepted)
@@ -272,6 +292,7 @@ impl Judged {
             batch: &self.batch.bytes,
             verdicts: &self.verdicts,
             rejects: &self.rejects,
+            rows: &self.master.bytes[..self.counts.rows as usize * ROW],
             of_details: form_of(arguments, Charset::Ebcdic),
             of_rejects: form_of(arguments, charset),
             address: RefCell::new(AddressFaults::new()),

@@ -38,7 +38,12 @@ pub fn run(arguments: &Arguments, progress: &Progress) -> Result<Status, Failure
     }
     let staged = vec![outputs.stage_records("--out", progress, &out, LOCAL_CODE)?];
     let placed = outputs.put_in_place(staged)?;
-    let summary = Summary::new("codes", Status::Done)
+    let mut summary = Summary::new("codes", Status::Done);
+    if codes == 0 {
+        let what = format!("carried out, but the table has no local code of {state}");
+        summary = summary.verdict(what);
+    }
+    let summary = summary
         .text("state", state)
         .number("records", records as u64)
         .number("codes", codes)

@@ -53,10 +53,7 @@ pub fn run(arguments: &Arguments, progress: &Progress) -> Result<Status, Failure
     let form = form_of(arguments, Charset::Ebcdic);
     let reasons = RefCell::new(Reasons::new(&form));
     let reason = |_, record: &[u8], out: &mut String| reasons.borrow_mut().put(record, out);
-    let listed = Listed {
-        most_in_files: listing.most_in_files,
-        ..faulty(arguments, &updated.faulty, &file, &reason)
-    };
+    let listed = faulty(arguments, &updated.faulty, &file, &listing, &reason);
     let chart = report_files::chart(arguments, || chart_of(&updated.faulty, &file));
     let page = Page {
         about: report_files::about(arguments, &file.name()),
@@ -72,8 +69,8 @@ pub fn run(arguments: &Arguments, progress: &Progress) -> Result<Status, Failure
         arguments,
         progress,
         &summary,
-        |screen| listed.put_text(screen, &listing),
-        |json| listed.put_json(json, &listing),
+        |screen| listed.put_text(screen),
+        |json| listed.put_json(json),
     )
 }
 
@@ -160,6 +157,7 @@ fn faulty<'a>(
     arguments: &Arguments,
     numbers: &'a [u32],
     file: &'a Input,
+    listing: &'a Listing,
     reason: &'a PutReason<'a>,
 ) -> Listed<'a> {
     let mut notes = length::of_file(file);
@@ -175,8 +173,9 @@ fn faulty<'a>(
         put_line,
         fields: &FIELDS,
         heads: &["Record", "State", "Local code", "Agency name", "Reason"],
-        most_in_files: usize::MAX,
+        listing,
         reason,
+        fix: None,
         notes,
     }
 }

@@ -16,6 +16,7 @@ use crate::records::columns::row;
 use crate::records::field::Form;
 use crate::report::fields::{put_list, Members};
 use crate::report::json::Json;
+use crate::report::key_faults;
 use crate::report::notes;
 use crate::report::screen::{Screen, Style};
 use crate::report::summary::Summary;
@@ -25,12 +26,17 @@ pub fn run(arguments: &Arguments, progress: &Progress) -> Result<Status, Failure
     let mut master = read_master(arguments, 0, progress)?;
     progress.now("finding the cases");
     let counted = keys.counted;
+    let full = arguments.flag("--full");
+    let of_key = key_notes(&keys, full);
     let looked_up = match counted {
         None => look_up_one(keys, &master),
         Some(_) => look_up(keys, &master),
     };
     let (answers, comparisons) = looked_up.map_err(|refusal| {
-        let notes = notes_of(refusal, &mut master, arguments.flag("--full"));
+        let notes = match refusal {
+            Refusal::UnsoundKey => of_key,
+            _ => notes_of(refusal, &mut master, full),
+        };
         notes::refused(refusal, notes)
     })?;
     let found = Found {
@@ -42,6 +48,24 @@ pub fn run(arguments: &Arguments, progress: &Progress) -> Result<Status, Failure
     match counted {
         None => found.report_one(arguments, progress, &answers[0]),
         Some(counted) => found.report_all(arguments, progress, counted),
+    }
+}
+
+/// What is wrong with a key that is given alone.
+fn key_notes(keys: &Keys, full: bool) -> Vec<String> {
+    match (keys.counted, keys.list.first()) {
+        (None, Some(key)) => notes_on(key, full),
+        _ => Vec::new(),
+    }
+}
+
+/// What is wrong with a key, with the key where it is as long as one.
+fn notes_on(key: &Key, full: bool) -> Vec<String> {
+    let faults = key.faults().join("; ");
+    match key.bytes().try_into() {
+        _ if faults.is_empty() => Vec::new(),
+        Ok(bytes) => vec![format!("key {}: {faults}", key_faults::shown(bytes, full))],
+        Err(_) => vec![format!("the key: {faults}")],
     }
 }
 
@@ -132,6 +156,13 @@ impl Found<'_> {
             self.form.put_key(&key, bytes, &mut shown);
             shown
         })
+    }
+
+    /// What is wrong with what is no key.
+    fn fault(&self, answer: &Answer) -> Option<String> {
+        let is_none = answer.place == Err(Refusal::UnsoundKey);
+        let notes = is_none.then(|| notes_on(&answer.key, self.form.full));
+        notes.and_then(|notes| notes.into_iter().next())
     }
 
     /// The front of an answer: the key, and the row by its number, the first being 1.
@@ -236,6 +267,9 @@ impl Found<'_> {
                 Some(key) => screen.plain(&format!("  key      {key}"))?,
                 None => screen.plain(&format!("  {counted:<7}  {}", answer.key.number))?,
             }
+            if let Some(note) = self.fault(answer) {
+                screen.wrapped(Style::Plain, "  ", &note, 2)?;
+            }
         }
         Ok(())
     }
@@ -251,6 +285,9 @@ impl Found<'_> {
             json.number_of("status", answer.status() as u64)?;
             if let Some(key) = self.key(answer) {
                 json.text_of("key", &key)?;
+            }
+            if let Some(fault) = self.fault(answer) {
+                json.text_of("fault", &fault)?;
             }
             if let Ok(place) = answer.place {
                 json.number_of("row", place + 1)?;

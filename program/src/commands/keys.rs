@@ -9,8 +9,9 @@ use fantanolive::KEY;
 
 use crate::arguments::Arguments;
 use crate::code_page::argument;
-use crate::failure::{words, Failure, STANDARD};
+use crate::failure::{counted, words, Failure, STANDARD};
 use crate::files::read::open;
+use crate::report::key_faults;
 
 /// How much of a line is kept: more than a key has, so that the call refuses a longer one.
 const LONGEST: usize = 64;
@@ -18,29 +19,77 @@ const LONGEST: usize = 64;
 /// A key in EBCDIC, and its number among the arguments or lines, the first being 1.
 pub struct Key {
     pub number: u64,
-    /// None where it is longer or shorter than a key.
-    bytes: Option<[u8; KEY]>,
+    text: Text,
+}
+
+/// What was typed for a key.
+enum Text {
+    Key([u8; KEY]),
+    /// What is longer or shorter, in ASCII, and so no key.
+    Other(Box<Vec<u8>>),
+}
+
+/// Where the parts of a key begin behind the first, those of its SSN too.
+const PARTS: [usize; 4] = [2, 5, 7, 11];
+
+/// A text in upper case without a hyphen or a space between two parts: `oh 100-10-1000 a`.
+fn plain(text: &[u8]) -> Vec<u8> {
+    let mut plain = Vec::with_capacity(KEY);
+    let mut parted = 0;
+    for &byte in text {
+        let is_between = matches!(byte, b'-' | b' ') && PARTS.contains(&plain.len());
+        match is_between && plain.len() > parted {
+            true => parted = plain.len(),
+            false => plain.push(byte.to_ascii_uppercase()),
+        }
+    }
+    plain
 }
 
 impl Key {
-    /// That of a text in ASCII; its letters may be lower case, and its SSN may have hyphens.
+    /// That of a text in ASCII; its letters may be lower case, and hyphens or spaces may stand between its parts.
     fn of(number: u64, text: &[u8]) -> Key {
-        // OH123-45-6789N
-        let has_hyphens = text.len() == KEY + 2 && text[5] == b'-' && text[8] == b'-';
-        let is_kept = |(place, _): &(usize, &u8)| !has_hyphens || ![5, 8].contains(place);
-        let plain = text.iter().enumerate().filter(is_kept);
-        let plain: Vec<u8> = plain.map(|(_, byte)| byte.to_ascii_uppercase()).collect();
-        Key {
-            number,
-            bytes: argument(&plain).try_into().ok(),
-        }
+        let key = argument(&plain(text)).try_into();
+        let text = key.map_or_else(|_| Text::Other(Box::new(text.to_vec())), Text::Key);
+        Key { number, text }
     }
 
     /// What is lent to the calls: nothing where it is longer or shorter, which they refuse as they refuse that.
     pub fn bytes(&self) -> &[u8] {
-        self.bytes.as_ref().map_or(&[], |bytes| bytes)
+        match &self.text {
+            Text::Key(bytes) => bytes,
+            Text::Other(_) => &[],
+        }
+    }
+
+    /// What is wrong with it; nothing where it is a key.
+    pub fn faults(&self) -> Vec<String> {
+        match &self.text {
+            Text::Key(bytes) => key_faults::of_key(bytes),
+            Text::Other(text) => vec![wrong_length(text)],
+        }
     }
 }
+
+/// What is wrong with a text that is longer or shorter than a key, with the cause where it is known.
+fn wrong_length(text: &[u8]) -> String {
+    if text.starts_with(MARK) {
+        return "a byte order mark stands before it: save the file as plain ASCII".to_string();
+    }
+    let is_space = |byte: Option<&u8>| matches!(byte, Some(b' ' | b'\t'));
+    match (is_space(text.first()), is_space(text.last())) {
+        (true, _) => "it begins with a space, which is to go".to_string(),
+        (_, true) => "it ends with a space, which is to go".to_string(),
+        _ if text.len() >= LONGEST => format!("it has {LONGEST} characters or more, and not {KEY}"),
+        _ => format!(
+            "it has {}, and not {KEY}",
+            counted(text.len() as u64, "character")
+        ),
+    }
+}
+
+/// The byte order mark of UTF-8.
+const MARK: &[u8] = b"\xEF\xBB\xBF";
 
 /// The keys, and what their numbers count; none where it is one key alone.
 pub struct Keys {
@@ -134,6 +183,39 @@ mod tests {
     fn lines(mut text: &[u8]) -> Vec<Vec<u8>> {
         let next = || next_line(&mut text).expect("a text is read");
         std::iter::from_fn(next).collect()
+    }
+
+    #[test]
+    fn keys_with_and_without_what_parts_them() {
+        let wanted = argument(b"OH100101000A");
+        for text in [
+            "OH100101000A",
+            "oh100-10-1000a",
+            "oh-100-10-1000-a",
+            "oh 100 10 1000 a",
+            "oh 100101000-a",
+        ] {
+            assert_eq!(Key::of(1, text.as_bytes()).bytes(), wanted, "{text}");
+        }
+        for (text, fault) in [
+            ("OH10010100A", "it has 11 characters, and not 12"),
+            ("OH1-00101000A", "it has 13 characters, and not 12"),
+            ("OH--100101000A", "it has 14 characters, and not 12"),
+            (" OH100101000A", "it begins with a space, which is to go"),
+            ("OH100101000A ", "it ends with a space, which is to go"),
+            (
+                "\u{feff}OH100101000A",
+                "a byte order mark stands before it: save the file as plain ASCII",
+            ),
+        ] {
+            let key = Key::of(1, text.as_bytes());
+            assert_eq!(
+                (key.bytes(), key.faults()),
+                (&[][..], vec![fault.to_string()])
+            );
+        }
+        let long = Key::of(1, &[b'1'; LONGEST]);
+        assert_eq!(long.faults(), ["it has 64 characters or more, and not 12"]);
     }
 
     #[test]

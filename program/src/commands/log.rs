@@ -7,6 +7,7 @@ use std::path::Path;
 use crate::arguments::Arguments;
 use crate::commands::output::print;
 use crate::failure::{grouped, shown, Failure, Status};
+use crate::files::protect::looks_like_master;
 use crate::files::read::unread;
 use crate::files::target::Target;
 use crate::log::history::{outcomes, read_log, Outcome};
@@ -23,6 +24,10 @@ pub fn run(arguments: &Arguments, progress: &Progress) -> Result<Status, Failure
     let is_gone = !target.exists();
     if is_gone && runs.is_empty() {
         return Err(Failure::file(&target.given, "no such file"));
+    }
+    if runs.is_empty() && !looks_like_master(&target)? {
+        let what = "is no master, and has no log beside it; `fantanolive log MASTER` wants the master itself";
+        return Err(Failure::file(&target.given, what));
     }
     // a first run that was cut off has a log and no master
     let now = match is_gone {
@@ -79,7 +84,7 @@ fn print_of_file(path: &Path, progress: &Progress) -> Result<Option<String>, Fai
 fn put_text<W: Write>(screen: &mut Screen<W>, runs: &[(Run, Outcome)]) -> io::Result<()> {
     if runs.is_empty() {
         screen.plain("")?;
-        screen.plain("no run is logged")?;
+        screen.plain("no run is logged: there is no log, or an empty one")?;
     }
     for (run, outcome) in runs {
         screen.plain("")?;

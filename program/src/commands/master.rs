@@ -7,6 +7,7 @@ use crate::code_page::Charset;
 use crate::failure::Failure;
 use crate::files::length;
 use crate::files::outputs::expect;
+use crate::files::protect::reads_as_master;
 use crate::files::read::{read_with_room, Input};
 use crate::files::target::Target;
 use crate::progress::Progress;
@@ -33,6 +34,19 @@ pub fn read_master(
         expect(&Target::of(path)?, arguments)?;
     }
     Ok(master)
+}
+
+/// That the other file of a command looks like a master and MASTER doesn't: they may have been given in the wrong order.
+pub fn swapped(master: &Input, other: &Input) -> Option<String> {
+    let is_master = |input: &Input| reads_as_master(&input.bytes[..input.read], input.length);
+    let is_swapped = master.length > 0 && !is_master(master) && is_master(other);
+    is_swapped.then(|| {
+        format!(
+            "{} looks like a master, and {} doesn't: MASTER comes first",
+            other.name(),
+            master.name()
+        )
+    })
 }
 
 /// What is known of a master that was refused; none for other refusals.

@@ -16,15 +16,17 @@ use crate::files::target::Target;
 use crate::log::record::{previous_run, Record};
 use crate::memory::zeros;
 use crate::progress::Progress;
-use crate::records::columns::{line, total, Field};
+use crate::records::columns::{line, Field};
 use crate::records::field::{Form, Placeholder};
 use crate::records::kinds::COLLECTIONS;
 use crate::records::line_reasons::{self, Reason};
-use crate::records::money::{total_notes, Money};
+use crate::records::money::{total_notes, ClosedCase, Money};
 use crate::report::html::Page;
 use crate::report::listed::{Listed, PutReason};
 use crate::report::listing::Listing;
 use crate::report::notes;
+use crate::report::post_totals::of_counts;
+use crate::report::posting::{counts_of, Posting};
 use crate::report::summary::Summary;
 
 /// The members of a listed line in JSON.
@@ -39,7 +41,7 @@ const FIELDS: [(&str, Field); 7] = [
 ];
 
 /// The names of its columns in files.
-const HEADS: [&str; 9] = [
+const HEADS: [&str; 10] = [
     "Line",
     "State",
     "SSN",
@@ -49,6 +51,7 @@ const HEADS: [&str; 9] = [
     "Collection",
     "Adjustment",
     "Reason",
+    "To fix",
 ];
 
 /// A collection file that was posted in memory.
@@ -59,6 +62,8 @@ struct Posted {
     listed: Vec<u32>,
     reasons: Vec<Reason>,
     money: Money,
+    /// The cases that are closed.
+    closed: Vec<ClosedCase>,
     /// What is noted of the last record.
     notes: Vec<String>,
 }
@@ -103,8 +108,13 @@ fn dry_run(arguments: &Arguments, progress: &Progress) -> Result<Status, Failure
         true => "nothing is written",
         false => "only the report is written",
     };
+    let against = before.against("posted", arguments.path(0), arguments.flag("--again"));
     let mut summary = posted.summary(Some(written)).would_be();
-    if let Some(time) = before {
+    if let Some(against) = against {
+        let verdict = format!("would be stopped: {against}; {written}");
+        summary = summary.verdict(verdict).stopped();
+    }
+    if let Some(time) = before.time() {
         summary = summary.text("posted before", time);
     }
     let staged = posted.stage_reports(&outputs, arguments, progress, &summary)?;
@@ -139,12 +149,13 @@ impl Posted {
             rows: &master.bytes,
             read: &|row, bytes| master.read_again(row * ROW, bytes),
         };
-        let (reasons, money) = (posted.reasons()?, Money::of(&posted)?);
+        let (reasons, (money, closed)) = (posted.reasons()?, Money::of(&posted)?);
         let notes = total_notes(posted.lines, file.last().unwrap_or_default());
         Ok(Posted {
             listed: list,
             reasons,
             money,
+            closed,
             notes,
             master,
             file,
@@ -153,16 +164,9 @@ impl Posted {
 
     /// How many lines have each reason, for a chart.
     fn chart(&self) -> Vec<(String, u64, String)> {
-        let mut counts: Vec<(String, u64, String)> = Vec::new();
-        for reason in &self.reasons {
-            let name = reason.name();
-            match counts.iter_mut().find(|(other, ..)| other == name) {
-                Some((_, count, _)) => *count += 1,
-                None => counts.push((name.to_string(), 1, String::new())),
-            }
-        }
-        counts.sort_by_key(|(_, count, _)| std::cmp::Reverse(*count));
-        counts
+        let bar =
+            |(name, count, fix): (&str, u64, &str)| (name.to_string(), count, fix.to_string());
+        counts_of(&self.reasons).into_iter().map(bar).collect()
     }
 
     fn put_reason(
@@ -189,6 +193,22 @@ impl Posted {
             .of_which("posted", lines - listed)
             .of_which("not posted", listed)
             .money_sum(
+                "collections in file",
+                ("in file", money.collected + money.not_posted[0]),
+                &[
+                    ("posted", money.collected),
+                    ("not posted", money.not_posted[0]),
+                ],
+            )
+            .money_sum(
+                "adjustments in file",
+                ("in file", money.adjusted + money.not_posted[1]),
+                &[
+                    ("posted", money.adjusted),
+                    ("not posted", money.not_posted[1]),
+                ],
+            )
+            .money_sum(
                 "collections",
                 ("collected", money.collected),
                 &[("applied", money.applied()), ("excess", money.excess())],
@@ -201,14 +221,15 @@ impl Posted {
             .number("cases with excess", money.with_excess)
     }
 
-    /// The lines that are not posted.
-    fn listed<'a>(
+    /// The lines that are not posted, and the cases that are closed.
+    fn posting<'a>(
         &'a self,
         arguments: &Arguments,
-        listing: &Listing,
+        (form, listing): (&'a Form, &'a Listing),
         reason: &'a PutReason<'a>,
-    ) -> Listed<'a> {
-        Listed {
+        fix: &'a dyn Fn(usize) -> &'static str,
+    ) -> Posting<'a> {
+        let listed = Listed {
             heading: ("line not posted", "lines not posted"),
             member: "listed",
             numbers: &self.listed,
@@ -217,9 +238,18 @@ impl Posted {
             put_line,
             fields: &FIELDS,
             heads: &HEADS,
-            most_in_files: listing.most_in_files,
+            listing,
             reason,
+            fix: Some(fix),
             notes: self.notes.clone(),
+        };
+        Posting {
+            listed,
+            reasons: &self.reasons,
+            closed: &self.closed,
+            rows: &self.master.bytes,
+            form,
+            listing,
         }
     }
 
@@ -234,15 +264,17 @@ impl Posted {
         let form = Form::new(Charset::Ebcdic, Placeholder::Dot, arguments.flag("--full"));
         let why =
             |place, record: &[u8], out: &mut String| self.put_reason(&form, place, record, out);
-        let listed = self.listed(arguments, &Listing::of(arguments)?, &why);
+        let fix = |place: usize| self.reasons[place].fix();
+        let listing = Listing::of(arguments)?;
+        let posting = self.posting(arguments, (&form, &listing), &why, &fix);
         let page = Page {
             about: report_files::about(arguments, &self.file.name()),
             chart: (
                 "Lines not posted",
                 report_files::chart(arguments, || self.chart()),
             ),
-            notes: listed.notes.clone(),
-            list: &listed,
+            notes: self.notes.clone(),
+            list: &posting,
             full: arguments.flag("--full"),
         };
         report_files::stage(outputs, arguments, progress, summary, &page)
@@ -258,13 +290,14 @@ impl Posted {
         let form = form_of(arguments, Charset::Ebcdic);
         let why =
             |place, record: &[u8], out: &mut String| self.put_reason(&form, place, record, out);
-        let listed = self.listed(arguments, &listing, &why);
+        let fix = |place: usize| self.reasons[place].fix();
+        let posting = self.posting(arguments, (&form, &listing), &why, &fix);
         print(
             arguments,
             progress,
             summary,
-            |screen| listed.put_text(screen, &listing),
-            |json| listed.put_json(json, &listing),
+            |screen| posting.put_text(screen),
+            |json| posting.put_json(json),
         )
     }
 }
@@ -283,12 +316,12 @@ fn verdict_of(listed: u64, written: Option<&str>) -> String {
 
 /// What is known of the files where posting is refused.
 fn refused(refusal: Refusal, master: &mut Input, file: &Input, full: bool) -> Failure {
-    let totals = [total::ADJUSTMENTS, total::COLLECTIONS];
+    if let Some(swapped) = master::swapped(master, file) {
+        return notes::refused(refusal, vec![swapped]);
+    }
     let notes = match refusal {
         Refusal::WrongFile => length::of_file(file),
-        Refusal::WrongTotal => {
-            [length::of_file(file), notes::of_last_record(file, &totals)].concat()
-        }
+        Refusal::WrongTotal => [length::of_file(file), of_counts(file)].concat(),
         _ => master::notes_of(refusal, master, full),
     };
     notes::refused(refusal, notes)

@@ -4,8 +4,9 @@ use std::io::{self, Write};
 use std::ops::Range;
 
 use crate::arguments::Arguments;
+use crate::code_page::argument;
 use crate::commands::output::{form_of, printed, warn};
-use crate::failure::{counted, headed, Failure, Status, STANDARD};
+use crate::failure::{counted, grouped, headed, Failure, Status, STANDARD};
 use crate::files::length::{of_length, too_long};
 use crate::files::protect;
 use crate::files::read::{read, Input};
@@ -13,10 +14,11 @@ use crate::nearest::nearest;
 use crate::progress::Progress;
 use crate::records::columns::{Field, Layout};
 use crate::records::field::{Form, Placeholder};
-use crate::records::kinds::{FileKind, KINDS, MASTER};
+use crate::records::kinds::{FileKind, KINDS, LOCALS, MASTER};
 use crate::records::selection::{field_of, Selection};
 use crate::report::fields::{in_order, put_list, Members, Table};
 use crate::report::json::Json;
+use crate::report::notes;
 use crate::report::screen::{Screen, Style};
 use crate::report::summary::Summary;
 
@@ -121,10 +123,33 @@ fn cut_off(input: &Input, range: Range<usize>, form: &Form) -> (Range<usize>, Op
     (range, None)
 }
 
+/// That a file that is to be a list of local codes is none: the first code that the library doesn't take by itself. Slices of
+/// SSNs may stand there then.
+fn of_codes(input: &Input) -> Option<String> {
+    if input.kind.name != LOCALS.name {
+        return None;
+    }
+    let is_code = |number: &usize| {
+        let record = input.record(*number);
+        match input.charset.is_ascii() {
+            true => notes::is_code(&argument(record)),
+            false => notes::is_code(record),
+        }
+    };
+    let number = (0..input.records()).find(|number| !is_code(number))?;
+    Some(format!(
+        "{}: code {} of {} is not three digits: the file is no list of local codes",
+        input.name(),
+        number + 1,
+        input.records()
+    ))
+}
+
 /// What is wrong with the length, or the kind; an empty file has nothing to show. Without --full digits are masked then.
 fn warning_of(input: &Input, form: &Form) -> Option<String> {
     let mut notes = of_length(input);
     notes.extend(of_kind(input, form));
+    notes.extend(of_codes(input));
     let is_wrong = input.length > 0 && !notes.is_empty();
     if !form.full {
         let masked = "digits are masked, since an SSN may stand in any column; --full shows them";
@@ -221,13 +246,26 @@ fn fields_of(
 }
 
 impl Shown<'_> {
-    /// The numbers of the records that are asked for.
+    /// The numbers of the records that are asked for, those that are not shown too.
     fn numbers(&self, range: Range<usize>) -> impl Iterator<Item = usize> + '_ {
         let is_wanted = |number: &usize| {
             let record = self.input.record(*number);
             self.selection.has(self.input.kind.fields, record)
         };
-        range.filter(is_wanted).take(self.most)
+        range.filter(is_wanted)
+    }
+
+    /// `150 rows found, the first 2 are shown`.
+    fn found(&self, found: u64) -> String {
+        let record = self.input.kind.record;
+        let words = (record, &*format!("{record}s"));
+        let all = headed(found, words);
+        match (found > self.most as u64, self.most) {
+            (false, _) => format!("{all} found"),
+            (true, 0) => format!("{all} found, none is shown"),
+            (true, 1) => format!("{all} found, the first is shown"),
+            (true, most) => format!("{all} found, the first {} are shown", grouped(most as u64)),
+        }
     }
 
     /// The fields of the last record, where it is one of its own and is among those shown.
@@ -270,7 +308,8 @@ impl Shown<'_> {
         };
         let mut table = Table::new(&columns);
         let mut shown = 0;
-        for number in self.numbers(self.range.start..end) {
+        let mut numbers = self.numbers(self.range.start..end);
+        for number in numbers.by_ref().take(self.most) {
             if as_list {
                 self.put_listed(screen, number, &all)?;
             } else {
@@ -282,8 +321,8 @@ impl Shown<'_> {
             shown += 1;
         }
         if !self.selection.is_all() {
-            let words = (kind.record, &*format!("{}s", kind.record));
-            screen.plain(&format!("{} found", headed(shown, words)))?;
+            let found = shown + numbers.count() as u64;
+            screen.plain(&self.found(found))?;
         }
         if let Some(fields) = last {
             if !as_list && shown > 0 {
@@ -327,7 +366,9 @@ impl Shown<'_> {
         let all = Members::of(&all);
         json.name("shown")?;
         json.begin_array()?;
-        for number in self.numbers(self.range.start..end) {
+        let mut numbers = self.numbers(self.range.start..end);
+        let mut shown = 0;
+        for number in numbers.by_ref().take(self.most) {
             let is_last = number + 1 == self.input.records();
             let members = last.as_ref().filter(|_| is_last).unwrap_or(&all);
             json.begin_object()?;
@@ -335,7 +376,12 @@ impl Shown<'_> {
             json.name("fields")?;
             members.put(json, self.input.record(number), &self.form)?;
             json.end_object()?;
+            shown += 1;
         }
-        json.end_array()
+        json.end_array()?;
+        match self.selection.is_all() {
+            true => Ok(()),
+            false => json.number_of("found", shown + numbers.count() as u64),
+        }
     }
 }

@@ -153,6 +153,9 @@ fn notes_of(
     record: Option<&Record>,
     full: bool,
 ) -> Vec<String> {
+    if let Some(swapped) = master::swapped(master, journal) {
+        return vec![swapped];
+    }
     if refusal != Refusal::WrongJournal {
         return master::notes_of(refusal, master, full);
     }

@@ -61,6 +61,18 @@ impl Access {
         self.about.mode() & 0o200 == 0
     }
 
+    /// Who may read it, for a file beside it, which the owner alone writes; none but the owner where an ACL says more than the mode.
+    pub fn mode(&self) -> u32 {
+        let has_acl = self.attributes.iter().any(|(name, _)| &**name == ACL);
+        self.about.mode() & if has_acl { 0o600 } else { 0o644 }
+    }
+
+    /// Whether a file has the same group.
+    pub fn has_group_of(&self, file: &File) -> bool {
+        let own = file.metadata();
+        own.is_ok_and(|own| own.gid() == self.about.gid())
+    }
+
     /// Gives a file the owner and group of this one as far as that may be.
     pub fn share_owner(&self, file: &File) {
         let _ = fchown(file, Some(self.about.uid()), Some(self.about.gid()));

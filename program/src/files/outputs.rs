@@ -11,6 +11,7 @@ use fantanolive::RECORD;
 
 use crate::arguments::Arguments;
 use crate::failure::{shown, Failure, STANDARD};
+use crate::files::access::Access;
 use crate::files::lock::Lock;
 use crate::files::protect::may_be_made;
 use crate::files::replace::{
@@ -255,11 +256,14 @@ impl Outputs {
         })
     }
 
-    /// Writes the log of the state under its temporary name. It is its owner's alone, and the owner is that of the state.
+    /// Writes the log of the state under its temporary name. A new one has the owner and the mode of the state, or where that is
+    /// new too the mode of new files, so that who may read the one may ask the other. No SSN is in it.
     pub fn stage_log(&self, progress: &Progress, bytes: &[u8]) -> Result<Staged<'static>, Failure> {
         let access = self.master().access();
         let new = NewFile {
-            mode: OWNER_ALONE,
+            mode: access
+                .as_ref()
+                .map_or(self.mode.unwrap_or(OWNER_ALONE), Access::mode),
             owner: access.as_ref(),
         };
         let log = self.master().log_target()?;

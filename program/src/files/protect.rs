@@ -61,6 +61,19 @@ fn front_of(target: &Target) -> io::Result<(u64, Vec<u8>)> {
     Ok((length, front))
 }
 
+/// Whether what was read of a file is a master by its length and its front.
+pub fn reads_as_master(bytes: &[u8], length: u64) -> bool {
+    let front = &bytes[..bytes.len().min(FRONT)];
+    length > 0 && length.is_multiple_of(ROW as u64) && is_master(&front[..front.len() / ROW * ROW])
+}
+
+/// Whether a file is a master by its length and its front; one without a row may become one.
+pub fn looks_like_master(target: &Target) -> Result<bool, Failure> {
+    let read = front_of(target).map_err(|error| unread(&target.given, &error));
+    let (length, front) = read?;
+    Ok(length.is_multiple_of(ROW as u64) && (front.is_empty() || is_master(&front)))
+}
+
 /// Sees that a file to be made is not there, or with --force that it is nothing that is kept.
 pub fn may_be_made(target: &Target, force: bool) -> Result<(), Failure> {
     if !target.exists() {

@@ -161,12 +161,17 @@ fn create(temporary: &Path) -> io::Result<File> {
     })
 }
 
-/// Gives a file its mode when it is written, so that no one reads a part of it. The mode is set as it is given, whatever the umask.
+/// Gives a file its mode when it is written, so that no one reads a part of it. The mode is set as it is given, whatever the umask. Where
+/// it can't have the group that it should, it is its owner's alone.
 fn finish(file: &File, new: &NewFile) -> io::Result<()> {
+    let mut mode = new.mode;
     if let Some(access) = new.owner {
         access.share_owner(file);
+        if !access.has_group_of(file) {
+            mode = OWNER_ALONE;
+        }
     }
-    file.set_permissions(Permissions::from_mode(new.mode))
+    file.set_permissions(Permissions::from_mode(mode))
 }
 
 /// Writes a new file under its temporary name and has it on the disk, with the access of the old one.

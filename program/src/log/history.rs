@@ -4,8 +4,9 @@ use std::fs;
 use std::io;
 use std::path::Path;
 
-use crate::failure::{words, Failure};
+use crate::failure::{shown, words, Failure};
 use crate::log::line::Run;
+use crate::log::take_backs::TakeBacks;
 
 /// The command whose runs take others back.
 pub const TAKE_BACK: &str = "take-back";
@@ -38,6 +39,13 @@ impl Outcome {
     }
 }
 
+/// That the log at a path may not be read by this user, in words; none where it may, or where there is none.
+pub fn closed(path: &Path) -> Option<String> {
+    let error = fs::File::open(path).err()?;
+    let is_closed = error.kind() == io::ErrorKind::PermissionDenied;
+    is_closed.then(|| format!("{} can't be read: {}", shown(path), words(&error)))
+}
+
 /// The runs of the log at a path, in order; none where there is no log. A log that can't be read stops a run, since it may
 /// hold what must not be done twice.
 pub fn read_log(path: &Path) -> Result<(Vec<u8>, Vec<Run>), Failure> {
@@ -62,13 +70,12 @@ pub fn read_log(path: &Path) -> Result<(Vec<u8>, Vec<Run>), Failure> {
 
 /// What became of each run, by the fingerprint that the master has now. From the last run back: one that leaves what is there
 /// was carried out, and what it began with was there before it. Where what is there is older than a run, that run is not in it.
-/// A batch is taken back where the run behind it is a take-back that leaves what was there before the batch.
+/// A batch is taken back where a take-back behind it has its journal, or leaves what was there before the batch.
 pub fn outcomes(runs: &[Run], now: Option<&str>) -> Vec<Outcome> {
     let mut outcomes = vec![Outcome::Unknown; runs.len()];
     let mut there = now;
     let mut open = runs.len();
-    // what the take-backs left whose batches stand in front
-    let mut left: Vec<&Option<String>> = Vec::new();
+    let mut take_backs = TakeBacks::of(runs);
     for (number, run) in runs.iter().enumerate().rev() {
         let is_after = run.after.as_deref() == there;
         if !is_after && run.before.as_deref() != there {
@@ -76,15 +83,9 @@ pub fn outcomes(runs: &[Run], now: Option<&str>) -> Vec<Outcome> {
         }
         outcomes[number..open].fill(Outcome::NotCarriedOut);
         if is_after {
-            let mut is_taken_back = false;
-            if run.command == TAKE_BACK {
-                left.push(&run.after);
-            } else {
-                is_taken_back = left.pop() == Some(&run.before);
-            }
-            outcomes[number] = match is_taken_back {
-                true => Outcome::TakenBack,
-                false => Outcome::CarriedOut,
+            outcomes[number] = match run.command == TAKE_BACK {
+                true => take_backs.add(number),
+                false => take_backs.outcome(number),
             };
             there = run.before.as_deref();
         }
@@ -97,6 +98,7 @@ pub fn outcomes(runs: &[Run], now: Option<&str>) -> Vec<Outcome> {
 mod tests {
     use super::Outcome::{CarriedOut, NotCarriedOut, TakenBack, Unknown};
     use super::*;
+    use crate::log::line::InputPrint;
 
     fn run(before: Option<&str>, after: &str) -> Run {
         Run {
@@ -144,6 +146,129 @@ mod tests {
         // one that did not leave what was there before the run in front of it
         let runs = [run(Some("a"), "b"), back("b", Some("c"))];
         assert_eq!(outcomes(&runs, Some("c")), [CarriedOut; 2]);
+    }
+
+    /// The fingerprint of a file of a kind that bears a name.
+    fn print_of(name: &str) -> InputPrint {
+        InputPrint {
+            kind: "journal".to_string(),
+            name: name.to_string(),
+            sha256: name.to_string(),
+        }
+    }
+
+    /// The counts of a run that left so many rows more than there were.
+    fn rows(more: u64) -> Vec<(String, u64)> {
+        vec![
+            ("rows_before".to_string(), 7),
+            ("rows".to_string(), 7 + more),
+        ]
+    }
+
+    /// A batch that leads from one master to another, with as many rows, and wrote a journal.
+    fn batch(before: &str, after: &str, journal: &str) -> Run {
+        Run {
+            command: "apply".to_string(),
+            counts: rows(0),
+            journal: Some(print_of(journal)),
+            ..run(Some(before), after)
+        }
+    }
+
+    /// A take-back with a journal.
+    fn back_with(before: &str, after: &str, journal: &str) -> Run {
+        Run {
+            inputs: vec![print_of(journal)],
+            counts: rows(0),
+            before: Some(before.to_string()),
+            after: Some(after.to_string()),
+            ..Run::now(TAKE_BACK)
+        }
+    }
+
+    #[test]
+    fn runs_taken_back_by_their_journals() {
+        // a posting between the batch and its take-back
+        let mut runs = vec![
+            batch("a", "b", "j"),
+            run(Some("b"), "c"),
+            back_with("c", "d", "j"),
+        ];
+        assert_eq!(
+            outcomes(&runs, Some("d")),
+            [TakenBack, CarriedOut, CarriedOut]
+        );
+        // the take-back was cut off
+        assert_eq!(
+            outcomes(&runs, Some("c")),
+            [CarriedOut, CarriedOut, NotCarriedOut]
+        );
+        // the same batch again has a journal of its own
+        runs.push(batch("d", "e", "k"));
+        let wanted = [TakenBack, CarriedOut, CarriedOut, CarriedOut];
+        assert_eq!(outcomes(&runs, Some("e")), wanted);
+        // the same journal twice: one batch for each take-back
+        let runs = [
+            batch("a", "b", "j"),
+            back_with("b", "a", "j"),
+            batch("a", "b", "j"),
+            run(Some("b"), "c"),
+            back_with("c", "d", "j"),
+        ];
+        let wanted = [TakenBack, CarriedOut, TakenBack, CarriedOut, CarriedOut];
+        assert_eq!(outcomes(&runs, Some("d")), wanted);
+    }
+
+    /// A journal names rows by their places, which a batch between may have changed.
+    #[test]
+    fn rows_that_changed_their_places() {
+        let longer = Run {
+            counts: rows(1),
+            ..batch("b", "c", "k")
+        };
+        let mut runs = vec![batch("a", "b", "j"), longer, back_with("c", "d", "j")];
+        let wanted = [Unknown, CarriedOut, CarriedOut];
+        assert_eq!(outcomes(&runs, Some("d")), wanted);
+        // it left what was there before the batch
+        runs[2] = back_with("c", "a", "j");
+        let wanted = [TakenBack, CarriedOut, CarriedOut];
+        assert_eq!(outcomes(&runs, Some("a")), wanted);
+    }
+
+    /// The rows of a later journal have the first batch in them, which comes back with them.
+    #[test]
+    fn a_batch_that_a_later_journal_brings_back() {
+        let runs = [
+            batch("a", "b", "j"),
+            batch("b", "c", "k"),
+            back_with("c", "d", "j"),
+            back_with("d", "e", "k"),
+        ];
+        let wanted = [Unknown, TakenBack, CarriedOut, CarriedOut];
+        assert_eq!(outcomes(&runs, Some("e")), wanted);
+        // so does a journal that no run of the log wrote
+        let runs = [
+            batch("a", "b", "j"),
+            run(Some("b"), "c"),
+            back_with("c", "d", "j"),
+            back_with("d", "e", "x"),
+        ];
+        let wanted = [Unknown, CarriedOut, CarriedOut, CarriedOut];
+        assert_eq!(outcomes(&runs, Some("e")), wanted);
+        // one behind the take-back, or before the batch, doesn't
+        let runs = [
+            batch("z", "a", "i"),
+            batch("a", "b", "j"),
+            run(Some("b"), "c"),
+            back_with("c", "d", "j"),
+            batch("d", "e", "k"),
+            back_with("e", "d", "k"),
+            back_with("d", "f", "i"),
+        ];
+        let wanted = [
+            TakenBack, TakenBack, CarriedOut, CarriedOut, TakenBack, CarriedOut, CarriedOut,
+        ];
+        assert_eq!(outcomes(&runs, Some("f")), wanted);
     }
 
     #[test]

@@ -7,7 +7,8 @@ use crate::arguments::Arguments;
 use crate::failure::{shown, Failure};
 use crate::files::read::Input;
 use crate::files::target::Target;
-use crate::log::history::{outcomes, read_log};
+use crate::log::before::Before;
+use crate::log::history::{closed, outcomes, read_log};
 use crate::log::line::{InputPrint, Run};
 use crate::log::sha256::sha256;
 use crate::records::kinds::{FileKind, JOURNAL};
@@ -67,26 +68,31 @@ fn taken_before(
 }
 
 /// The same by the log of a master, for a run that writes nothing. Fingerprints of large files take seconds, so none is taken
-/// that can't matter: first the log is to have a run with as many records, then one with the same input.
+/// that can't matter: first the log is to have a run with as many records, then one with the same input. A log that this user
+/// may not read stops no such run, but leaves it unknown.
 pub fn previous_run(
     command: &str,
     target: &Target,
     master: &Input,
     input: &Input,
-) -> Result<Option<String>, Failure> {
+) -> Result<Before, Failure> {
+    if let Some(why) = closed(&target.log()) {
+        return Ok(Before::Unread(why));
+    }
     let (_, runs) = read_log(&target.log())?;
     let details = input.records().saturating_sub(1) as u64;
     let may_be_same = |run: &&Run| run.command == command && run.may_count(details);
     let mut alike = runs.iter().filter(may_be_same).peekable();
     if alike.peek().is_none() {
-        return Ok(None);
+        return Ok(Before::Never);
     }
     let sha256 = print_of_input(input).sha256;
     if !alike.any(|run| run.takes(&sha256)) {
-        return Ok(None);
+        return Ok(Before::Never);
     }
     let before = master_print(printed(master));
-    Ok(taken_before(&runs, command, &sha256, &before))
+    let taken = taken_before(&runs, command, &sha256, &before);
+    Ok(taken.map_or(Before::Never, Before::At))
 }
 
 impl Record {

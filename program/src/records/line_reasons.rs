@@ -42,6 +42,17 @@ impl Reason {
         }
     }
 
+    /// What to do with a line that has it.
+    pub fn fix(&self) -> &'static str {
+        match self {
+            Reason::NoAmount(_) => "ask who sent the file for the amount: eleven digits, the last two of them cents",
+            Reason::TwoAmounts => "ask who sent the file which of the two is meant: a line posts one",
+            Reason::NoCase => "check state, SSN and case type; `fantanolive show master MASTER --search NAME` looks for a name",
+            Reason::ClosedBefore | Reason::ClosedByLine(_) => "see by `fantanolive find MASTER KEY` what the case has; what the line has is in no balance, and is to be settled by hand",
+            Reason::TooLarge(_) => "check the adjustment: a balance has eight digits of dollars",
+        }
+    }
+
     /// Writes what is to be known of a line with this reason.
     pub fn put_words(&self, form: &Form, record: &[u8], out: &mut String) {
         match self {
@@ -353,6 +364,9 @@ mod tests {
                     continue;
                 }
             };
+            for (sum, amount) in money.not_posted.iter_mut().zip(amounts) {
+                *sum += amount.unwrap_or_default();
+            }
             listed.push((number, reason));
         }
         money.after = cases.values().map(|case| case.0).sum();
@@ -381,12 +395,17 @@ mod tests {
                 },
             };
             let reasons = posted.reasons().expect("it can be read");
-            let money = Money::of(&posted).expect("it can be read");
+            let (money, closed) = Money::of(&posted).expect("it can be read");
             let (by_hand, wanted, excess) = by_the_paper(&before, lines);
             let found: Vec<(u32, Reason)> = list.iter().copied().zip(reasons).collect();
             assert_eq!(found, by_hand);
             assert_eq!(money, wanted);
             assert_eq!(money.excess(), excess);
+            assert_eq!(closed.iter().map(|case| case.excess).sum::<u64>(), excess);
+            for case in closed {
+                let row = &after[case.row as usize * ROW..][..ROW];
+                assert_eq!(row::STATUS.of(row), argument(b"D"));
+            }
             let sides = (money.before + money.adjusted, money.after + money.applied());
             assert_eq!(sides.0, sides.1);
         }

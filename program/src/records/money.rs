@@ -4,7 +4,8 @@
 use fantanolive::{KEY, LINE, ROW};
 
 use super::amounts::{balance_of, cents_of, money, number_of};
-use super::columns::{line, row, total, Field};
+use super::columns::row::STATUS;
+use super::columns::{line, total, Field};
 use super::key_map::KeyMap;
 use super::line_reasons::{key_of, Posted};
 use crate::code_page::{argument, code};
@@ -17,13 +18,23 @@ pub struct Money {
     pub after: u64,
     pub collected: u64,
     pub adjusted: u64,
+    /// What the lines that are not posted have of collections and of adjustments, where those are amounts.
+    pub not_posted: [u64; 2],
     /// The cases that the file closed, and those of them that were sent more than was owed.
     pub closed: u64,
     pub with_excess: u64,
 }
 
-/// A case that the file closed: what was owed with the adjustments, and what was collected.
+/// A case that the file closed: the place of its row, the first being 0, and what was collected beyond what it owed.
+#[derive(Clone, Copy, Debug, PartialEq, Eq)]
+pub struct ClosedCase {
+    pub row: u32,
+    pub excess: u64,
+}
+
+/// The same while the lines are added up: what was owed with the adjustments, and what was collected.
 struct Closed {
+    row: u32,
     owed: u64,
     collected: u64,
 }
@@ -32,15 +43,20 @@ struct Closed {
 const PART: usize = 1 << 11;
 
 impl Money {
-    /// That of a posting.
-    pub fn of(posted: &Posted) -> Result<Money, Failure> {
+    /// That of a posting, and the cases that are closed, those with the largest excess first.
+    pub fn of(posted: &Posted) -> Result<(Money, Vec<ClosedCase>), Failure> {
         let mut money = Money::default();
         let mut closed = money.take_rows(posted)?;
         money.take_lines(posted, &mut closed);
-        money.closed = closed.len() as u64;
-        let with_excess = closed.values().filter(|case| case.collected > case.owed);
-        money.with_excess = with_excess.count() as u64;
-        Ok(money)
+        let case = |case: Closed| ClosedCase {
+            row: case.row,
+            excess: case.collected.saturating_sub(case.owed),
+        };
+        let mut cases: Vec<ClosedCase> = closed.into_values().map(case).collect();
+        cases.sort_unstable_by_key(|case| (std::cmp::Reverse(case.excess), case.row));
+        money.closed = cases.len() as u64;
+        money.with_excess = cases.iter().filter(|case| case.excess > 0).count() as u64;
+        Ok((money, cases))
     }
 
     /// Adds up the balances; the answer is the cases that are closed.
@@ -53,14 +69,22 @@ impl Money {
             let part = &mut part[..PART.min(rows - first) * ROW];
             (posted.read)(first, part)?;
             let behind = posted.rows[first * ROW..].chunks_exact(ROW);
-            for (old, new) in part.chunks_exact(ROW).zip(behind) {
+            for ((row, old), new) in (first as u32..).zip(part.chunks_exact(ROW)).zip(behind) {
                 let owed = balance_of(old);
                 self.before += owed;
                 self.after += balance_of(new);
-                if row::STATUS.of(old) == live && row::STATUS.of(new) != live {
+                if STATUS.of(old) == live && STATUS.of(new) != live {
                     let mut key = [0; KEY];
                     key.copy_from_slice(&old[..KEY]);
-                    closed.insert(key, Closed { owed, collected: 0 });
+                    let collected = 0;
+                    closed.insert(
+                        key,
+                        Closed {
+                            row,
+                            owed,
+                            collected,
+                        },
+                    );
                 }
             }
         }
@@ -72,6 +96,10 @@ impl Money {
         let mut listed = posted.listed.iter().peekable();
         for (number, record) in (1..).zip(posted.lines.chunks_exact(LINE)) {
             if listed.next_if(|next| **next == number).is_some() {
+                let amounts = [line::COLLECTION, line::ADJUSTMENT];
+                for (sum, field) in self.not_posted.iter_mut().zip(amounts) {
+                    *sum += cents_of(field.of(record)).unwrap_or_default();
+                }
                 continue;
             }
             // amounts of a line that is posted are right

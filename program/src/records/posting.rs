@@ -100,6 +100,12 @@ fn post_line(rows: &mut [u8], count: usize, record: &[u8]) -> Option<([bool; 2],
     None
 }
 
+/// Which of the amounts of a line, the collection and the adjustment, the library counts as above zero.
+pub fn above_zero(record: &[u8]) -> [bool; 2] {
+    // it counts them before it looks for a case
+    post_line(&mut [], 0, record).map_or([false; 2], |(above, _)| above)
+}
+
 /// A live case of 25 dollars, of which a small line can't be too much.
 const USUAL: Case = Case {
     balance: 2500,
@@ -129,8 +135,7 @@ impl LineFaults {
     /// The fault of a line; none where it has none. The rule knows no others than that an amount is none, or that both are above
     /// zero.
     pub fn of(&mut self, record: &[u8]) -> Option<Fault> {
-        // the library counts the amounts above zero before it looks for a case
-        let above = post_line(&mut [], 0, record).map_or([false; 2], |(above, _)| above);
+        let above = above_zero(record);
         if above == [true, true] {
             return Some(Fault::TwoAmounts);
         }

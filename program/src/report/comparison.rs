@@ -2,7 +2,6 @@
 
 use std::io::{self, Write};
 
-use crate::failure::headed;
 use crate::records::columns::{rec, Field};
 use crate::records::compared::{Compared, Found, COMPARED_FIELDS, KEY_FIELDS};
 use crate::records::field::Form;
@@ -20,6 +19,9 @@ pub struct Comparison<'a> {
     pub form: Form,
     pub listing: &'a Listing,
 }
+
+/// What one case of the list is, and what several are.
+const HEADING: (&str, &str) = ("case that is not the same", "cases that are not the same");
 
 /// What was found of a case, in words.
 fn words(found: &Found) -> &'static str {
@@ -87,8 +89,7 @@ impl Comparison<'_> {
         if count == 0 {
             return Ok(());
         }
-        let heading = ("case that is not the same", "cases that are not the same");
-        self.listing.put_heading(screen, count, heading)?;
+        self.listing.put_heading(screen, count, HEADING)?;
         for (at, found) in self.listed(self.listing.most) {
             let (key, name) = (self.key(found), self.name(found));
             let line = format!("{key}  {name}  {}", self.words(at, found));
@@ -128,17 +129,16 @@ impl Comparison<'_> {
             json.end_array()?;
             json.end_object()?;
         }
-        json.end_array()
+        json.end_array()?;
+        let count = self.compared.found.len();
+        self.listing.put_left_out(json, count)
     }
 }
 
 impl Sheet for Comparison<'_> {
     fn caption(&self) -> String {
-        let count = self.compared.found.len() as u64;
-        headed(
-            count,
-            ("case that is not the same", "cases that are not the same"),
-        )
+        let count = self.compared.found.len();
+        self.listing.caption(count, HEADING)
     }
 
     fn heads(&self) -> &'static [&'static str] {

@@ -7,7 +7,7 @@ use fantanolive::VERSION;
 
 use crate::failure::{grouped, Status};
 use crate::mask::masked;
-use crate::report::sheet::Sheet;
+use crate::report::sheet::{Sheet, Small};
 use crate::report::summary::Summary;
 
 const STYLE: &str = include_str!("page.css");
@@ -57,6 +57,9 @@ impl Page<'_> {
         self.put_front(summary, out)?;
         self.put_counts(summary, out)?;
         self.put_chart(out)?;
+        for small in self.list.before() {
+            self.put_small(&small, out)?;
+        }
         self.put_list(out)?;
         for note in &self.notes {
             writeln!(out, "<p>{}</p>", self.text(note))?;
@@ -111,18 +114,29 @@ impl Page<'_> {
         writeln!(out, "</table>")
     }
 
-    fn put_list(&self, out: &mut dyn Write) -> io::Result<()> {
-        let heads = self.list.heads();
-        let caption = self.list.caption();
+    /// The caption of a table, the names of its columns, and the start of its body.
+    fn put_heads(&self, caption: &str, heads: &[&str], out: &mut dyn Write) -> io::Result<()> {
+        let caption = self.text(caption);
         writeln!(
             out,
-            "<h2>{}</h2>\n<table class=\"list\">\n<thead><tr>",
-            self.text(&caption)
+            "<h2>{caption}</h2>\n<table class=\"list\">\n<thead><tr>"
         )?;
         for head in heads {
             write!(out, "<th>{}</th>", escaped(head))?;
         }
-        writeln!(out, "</tr></thead>\n<tbody>")?;
+        writeln!(out, "</tr></thead>\n<tbody>")
+    }
+
+    /// A table that stands before the list.
+    fn put_small(&self, small: &Small, out: &mut dyn Write) -> io::Result<()> {
+        self.put_heads(&small.caption, small.heads, out)?;
+        (small.put_lines)(&mut |cells| self.put_line(small.heads, cells, out))?;
+        writeln!(out, "</tbody>\n</table>")
+    }
+
+    fn put_list(&self, out: &mut dyn Write) -> io::Result<()> {
+        let heads = self.list.heads();
+        self.put_heads(&self.list.caption(), heads, out)?;
         let mut record: Option<String> = None;
         self.list.put_lines(&mut |cells| {
             // the lines of a record, which begin alike, stay on one printed page

@@ -2,7 +2,6 @@
 
 use std::io::{self, Write};
 
-use crate::failure::headed;
 use crate::files::read::Input;
 use crate::number::put_number;
 use crate::records::columns::{Field, Kind};
@@ -29,8 +28,10 @@ pub struct Listed<'a> {
     pub fields: &'a [(&'static str, Field)],
     /// The names of its columns in files: its number, these fields, and the reason.
     pub heads: &'static [&'static str],
-    pub most_in_files: usize,
+    pub listing: &'a Listing,
     pub reason: &'a PutReason<'a>,
+    /// What to do with a record, by its place in the list; its column stands behind the reason.
+    pub fix: Option<&'a dyn Fn(usize) -> &'static str>,
     /// What is said below the list.
     pub notes: Vec<String>,
 }
@@ -47,7 +48,8 @@ impl Listed<'_> {
         self.numbers.iter().enumerate().map(record)
     }
 
-    pub fn put_text<W: Write>(&self, screen: &mut Screen<W>, listing: &Listing) -> io::Result<()> {
+    pub fn put_text<W: Write>(&self, screen: &mut Screen<W>) -> io::Result<()> {
+        let listing = self.listing;
         if self.numbers.is_empty() {
             return self.put_notes(screen);
         }
@@ -78,11 +80,11 @@ impl Listed<'_> {
         Ok(())
     }
 
-    pub fn put_json<W: Write>(&self, json: &mut Json<W>, listing: &Listing) -> io::Result<()> {
+    pub fn put_json<W: Write>(&self, json: &mut Json<W>) -> io::Result<()> {
         json.name(self.member)?;
         json.begin_array()?;
         let mut text = String::new();
-        for (place, number, record) in self.records().take(listing.most_in_files) {
+        for (place, number, record) in self.records().take(self.listing.most_in_files) {
             json.begin_object()?;
             json.number_of(self.file.kind.record, u64::from(number))?;
             self.put_members(json, record, &mut text)?;
@@ -90,9 +92,13 @@ impl Listed<'_> {
             let name = (self.reason)(place, record, &mut text);
             json.text_of("reason", name)?;
             json.text_of("reason_words", &text)?;
+            if let Some(fix) = self.fix {
+                json.text_of("to_fix", fix(place))?;
+            }
             json.end_object()?;
         }
         json.end_array()?;
+        self.listing.put_left_out(json, self.numbers.len())?;
         json.name("notes")?;
         json.begin_array()?;
         for note in &self.notes {
@@ -123,7 +129,7 @@ impl Listed<'_> {
 
 impl Sheet for Listed<'_> {
     fn caption(&self) -> String {
-        headed(self.numbers.len() as u64, self.heading)
+        self.listing.caption(self.numbers.len(), self.heading)
     }
 
     fn heads(&self) -> &'static [&'static str] {
@@ -131,13 +137,14 @@ impl Sheet for Listed<'_> {
     }
 
     fn put_lines(&self, put: &mut Put) -> io::Result<()> {
-        for (place, number, record) in self.records().take(self.most_in_files) {
+        for (place, number, record) in self.records().take(self.listing.most_in_files) {
             let values = self.fields.iter();
             let values = values.map(|(_, field)| self.form.field(field, record));
             let cells = [number.to_string()].into_iter().chain(values);
             let mut words = String::new();
             (self.reason)(place, record, &mut words);
-            let cells: Vec<String> = cells.chain([words]).collect();
+            let fix = self.fix.map(|fix| fix(place).to_string());
+            let cells: Vec<String> = cells.chain([words]).chain(fix).collect();
             let cells: Vec<&str> = cells.iter().map(String::as_str).collect();
             put(&cells)?;
         }

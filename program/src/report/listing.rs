@@ -3,7 +3,8 @@
 use std::io::{self, Write};
 
 use crate::arguments::Arguments;
-use crate::failure::{headed, Failure};
+use crate::failure::{grouped, headed, Failure};
+use crate::report::json::Json;
 use crate::report::screen::{Screen, Style};
 
 /// How many records are listed where nothing else is said.
@@ -51,6 +52,40 @@ impl Listing {
         }
     }
 
+    /// How many records a list in a file is of, and how many of them it has.
+    pub fn caption(&self, count: usize, words: (&str, &str)) -> String {
+        let heading = headed(count as u64, words);
+        match (count > self.most_in_files, self.most_in_files) {
+            (false, _) => heading,
+            (true, 0) => format!("{heading}, none of them listed"),
+            (true, most) => format!("{heading}, the first {}", grouped(most as u64)),
+        }
+    }
+
+    /// How many records a list in JSON doesn't have.
+    pub fn put_left_out<W: Write>(&self, json: &mut Json<W>, count: usize) -> io::Result<()> {
+        let left_out = count.saturating_sub(self.most_in_files);
+        json.number_of("left_out", left_out as u64)
+    }
+
+    /// Where the cases are that are not listed: a page has them, and CSV the records alone.
+    pub fn put_rest_of_cases<W: Write>(
+        &self,
+        screen: &mut Screen<W>,
+        count: usize,
+    ) -> io::Result<()> {
+        let rest = count.saturating_sub(self.most);
+        if rest == 0 {
+            return Ok(());
+        }
+        let more = headed(rest as u64, ("more", "more"));
+        let place = match self.most_in_files < count {
+            true => "--all lists them",
+            false => "--all lists them, --html FILE writes them to a page",
+        };
+        screen.plain(&format!("{more}: {place}"))
+    }
+
     /// Where the records are that are not listed.
     pub fn put_rest<W: Write>(&self, screen: &mut Screen<W>, count: usize) -> io::Result<()> {
         let rest = count.saturating_sub(self.most);
@@ -58,8 +93,10 @@ impl Listing {
             return Ok(());
         }
         let more = headed(rest as u64, ("more", "more"));
-        screen.plain(&format!(
-            "{more}: --all lists them, --html FILE and --csv FILE write them to a file"
-        ))
+        let place = match self.most_in_files < count {
+            true => "--all lists them; without --limit files have them too",
+            false => "--all lists them, --html FILE and --csv FILE write them to a file",
+        };
+        screen.plain(&format!("{more}: {place}"))
     }
 }

@@ -62,7 +62,13 @@ pub fn of_rows(master: &mut Input, rows: usize, full: bool) -> Vec<String> {
         let bytes = &master.bytes[part.start * ROW..part.end * ROW];
         find(bytes, part.len(), &[]) == Err(Refusal::UnsoundRow)
     };
-    vec![row_note(master, first_row(rows, unsound), full)]
+    let number = first_row(rows, unsound);
+    // the rows before it are right: alone it is refused for itself
+    let what = match unsound(number - 1..number) {
+        true => "that is not sound by itself",
+        false => "whose key is not above the one before",
+    };
+    vec![row_note(master, number, what, full)]
 }
 
 /// Notes on a master that add-cents refused by 4.
@@ -72,25 +78,35 @@ pub fn of_old_rows(master: &Input, rows: usize) -> Vec<String> {
         return vec![format!("{path}: the rows have their cents already")];
     }
     let mut copy = Vec::new();
-    let unsound = |part: Range<usize>| {
+    let mut unsound = |part: Range<usize>| {
         // a call that is carried out changes the rows
         copy.clear();
         copy.extend_from_slice(&master.bytes[part.start * ROW..part.end * ROW]);
         add_cents(&mut copy, part.len()) == Err(Refusal::UnsoundRow)
     };
-    vec![row_note(master, first_row(rows, unsound), false)]
+    let number = first_row(rows, &mut unsound);
+    let what = match unsound(number - 1..number) {
+        true => "that is not sound by itself",
+        false => "whose key is not above the one before",
+    };
+    vec![row_note(master, number, what, false)]
 }
 
-/// The number and key of a row, the first being 1.
-fn row_note(master: &Input, number: usize, full: bool) -> String {
+/// The number and key of a row, the first being 1, and what is wrong with it.
+fn row_note(master: &Input, number: usize, what: &str, full: bool) -> String {
     let mut key = String::new();
     let record = &master.bytes[(number - 1) * ROW..number * ROW];
     form(full).put_key(&[row::STATE, row::SSN, row::CASE_TYPE], record, &mut key);
     format!(
-        "{}: row {number} of {} is the first that is not sound, or whose key is not above the one before: key {key}",
+        "{}: row {number} of {} is the first {what}: key {key}",
         master.name(),
         master.length / ROW as u64,
     )
+}
+
+/// Whether the library takes a code as a list by itself.
+pub fn is_code(code: &[u8]) -> bool {
+    apply(&mut [], 0, &[], code, 2000, &mut [], &mut []) != Err(Refusal::WrongLocals)
 }
 
 /// Notes on a list of local codes that was refused by 2.

@@ -5,7 +5,22 @@ use std::io;
 /// Takes the cells of a line.
 pub type Put<'a> = dyn FnMut(&[&str]) -> io::Result<()> + 'a;
 
+/// A table that stands before the list, on a page alone.
+pub struct Small<'a> {
+    pub caption: String,
+    pub heads: &'static [&'static str],
+    pub put_lines: PutLines<'a>,
+}
+
+/// Gives out the lines of a table.
+pub type PutLines<'a> = Box<dyn Fn(&mut Put) -> io::Result<()> + 'a>;
+
 pub trait Sheet {
+    /// The tables that a page has before this one.
+    fn before(&self) -> Vec<Small<'_>> {
+        Vec::new()
+    }
+
     /// What the table is of.
     fn caption(&self) -> String;
 

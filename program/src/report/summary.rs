@@ -91,6 +91,13 @@ impl Summary {
         self
     }
 
+    /// Of a run that writes nothing, where one that writes would be stopped.
+    pub fn stopped(mut self) -> Summary {
+        self.status = Status::Problem;
+        self.outcome = "would be stopped";
+        self
+    }
+
     fn item(mut self, name: &'static str, value: Value, level: usize) -> Summary {
         self.items.push(Item { name, value, level });
         self

@@ -3,12 +3,13 @@
 use std::cell::RefCell;
 use std::io;
 
-use fantanolive::{code_text, codes, has_code, ERRORS, RECORD, WARNINGS};
+use fantanolive::{code_text, codes, has_code, ERRORS, KEY, RECORD, ROW, WARNINGS};
 
 use crate::records::address_faults::{AddressFaults, Parts, ADDRESS};
 use crate::records::code_fields::{fields_of, is_blank, name_of};
-use crate::records::columns::{detail, reject, Field};
+use crate::records::columns::{detail, reject, row, Field};
 use crate::records::field::Form;
+use crate::report::listing::Listing;
 use crate::report::ssn_fault;
 
 /// The code with which the stored name goes, and the one with what is wrong with the SSN.
@@ -21,6 +22,8 @@ pub struct Verdicts<'a> {
     /// A verdict per detail.
     pub verdicts: &'a [u64],
     pub rejects: &'a [u8],
+    /// The rows that the batch leaves.
+    pub rows: &'a [u8],
     /// How fields of the batch and of the reject file are written.
     pub of_details: Form,
     pub of_rejects: Form,
@@ -62,8 +65,43 @@ impl<'a> Verdicts<'a> {
     pub fn coded_by_office(&self, set: u64) -> Vec<Coded<'a>> {
         let mut list: Vec<Coded> = self.coded(set).collect();
         // the sort keeps the order of equal codes
-        list.sort_by_key(|coded| detail::LOCAL_CODE.of(coded.detail));
+        list.sort_by_cached_key(|coded| self.office(coded.detail));
         list
+    }
+
+    /// The first details with a code, for files and JSON: those of a list that is cut have the ones with an error first.
+    pub fn for_files(
+        &self,
+        listing: &Listing,
+        by_office: bool,
+    ) -> Box<dyn Iterator<Item = Coded<'a>> + '_> {
+        let of = |set| -> Box<dyn Iterator<Item = Coded<'a>> + '_> {
+            match by_office {
+                true => Box::new(self.coded_by_office(set).into_iter()),
+                false => Box::new(self.coded(set)),
+            }
+        };
+        let (all, most) = (ERRORS | WARNINGS, listing.most_in_files);
+        if self.count(all) <= most {
+            return of(all);
+        }
+        let is_warned = |coded: &Coded| coded.verdict & ERRORS == 0;
+        Box::new(of(ERRORS).chain(of(WARNINGS).filter(is_warned)).take(most))
+    }
+
+    /// The local code of a detail, or where that is blank the one of its case's row; blank where there is none.
+    pub fn office<'b>(&'b self, detail: &'b [u8]) -> &'b [u8] {
+        let own = detail::LOCAL_CODE.of(detail);
+        if !is_blank(&detail::LOCAL_CODE, detail) {
+            return own;
+        }
+        let key = [detail::STATE, detail::SSN, detail::CASE_TYPE].map(|part| part.of(detail));
+        let key = key.concat();
+        let (rows, _) = self.rows.as_chunks::<ROW>();
+        match rows.binary_search_by(|row| row[..KEY].cmp(&key)) {
+            Ok(place) => row::LOCAL_CODE.of(&rows[place]),
+            Err(_) => own,
+        }
     }
 
     /// How many details have a code of a set.
@@ -85,11 +123,12 @@ impl<'a> Verdicts<'a> {
         list
     }
 
-    /// The local offices with details to fix or with a warning: the code as it is shown, and how many of each.
+    /// The local offices with details to fix or with a warning: the code as it is shown, empty where there is none, and how many
+    /// of each.
     pub fn offices(&self) -> Vec<(String, u64, u64)> {
         let mut list: Vec<(&[u8], u64, u64)> = Vec::new();
         for coded in self.coded_by_office(ERRORS | WARNINGS) {
-            let office = detail::LOCAL_CODE.of(coded.detail);
+            let office = self.office(coded.detail);
             if list.last().is_none_or(|(last, _, _)| *last != office) {
                 list.push((office, 0, 0));
             }
@@ -191,6 +230,14 @@ impl Coded<'_> {
 
     pub fn has(&self, code: u32) -> bool {
         has_code(self.verdict, code)
+    }
+}
+
+/// A local code as a table has it.
+pub fn shown_office(code: &str) -> String {
+    match code {
+        "" => "no local code".to_string(),
+        code => code.to_string(),
     }
 }
 

@@ -45,11 +45,11 @@ pub fn put_json<W: Write>(
     }
     json.name("records")?;
     json.begin_array()?;
-    let first = verdicts.coded(ERRORS | WARNINGS);
-    let first = first.take(listing.most_in_files);
+    let first = verdicts.for_files(listing, false);
     let mut text = String::new();
     verdicts.each(first, |coded| put_record(verdicts, json, coded, &mut text))?;
-    json.end_array()
+    json.end_array()?;
+    listing.put_left_out(json, verdicts.count(ERRORS | WARNINGS))
 }
 
 fn put_offices<W: Write>(verdicts: &Verdicts, json: &mut Json<W>) -> io::Result<()> {

@@ -4,11 +4,11 @@ use std::io;
 
 use fantanolive::{code_text, codes, ERRORS, WARNINGS};
 
-use crate::failure::headed;
+use crate::failure::grouped;
 use crate::records::columns::detail;
 use crate::report::listing::Listing;
-use crate::report::sheet::{Put, Sheet};
-use crate::report::verdicts::{wrong_of, Coded, Verdicts};
+use crate::report::sheet::{Put, Sheet, Small};
+use crate::report::verdicts::{shown_office, wrong_of, Coded, Verdicts};
 
 pub struct VerdictsSheet<'a> {
     pub verdicts: &'a Verdicts<'a>,
@@ -64,8 +64,30 @@ impl VerdictsSheet<'_> {
 
 impl Sheet for VerdictsSheet<'_> {
     fn caption(&self) -> String {
-        let count = self.verdicts.count(ERRORS | WARNINGS) as u64;
-        headed(count, ("record with a code", "records with a code"))
+        let count = self.verdicts.count(ERRORS | WARNINGS);
+        let words = ("record with a code", "records with a code");
+        self.listing.caption(count, words)
+    }
+
+    fn before(&self) -> Vec<Small<'_>> {
+        let offices = match self.listing.by_office {
+            true => self.verdicts.offices(),
+            false => Vec::new(),
+        };
+        if offices.is_empty() {
+            return Vec::new();
+        }
+        let put_lines = move |put: &mut Put| {
+            offices.iter().try_for_each(|(office, errors, warnings)| {
+                let counts = [errors, warnings].map(|count| grouped(*count));
+                put(&[&shown_office(office), &counts[0], &counts[1]])
+            })
+        };
+        vec![Small {
+            caption: "By local office".to_string(),
+            heads: &["Office", "To fix", "Warned"],
+            put_lines: Box::new(put_lines),
+        }]
     }
 
     fn heads(&self) -> &'static [&'static str] {
@@ -73,13 +95,9 @@ impl Sheet for VerdictsSheet<'_> {
     }
 
     fn put_lines(&self, put: &mut Put) -> io::Result<()> {
-        let (set, most) = (ERRORS | WARNINGS, self.listing.most_in_files);
-        if self.listing.by_office {
-            let first = self.verdicts.coded_by_office(set).into_iter();
-            let put = |coded: &Coded| self.put_record(coded, put);
-            return self.verdicts.each(first.take(most), put);
-        }
-        let first = self.verdicts.coded(set).take(most);
+        let first = self
+            .verdicts
+            .for_files(self.listing, self.listing.by_office);
         let put = |coded: &Coded| self.put_record(coded, put);
         self.verdicts.each(first, put)
     }

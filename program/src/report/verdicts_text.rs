@@ -10,7 +10,7 @@ use crate::records::code_fields::is_blank;
 use crate::records::columns::detail;
 use crate::report::listing::Listing;
 use crate::report::screen::{Screen, Style};
-use crate::report::verdicts::{wrong_of, Coded, Verdicts};
+use crate::report::verdicts::{shown_office, wrong_of, Coded, Verdicts};
 
 /// How many codes are told with what to do.
 const EXPLAINED: usize = 3;
@@ -69,11 +69,11 @@ fn put_offices<W: Write>(verdicts: &Verdicts, screen: &mut Screen<W>) -> io::Res
     }
     screen.plain("")?;
     screen.line(Style::Heading, "By local office")?;
-    screen.plain("office      to fix      warned")?;
+    screen.plain("office             to fix      warned")?;
     for (office, errors, warnings) in offices {
-        let office = if office.is_empty() { "blank" } else { &office };
+        let office = shown_office(&office);
         let (errors, warnings) = (grouped(errors), grouped(warnings));
-        screen.plain(&format!("{office:<6}{errors:>12}{warnings:>12}"))?;
+        screen.plain(&format!("{office:<13}{errors:>12}{warnings:>12}"))?;
     }
     Ok(())
 }
@@ -97,7 +97,7 @@ fn put_list<W: Write>(
         return Ok(());
     }
     listing.put_heading(screen, count, list.heading)?;
-    let mut lines = Lines::new(verdicts, list.style);
+    let mut lines = Lines::new(verdicts, list.style, listing.by_office);
     if listing.by_office {
         let first = verdicts.coded_by_office(list.set).into_iter();
         verdicts.each(first.take(listing.most), |coded| lines.put(coded, screen))?;
@@ -112,6 +112,8 @@ fn put_list<W: Write>(
 struct Lines<'a> {
     verdicts: &'a Verdicts<'a>,
     style: Style,
+    /// Whether the office of a case stands where a record has none.
+    by_office: bool,
     /// How the line of each code begins: its number and what is wrong.
     starts: Vec<String>,
     text: String,
@@ -121,11 +123,12 @@ struct Lines<'a> {
 const NUMBER: usize = 7;
 
 impl<'a> Lines<'a> {
-    fn new(verdicts: &'a Verdicts, style: Style) -> Lines<'a> {
+    fn new(verdicts: &'a Verdicts, style: Style, by_office: bool) -> Lines<'a> {
         let start = |code| format!("    {code:02} {}: ", wrong_of(code));
         Lines {
             verdicts,
             style,
+            by_office,
             starts: (0..64).map(start).collect(),
             text: String::new(),
         }
@@ -135,7 +138,7 @@ impl<'a> Lines<'a> {
     fn put<W: Write>(&mut self, coded: &Coded, screen: &mut Screen<W>) -> io::Result<()> {
         let text = &mut self.text;
         text.clear();
-        put_record(self.verdicts, coded, text);
+        put_record(self.verdicts, coded, text, self.by_office);
         screen.line(self.style, text)?;
         for code in codes(coded.verdict) {
             text.clear();
@@ -147,7 +150,7 @@ impl<'a> Lines<'a> {
     }
 }
 
-fn put_record(verdicts: &Verdicts, coded: &Coded, text: &mut String) {
+fn put_record(verdicts: &Verdicts, coded: &Coded, text: &mut String, by_office: bool) {
     let (form, record) = (&verdicts.of_details, coded.detail);
     text.push_str("record ");
     put_number(coded.number + 1, text);
@@ -157,12 +160,15 @@ fn put_record(verdicts: &Verdicts, coded: &Coded, text: &mut String) {
     form.put(&detail::TRANSACTION_TYPE, record, text);
     text.push_str("  ");
     form.put_name(&detail::LAST_NAME, &detail::FIRST_NAME, record, text);
-    let case_id = ("  case ID ", &detail::CASE_ID);
-    let office = ("  office ", &detail::LOCAL_CODE);
-    for (name, field) in [case_id, office] {
-        if !is_blank(field, record) {
-            text.push_str(name);
-            form.put(field, record, text);
-        }
+    if !is_blank(&detail::CASE_ID, record) {
+        text.push_str("  case ID ");
+        form.put(&detail::CASE_ID, record, text);
+    }
+    let has_own = !is_blank(&detail::LOCAL_CODE, record);
+    if has_own || by_office {
+        let start = text.len();
+        form.put_text(verdicts.office(record), text);
+        let place = if text.len() > start { "  office " } else { "" };
+        text.insert_str(start, place);
     }
 }
