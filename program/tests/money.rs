@@ -33,8 +33,11 @@ fn the_money_in_json() {
     assert!(json.contains(closed), "{json}");
     let money = "\"collections\":{\"collected\":30.01,\"applied\":25.00,\"excess\":5.01},\"adjusted\":0.50,\"balances_before\":125.00,\"balances_after\":100.50,\"equation\":\"125.00 before + 0.50 adjusted = 100.50 after + 30.01 collected - 5.01 excess\",\"cases_closed\":1,\"cases_with_excess\":1";
     assert!(json.contains(money), "{json}");
-    let line = "\"collection\":0.00,\"adjustment\":1.00,\"reason\":\"closed in this file\",\"reason_words\":\"the case was closed by line 3 of this file\",\"to_fix\":\"see by ";
+    let line = "\"collection\":0.00,\"adjustment\":1.00,\"reason\":\"closed in this file\",\"reason_words\":\"the case was closed by line 3 of this file\"";
     assert!(json.contains(line), "{json}");
+    let reasons =
+        "\"reasons\":[{\"reason\":\"closed in this file\",\"lines\":1,\"to_fix\":\"see by ";
+    assert!(json.contains(reasons), "{json}");
 }
 
 #[test]
@@ -68,7 +71,15 @@ fn each_reason() {
         .skip(1)
         .map(|line| line.replace('"', ""))
         .collect();
-    assert_eq!(lines.len(), reasons.len());
+    let (lines, feet) = lines.split_at(reasons.len());
+    // 1.00 and 1.00 of lines 2 and 3, and the adjustments of lines 2, 5, 6 and 8
+    let sums = [
+        "closed,OH,*****4321,A,SMITH,JOHN,,,excess 999,999,899.99,",
+        "not posted,,,,,,2.00,1,000,000,001.01,,",
+        "posted,,,,,,999,999,999.99,99,999,974.99,,",
+        "in the file,,,,,,1,000,000,001.99,1,099,999,976.00,,",
+    ];
+    assert_eq!(feet, sums);
     for (line, reason) in lines.iter().zip(reasons) {
         // what to do stands behind the reason
         let fix = line.strip_prefix(reason).expect("it has this reason");
@@ -92,7 +103,7 @@ fn cases_that_were_closed() {
     assert_eq!(ran.status, 0, "{ran:?}");
     let list = "\n12 cases closed, the first 10\nOH*****0012N  SMITH, JOHN  excess 0.11\nOH*****0011N  SMITH, JOHN  excess 0.10\n";
     assert!(ran.out.contains(list), "{}", ran.out);
-    let rest = "\n2 more: --all lists them, --html FILE writes them to a page\n";
+    let rest = "\n2 more: --all lists them, --html FILE and --csv FILE write them to a file\n";
     assert!(ran.out.ends_with(rest), "{}", ran.out);
     let all = folder.run(&with(&POST, &["--all", "--html", "page.html"]));
     assert!(

@@ -496,6 +496,12 @@ fn files_in_the_wrong_order() {
         assert!(text.contains(words), "{text}");
         assert!(text.contains("MASTER comes first"), "{text}");
     }
+    folder.write("batch.txt", &ascii(&paper_batch()));
+    check[1] = "batch.txt";
+    let ran = folder.run(&with(&check, &["--ascii"]));
+    assert_eq!(ran.status, 2, "{ran:?}");
+    let words = "master.bin looks like a master: MASTER comes first";
+    assert!(ran.err.contains(words), "{}", ran.err);
     // a file that is none, before one that is none
     let ran = folder.run(&["post", "weekly.bin", "batch.bin"]);
     assert!(!ran.err.contains("comes first"), "{}", ran.err);

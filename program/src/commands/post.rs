@@ -247,6 +247,7 @@ impl Posted {
             listed,
             reasons: &self.reasons,
             closed: &self.closed,
+            money: &self.money,
             rows: &self.master.bytes,
             form,
             listing,

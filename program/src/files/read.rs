@@ -11,6 +11,7 @@ use crate::code_page::{convert, Charset};
 use crate::failure::{shown, words, Failure, STANDARD};
 use crate::files::length;
 use crate::files::lines::records_of;
+use crate::files::protect::reads_as_master;
 use crate::memory::zeros;
 use crate::progress::Progress;
 use crate::records::kinds::FileKind;
@@ -96,12 +97,21 @@ impl Input {
             if let Err(place) = convert(&mut self.bytes[..self.read], Charset::Ebcdic) {
                 return Err(Failure::Refused {
                     refusal: Refusal::NoCounterpart,
-                    notes: length::of_place(&self, place, behind),
+                    notes: match reads_as_master(&self.bytes[..self.read], self.length) {
+                        true => vec![of_master(&self)],
+                        false => length::of_place(&self, place, behind),
+                    },
                 });
             }
         }
         Ok(self)
     }
+}
+
+/// That a file which is to be in ASCII looks like a master.
+fn of_master(input: &Input) -> String {
+    let name = input.name();
+    format!("{name} looks like a master: MASTER comes first, and is always in EBCDIC")
 }
 
 /// Reads a file. The bytes are those of the file alone.

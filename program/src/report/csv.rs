@@ -33,14 +33,16 @@ pub fn put_sheet(out: &mut dyn Write, sheet: &dyn Sheet, full: bool) -> io::Resu
         .collect();
     let names: Vec<&str> = names.iter().map(String::as_str).collect();
     put_line(out, &names)?;
-    sheet.put_lines(&mut |cells| {
+    let mut put = |cells: &[&str]| {
         if full {
             return put_line(out, cells);
         }
         let cells: Vec<Cow<str>> = cells.iter().map(|cell| masked(cell)).collect();
         let cells: Vec<&str> = cells.iter().map(|cell| &**cell).collect();
         put_line(out, &cells)
-    })
+    };
+    sheet.put_lines(&mut put)?;
+    sheet.put_feet(&mut put)
 }
 
 #[cfg(test)]

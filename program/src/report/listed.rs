@@ -30,7 +30,7 @@ pub struct Listed<'a> {
     pub heads: &'static [&'static str],
     pub listing: &'a Listing,
     pub reason: &'a PutReason<'a>,
-    /// What to do with a record, by its place in the list; its column stands behind the reason.
+    /// What to do with a record, by its place in the list: a column of files behind the reason.
     pub fix: Option<&'a dyn Fn(usize) -> &'static str>,
     /// What is said below the list.
     pub notes: Vec<String>,
@@ -92,9 +92,6 @@ impl Listed<'_> {
             let name = (self.reason)(place, record, &mut text);
             json.text_of("reason", name)?;
             json.text_of("reason_words", &text)?;
-            if let Some(fix) = self.fix {
-                json.text_of("to_fix", fix(place))?;
-            }
             json.end_object()?;
         }
         json.end_array()?;

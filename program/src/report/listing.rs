@@ -68,24 +68,6 @@ impl Listing {
         json.number_of("left_out", left_out as u64)
     }
 
-    /// Where the cases are that are not listed: a page has them, and CSV the records alone.
-    pub fn put_rest_of_cases<W: Write>(
-        &self,
-        screen: &mut Screen<W>,
-        count: usize,
-    ) -> io::Result<()> {
-        let rest = count.saturating_sub(self.most);
-        if rest == 0 {
-            return Ok(());
-        }
-        let more = headed(rest as u64, ("more", "more"));
-        let place = match self.most_in_files < count {
-            true => "--all lists them",
-            false => "--all lists them, --html FILE writes them to a page",
-        };
-        screen.plain(&format!("{more}: {place}"))
-    }
-
     /// Where the records are that are not listed.
     pub fn put_rest<W: Write>(&self, screen: &mut Screen<W>, count: usize) -> io::Result<()> {
         let rest = count.saturating_sub(self.most);

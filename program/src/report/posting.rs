@@ -9,7 +9,7 @@ use crate::records::amounts::money;
 use crate::records::columns::row;
 use crate::records::field::Form;
 use crate::records::line_reasons::Reason;
-use crate::records::money::ClosedCase;
+use crate::records::money::{ClosedCase, Money};
 use crate::report::json::Json;
 use crate::report::listed::Listed;
 use crate::report::listing::Listing;
@@ -20,6 +20,7 @@ pub struct Posting<'a> {
     pub listed: Listed<'a>,
     pub reasons: &'a [Reason],
     pub closed: &'a [ClosedCase],
+    pub money: &'a Money,
     /// The rows behind the file.
     pub rows: &'a [u8],
     pub form: &'a Form,
@@ -64,24 +65,43 @@ impl Posting<'_> {
             return Ok(());
         }
         self.listing.put_heading(screen, count, CLOSED)?;
+        let mut text = String::new();
         for case in self.closed.iter().take(self.listing.most) {
-            let (key, name) = (self.key(case), self.name(case));
-            let excess = match case.excess {
-                0 => String::new(),
-                excess => format!("  excess {}", money(excess)),
-            };
-            screen.plain(&format!("{key}  {name}{excess}"))?;
+            text.clear();
+            self.put_key(case, &mut text);
+            text.push_str("  ");
+            self.put_name(case, &mut text);
+            if case.excess > 0 {
+                text.push_str("  excess ");
+                text.push_str(&money(case.excess));
+            }
+            screen.plain(&text)?;
         }
-        self.listing.put_rest_of_cases(screen, count)
+        self.listing.put_rest(screen, count)
     }
 
     pub fn put_json<W: Write>(&self, json: &mut Json<W>) -> io::Result<()> {
+        json.name("reasons")?;
+        json.begin_array()?;
+        for (name, count, fix) in counts_of(self.reasons) {
+            json.begin_object()?;
+            json.text_of("reason", name)?;
+            json.number_of("lines", count)?;
+            json.text_of("to_fix", fix)?;
+            json.end_object()?;
+        }
+        json.end_array()?;
         json.name("closed")?;
         json.begin_array()?;
+        let mut text = String::new();
         for case in self.closed.iter().take(self.listing.most_in_files) {
             json.begin_object()?;
-            json.text_of("key", &self.key(case))?;
-            json.text_of("name", &self.name(case))?;
+            text.clear();
+            self.put_key(case, &mut text);
+            json.text_of("key", &text)?;
+            text.clear();
+            self.put_name(case, &mut text);
+            json.text_of("name", &text)?;
             json.name("excess")?;
             json.cents(case.excess)?;
             json.end_object()?;
@@ -94,19 +114,15 @@ impl Posting<'_> {
         &self.rows[case.row as usize * ROW..][..ROW]
     }
 
-    fn key(&self, case: &ClosedCase) -> String {
-        let mut key = String::new();
+    fn put_key(&self, case: &ClosedCase, out: &mut String) {
         let parts = [row::STATE, row::SSN, row::CASE_TYPE];
-        self.form.put_key(&parts, self.row(case), &mut key);
-        key
+        self.form.put_key(&parts, self.row(case), out);
     }
 
-    fn name(&self, case: &ClosedCase) -> String {
-        let mut name = String::new();
+    fn put_name(&self, case: &ClosedCase, out: &mut String) {
         let row = self.row(case);
         let (last, first) = (&row::LAST_NAME, &row::FIRST_NAME);
-        self.form.put_name(last, first, row, &mut name);
-        name
+        self.form.put_name(last, first, row, out);
     }
 }
 
@@ -116,11 +132,15 @@ impl Sheet for Posting<'_> {
             return Vec::new();
         }
         let put_lines = |put: &mut Put| {
-            let cases = self.closed.iter().take(self.listing.most_in_files);
-            cases.into_iter().try_for_each(|case| {
-                let (key, name) = (self.key(case), self.name(case));
-                put(&[&key, &name, &money(case.excess)])
-            })
+            let (mut key, mut name) = (String::new(), String::new());
+            for case in self.closed.iter().take(self.listing.most_in_files) {
+                key.clear();
+                name.clear();
+                self.put_key(case, &mut key);
+                self.put_name(case, &mut name);
+                put(&[&key, &name, &money(case.excess)])?;
+            }
+            Ok(())
         };
         vec![Small {
             caption: self.listing.caption(self.closed.len(), CLOSED),
@@ -139,5 +159,36 @@ impl Sheet for Posting<'_> {
 
     fn put_lines(&self, put: &mut Put) -> io::Result<()> {
         self.listed.put_lines(put)
+    }
+
+    fn put_feet(&self, put: &mut Put) -> io::Result<()> {
+        for case in self.closed.iter().take(self.listing.most_in_files) {
+            let row = self.row(case);
+            let fields = [
+                row::STATE,
+                row::SSN,
+                row::CASE_TYPE,
+                row::LAST_NAME,
+                row::FIRST_NAME,
+            ];
+            let [state, ssn, kind, last, first] = fields.map(|field| self.form.field(&field, row));
+            let excess = format!("excess {}", money(case.excess));
+            put(&[
+                "closed", &state, &ssn, &kind, &last, &first, "", "", &excess, "",
+            ])?;
+        }
+        let posted = [self.money.collected, self.money.adjusted];
+        let not_posted = self.money.not_posted;
+        let in_file = [posted[0] + not_posted[0], posted[1] + not_posted[1]];
+        let sums = [
+            ("not posted", not_posted),
+            ("posted", posted),
+            ("in the file", in_file),
+        ];
+        for (name, sums) in sums {
+            let [collected, adjusted] = sums.map(money);
+            put(&[name, "", "", "", "", "", &collected, &adjusted, "", ""])?;
+        }
+        Ok(())
     }
 }

@@ -27,6 +27,11 @@ pub trait Sheet {
     /// The names of the columns.
     fn heads(&self) -> &'static [&'static str];
 
+    /// The lines below those of the list, in CSV alone: a page has them elsewhere.
+    fn put_feet(&self, _put: &mut Put) -> io::Result<()> {
+        Ok(())
+    }
+
     /// The lines, as many cells each as there are columns.
     fn put_lines(&self, put: &mut Put) -> io::Result<()>;
 }
