@@ -487,6 +487,8 @@ terminals() {
     begin 'how much is done'
     fresh
     truncate -s 15G "$dir/large.bin"
+    # with a log, since it is no master
+    printf '%s\n' '{"time":"2007-12-31T23:59:59Z","version":"2.0.0","command":"add-cents","status":0,"inputs":[],"master_before":null,"master_after":null,"counts":{}}' >"$dir/large.bin.log"
     on_terminal "timeout 6 $work/fantanolive log large.bin"
     want 'how much is read' "$(($(grep -o "reading large.bin: [0-9]* %" "$out" | sort -u | wc -l) > 1))" 1
     (cd "$dir" && timeout 2 "$work/fantanolive" log large.bin) >"$out" 2>"$err"
