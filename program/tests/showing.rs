@@ -57,7 +57,7 @@ fn fields_that_are_asked_for() {
 }
 
 /// Searches, each with the numbers of the rows that are shown, and what is said of their count.
-const SEARCHES: [(&[&str], &str, &str); 25] = [
+const SEARCHES: [(&[&str], &str, &str); 27] = [
     (
         &["--where", "obligor_last_name=smith"],
         "1,2",
@@ -98,6 +98,8 @@ const SEARCHES: [(&[&str], &str, &str); 25] = [
     ),
     (&["--where", "arrearage_amount=25"], "1", "1 row found"),
     (&["--where", "arrearage_amount=2"], "", "0 rows found"),
+    (&["--where", "arrearage_amount=0,300"], "3", "1 row found"),
+    (&["--where", "cents=0,local_code=25"], "3", "1 row found"),
     (&["--where", "local_code=25"], "3", "1 row found"),
     (
         &["--where", "exclusion_indicators=tax"],
@@ -138,7 +140,11 @@ fn records_by_their_values() {
             "{more:?}"
         );
     }
-    for wrong in [["--where", "ssn"], ["--where", "x=1"]] {
+    for wrong in [
+        ["--where", "ssn"],
+        ["--where", "x=1"],
+        ["--where", "ssn=1,"],
+    ] {
         assert_eq!(folder.run(&with(&SHOW, &wrong)).status, 3);
     }
     let json = folder.run(&with(&SHOW, &["--search", "doe", "--json"])).out;

@@ -48,7 +48,7 @@ fn hundredths(text: &str) -> Option<u64> {
 impl Wanted {
     fn of(field: &'static Field, value: &str) -> Wanted {
         let value = value.trim().to_uppercase();
-        let number = hundredths(&value).filter(|_| is_number(field));
+        let number = hundredths(&value.replace(',', "")).filter(|_| is_number(field));
         let value = match field.kind {
             Kind::Ssn => ssn_of(&value).unwrap_or(value),
             _ => value,
@@ -77,7 +77,8 @@ fn conditions_of(list: &str) -> Result<Vec<(&str, String)>, String> {
     for part in list.split(',') {
         match (part.split_once('='), conditions.last_mut()) {
             (Some((name, value)), _) => conditions.push((name, value.to_string())),
-            (None, Some((_, value))) => *value += &format!(",{part}"),
+            (None, Some((_, value))) if !part.trim().is_empty() => *value += &format!(",{part}"),
+            (None, Some(_)) => return Err("--where has a comma with nothing behind it".to_string()),
             (None, None) => return Err(format!("--where wants FIELD=VALUE, not '{part}'")),
         }
     }
@@ -214,8 +215,9 @@ mod tests {
         let of = |list| conditions_of(list).expect("they are conditions");
         assert_eq!(of("a=1,b=2"), [("a", "1".into()), ("b", "2".into())]);
         assert_eq!(of("a=1,2,b="), [("a", "1,2".into()), ("b", "".into())]);
-        assert_eq!(of("a=,"), [("a", ",".into())]);
-        assert!(conditions_of("x,a=1").is_err());
+        for wrong in ["x,a=1", "a=1,", "a=,", "a=1,,b=2", ""] {
+            assert!(conditions_of(wrong).is_err(), "{wrong}");
+        }
     }
 
     #[test]

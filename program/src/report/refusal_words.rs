@@ -23,7 +23,7 @@ pub fn words_of(refusal: Refusal) -> Option<Words> {
         Refusal::NoRoom => ("the details with A in column 73 whose key has no row", "send fewer new cases: a master can't have more rows"),
         Refusal::WrongState => ("--state", "give the two letters of a state or territory"),
         Refusal::WrongDate => ("--date", "give a day that exists as eight digits: year, month, day"),
-        Refusal::UnsoundKey => ("KEY: state, SSN and case type", "write the two letters of a state of the table, the nine digits of an SSN that is right, and A or N, nothing between them"),
+        Refusal::UnsoundKey => ("KEY: state, SSN and case type", "write the two letters of a state of the table, the nine digits of an SSN that is right, and A or N; hyphens or spaces may stand between them"),
         Refusal::NoSuchRow => ("MASTER and KEY", "check state, SSN and case type (A and N are two cases); `fantanolive show master MASTER --search NAME` looks for a name"),
         Refusal::NoCounterpart => ("the byte that is told below", "leave only upper case letters, digits, space and - , . ( ) / & ' # in the file; never convert a master"),
         Refusal::WrongContacts => ("the contact file, or TABLE", "contact records have 220 bytes; for TABLE take only what `fantanolive contacts` has written, or start with --new"),
