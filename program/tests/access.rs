@@ -329,6 +329,12 @@ fn logs_go_by_their_masters() {
     for name in ["master.bin", "master.bin.log"] {
         assert_eq!(mode(&first, name), 0o640, "{name}");
     }
+    // the owner goes on writing it
+    let second = Folder::with_example("access-log-read");
+    let apply = with(&APPLY, &["--new", "--mode", "440"]);
+    assert_eq!(second.run(&apply).status, 1);
+    assert_eq!(mode(&second, "master.bin"), 0o440);
+    assert_eq!(mode(&second, "master.bin.log"), 0o640);
     for (of_master, of_log) in [(0o600, 0o600), (0o640, 0o640), (0o660, 0o640)] {
         let folder = folder("access-log");
         set_mode(&folder, "two.bin", of_master);

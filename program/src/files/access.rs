@@ -61,10 +61,10 @@ impl Access {
         self.about.mode() & 0o200 == 0
     }
 
-    /// Who may read it, for a file beside it, which the owner alone writes; none but the owner where an ACL says more than the mode.
+    /// Its mode, for a file beside it; what the owner may alone where an ACL says more than the mode.
     pub fn mode(&self) -> u32 {
         let has_acl = self.attributes.iter().any(|(name, _)| &**name == ACL);
-        self.about.mode() & if has_acl { 0o600 } else { 0o644 }
+        self.about.mode() & if has_acl { 0o700 } else { MODE }
     }
 
     /// Whether a file has the same group.

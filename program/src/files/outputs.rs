@@ -40,6 +40,9 @@ pub struct Outputs {
 /// Stands in the place of an option for files whose names a command makes itself.
 const NAMED_BY_COMMAND: &str = "";
 
+/// The bits of a mode by which a file is read.
+const READ: u32 = 0o444;
+
 /// What a command writes.
 pub struct Wanted<'a> {
     /// Whether the first operand is replaced.
@@ -256,14 +259,14 @@ impl Outputs {
         })
     }
 
-    /// Writes the log of the state under its temporary name. A new one has the owner and the mode of the state, or where that is
-    /// new too the mode of new files, so that who may read the one may ask the other. No SSN is in it.
+    /// Writes the log of the state under its temporary name. A new one has the owner of the state, who alone writes it, and may be
+    /// read by who may read the state, or new files where that is new too. No SSN is in it.
     pub fn stage_log(&self, progress: &Progress, bytes: &[u8]) -> Result<Staged<'static>, Failure> {
         let access = self.master().access();
+        let of_new = self.mode.unwrap_or(OWNER_ALONE);
+        let mode = access.as_ref().map_or(of_new, Access::mode);
         let new = NewFile {
-            mode: access
-                .as_ref()
-                .map_or(self.mode.unwrap_or(OWNER_ALONE), Access::mode),
+            mode: mode & READ | OWNER_ALONE,
             owner: access.as_ref(),
         };
         let log = self.master().log_target()?;
