@@ -253,8 +253,8 @@ detail.
 What doesn't fit its field is an error, with line, column and value, and nothing
 is written. So is what is no number in a column of digits, unless --as-is takes
 it: amounts (whole dollars), SSN, ZIP code, process year, date (CCYYMMDD) and
-local codes. `export` of a batch writes such a file; with --as-is `build` gives
-the same batch whatever stands in it.",
+local codes. `export` of a batch writes such a file; with --as-is, which takes
+rows of empty cells too, `build` gives the same batch whatever stands in it.",
         statuses: WRITES,
         run: commands::build::run,
     },

@@ -318,11 +318,11 @@ fn masters_and_tables_in_ascii() {
     for (master, words) in [
         (
             ended(&rows, 200, b"\n"),
-            "stands behind every row; take them out",
+            "stands behind every row; and it is in ASCII, which a file of this kind never is",
         ),
         (
             [&rows[..], b"\n"].concat(),
-            "the file is in ASCII, and one of this kind never is",
+            "likely cause: it is in ASCII, which a file of this kind never is",
         ),
     ] {
         folder.write("master.bin", &master);

@@ -159,13 +159,13 @@ fn what_is_no_digits() {
             "{text}"
         );
         assert!(text.contains(wanted), "{text}");
-        let hint = "--as-is takes such values as they stand";
-        assert!(text.contains(hint), "{text}");
         assert!(!folder.has("made.bin"));
-        // one that is too long for its field is an error then too
+        // one that is too long for its field is no value to be taken as it stands
+        let is_long = value == "01152007x";
+        let hint = "--as-is takes such values as they stand";
+        assert_eq!(text.contains(hint), !is_long, "{text}");
         let ran = folder.run(&with(&BUILD, &["--as-is"]));
-        let is_long = value == "01152007x" && ran.status == 3;
-        assert!(ran.status == 0 || is_long, "{ran:?}");
+        assert_eq!(ran.status, if is_long { 3 } else { 0 }, "{ran:?}");
     }
 }
 

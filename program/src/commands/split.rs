@@ -212,8 +212,12 @@ fn of_others(arguments: &Arguments, parts: usize) -> Result<Vec<String>, Failure
     let prefix = arguments.needed("--out");
     let behind = (parts + 1..=MOST).map(|number| file_of(prefix, number));
     let there = behind.filter(|file| file.symlink_metadata().is_ok());
+    let words = match arguments.flag("--force") {
+        true => "stays as it is, and is no part of this batch",
+        false => "is there, and is no part of this batch",
+    };
     let notes: Vec<String> = there
-        .map(|file| format!("{} is there, and is no part of this batch", shown(&file)))
+        .map(|file| format!("{} {words}", shown(&file)))
         .collect();
     if notes.is_empty() || arguments.flag("--force") {
         return Ok(notes);

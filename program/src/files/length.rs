@@ -90,9 +90,10 @@ fn likely_cause(input: &Input, is_wrong: bool) -> Option<String> {
     if let Some(end) = line_ends(bytes, kind.width) {
         let record = kind.record;
         let is_text = is_ascii(input) || input.charset.is_ascii();
-        let what = match is_text && kind.takes_ascii() {
-            true => "use --lines",
-            false => "take them out",
+        let what = match (is_text, kind.takes_ascii()) {
+            (true, true) => "use --lines",
+            (true, false) => "and it is in ASCII, which a file of this kind never is",
+            (false, _) => "take them out",
         };
         return Some(format!(
             "line ends: {end} stands behind every {record}; {what}"
@@ -103,7 +104,7 @@ fn likely_cause(input: &Input, is_wrong: bool) -> Option<String> {
         return is_wrong.then(|| cut_off.to_string());
     }
     if !kind.takes_ascii() {
-        return Some("the file is in ASCII, and one of this kind never is".to_string());
+        return Some("it is in ASCII, which a file of this kind never is".to_string());
     }
     let lines = bytes.iter().filter(|&&byte| byte == b'\n').count() as u64;
     (lines > 0).then(|| {

@@ -75,8 +75,9 @@ impl Reader {
     /// Puts a cell into its field, or an error to the others.
     fn put(&self, field: &Field, cell: &str, line: usize, record: &mut [u8], errors: &mut Errors) {
         let of_digits = wrong_digits(field, &plain_ssn(field, cell)).filter(|_| !self.as_is);
-        errors.of_digits |= of_digits.is_some();
-        let wrong = match (of_digits, bytes_of(&self.decoder, field, cell)) {
+        let bytes = bytes_of(&self.decoder, field, cell);
+        errors.of_digits |= of_digits.is_some() && bytes.is_ok();
+        let wrong = match (of_digits, bytes) {
             (None, Ok(bytes)) => return field.set(record, &bytes),
             (Some(wrong), _) | (None, Err(wrong)) => wrong,
         };

@@ -43,7 +43,8 @@ const ZEROS: &str = " (a spreadsheet may have taken zeros from its front)";
 
 /// What is wrong with a cell of a column of digits; nothing is with a blank one. An SSN comes without its hyphens.
 pub fn wrong_digits(field: &Field, cell: &str) -> Option<String> {
-    let column = COLUMNS.iter().find(|column| column.field == *field)?;
+    let mut columns = COLUMNS.iter();
+    let column = columns.find(|of| of.field.first == field.first && of.field == *field)?;
     if cell.trim_matches(' ').is_empty() {
         return None;
     }

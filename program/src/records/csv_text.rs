@@ -21,8 +21,8 @@ pub fn text_of(bytes: Vec<u8>) -> Result<String, String> {
         let line = 1 + bytes[..place].iter().filter(|&&b| b == b'\n').count();
         let byte = bytes[place];
         format!(
-            "line {line} is no text in UTF-8: byte {place} of the file is hexadecimal {byte:02X}. \
-             Is the file in Latin-1 or a Windows code page, or no CSV file? {SAVE}"
+            "line {line} is no text in UTF-8: byte {place} of the file is hexadecimal {byte:02X}; \
+             {SAVE}, not in Latin-1 or a Windows code page (or is it no CSV file?)"
         )
     })
 }
@@ -60,7 +60,7 @@ mod tests {
             );
         }
         let wrong = of(b"ssn\nA\nM\xDCLLER\n").expect_err("it is no UTF-8");
-        let words = "line 3 is no text in UTF-8: byte 7 of the file is hexadecimal DC.";
+        let words = "line 3 is no text in UTF-8: byte 7 of the file is hexadecimal DC; save";
         assert!(wrong.starts_with(words), "{wrong}");
     }
 
