@@ -44,7 +44,7 @@ fn answer(list: Vec<OsString>, own: Option<Run>) -> Status {
     let form = Form {
         as_json: asks_for_json(&list),
         full: asks_for_full(&list),
-        to_error: false,
+        ..Form::default()
     };
     match parse(list) {
         Ok(Parsed::Run(arguments)) => run(&arguments, own.unwrap_or(arguments.command.run)),
@@ -78,6 +78,8 @@ fn run(arguments: &Arguments, command: Run) -> Status {
                 as_json: arguments.flag("--json") && !is_lost,
                 full: arguments.flag("--full"),
                 to_error: arguments.prints_file(),
+                ascii: arguments.flag("--ascii"),
+                lines: arguments.flag("--lines"),
             };
             complain_of(arguments.command.name, &failure, form)
         }

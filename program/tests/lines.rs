@@ -197,3 +197,31 @@ fn what_is_told_of_other_characters() {
         assert!(err.contains(words), "{words}: {err}");
     }
 }
+
+/// What to do next has no option that was given.
+#[test]
+fn hints_that_were_followed() {
+    let folder = Folder::with_example("lines-followed");
+    let details = &paper_batch()[..490];
+    for (option, bytes, hints) in [
+        ("--wait 0", details.to_vec(), [true, true]),
+        ("--ascii", ascii(details), [false, false]),
+        ("--lines", lines(details, 245, "\n", false), [false, false]),
+    ] {
+        folder.write("batch.bin", &bytes);
+        let more = words(option);
+        let ran = checked(&folder, &more);
+        assert_eq!(ran.status, 2, "{ran:?}");
+        assert!(
+            ran.err.contains("`fantanolive control` puts"),
+            "{}",
+            ran.err
+        );
+        let told = ["--ascii", "--lines"].map(|hint| ran.err.contains(hint));
+        assert_eq!(told, hints, "{}", ran.err);
+    }
+    // a file in ASCII may be one of lines
+    folder.write("batch.bin", &ascii(&paper_batch()[..500]));
+    let ran = checked(&folder, &["--ascii"]);
+    assert!(ran.err.contains("; --lines"), "{}", ran.err);
+}

@@ -18,6 +18,9 @@ pub struct Form {
     pub full: bool,
     /// Whether standard output is a file's.
     pub to_error: bool,
+    /// What the files are in that were read, as it was given.
+    pub ascii: bool,
+    pub lines: bool,
 }
 
 /// Prints what is wrong. An error here has no place to go.
@@ -25,7 +28,7 @@ pub fn print(command: &str, failure: &Failure, form: Form) {
     let _ = if form.as_json {
         print_json(command, failure, form)
     } else {
-        print_text(command, failure, form.full)
+        print_text(command, failure, form)
     };
 }
 
@@ -39,12 +42,19 @@ fn put_both<W: Write>(screen: &mut Screen<W>, location: &str, fix: &str) -> io::
     screen.wrapped(Style::Plain, "  to fix: ", fix, 10)
 }
 
-/// The words of a refusal for someone who runs the program.
-fn words_for(refusal: Refusal) -> (&'static str, &'static str) {
-    match words_of(refusal) {
+/// The words of a refusal for someone who runs the program, without hints on options that were given.
+fn words_for(refusal: Refusal, form: Form) -> (&'static str, String) {
+    let (location, fix) = match words_of(refusal) {
         Some(words) => (words.location, words.fix),
         None => (refusal.text().location, refusal.text().mend),
-    }
+    };
+    let is_followed = |hint: &&str| {
+        let of_lines = hint.contains("--lines") && form.lines;
+        let of_ascii = hint.contains("--ascii") && (form.ascii || form.lines);
+        of_lines || of_ascii
+    };
+    let hints = fix.split("; ").filter(|hint| !is_followed(hint));
+    (location, hints.collect::<Vec<_>>().join("; "))
 }
 
 /// The members of an object for the words of a refusal or code, behind its number.
@@ -54,10 +64,10 @@ pub fn put_json_words<W: Write>(json: &mut Json<W>, text: &Text) -> io::Result<(
     json.text_of("mend", text.mend)
 }
 
-fn print_text(command: &str, failure: &Failure, full: bool) -> io::Result<()> {
+fn print_text(command: &str, failure: &Failure, form: Form) -> io::Result<()> {
     let width = terminal::error_width();
     let colours = width.is_some() && terminal::takes_colours();
-    let mut screen = Screen::new(io::stderr().lock(), width, colours).full(full);
+    let mut screen = Screen::new(io::stderr().lock(), width, colours).full(form.full);
     let start = match command {
         "" => "fantanolive: ".to_string(),
         command => format!("fantanolive: {command}: "),
@@ -65,8 +75,8 @@ fn print_text(command: &str, failure: &Failure, full: bool) -> io::Result<()> {
     match failure {
         Failure::Refused { refusal, notes } => {
             screen.wrapped(Style::Error, &start, &refusal.to_string(), 2)?;
-            let (location, fix) = words_for(*refusal);
-            put_both(&mut screen, location, fix)?;
+            let (location, fix) = words_for(*refusal, form);
+            put_both(&mut screen, location, &fix)?;
             put_notes(&mut screen, notes)
         }
         other => {
@@ -124,10 +134,10 @@ fn print_json(command: &str, failure: &Failure, form: Form) -> io::Result<()> {
             json.text_of("outcome", outcome(failure.status()))?;
             json.number_of("status", failure.status() as u64)?;
             json.number_of("refusal", refusal.number())?;
-            let (location, fix) = words_for(*refusal);
+            let (location, fix) = words_for(*refusal, form);
             json.text_of("wrong", refusal.text().wrong)?;
             json.text_of("where", location)?;
-            json.text_of("mend", fix)?;
+            json.text_of("mend", &fix)?;
             put_json_notes(&mut json, notes)?;
         }
         other => {
