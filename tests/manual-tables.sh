@@ -79,11 +79,12 @@ table_of() {
     section "### $1 ($2 bytes)" | tr -d '*' | sed -nE -e 's/^\| ([0-9]+)-([0-9]+) \| ([^|]*) \|.*/\1 \2 \3/p' -e 's/^\| ([0-9]+) \| ([^|]*) \|.*/\1 \1 \2/p'
 }
 
-# columns_of HEADING WIDTH FILE: the table's columns follow each other up to the width, and each field of the file begins and ends with one of them
+# columns_of HEADING WIDTH FILE: the table's columns follow each other up to the width, and each field of the file begins and ends with one of them;
+# the front of a last name, which rules read by itself, is a part of a field
 columns_of() {
     local shown fields next=1 first last
     shown=$(table_of "$1" "$2")
-    fields=$(sed -nE 's/^[a-zA-Z0-9]+ (rec|row|line|last) = columns ([0-9]+) ([0-9]+) .*/\2 \3/p' "crates/$3")
+    fields=$(sed -nE -e '/^[a-zA-Z]*ameFront /d' -e 's/^[a-zA-Z0-9]+ (rec|row|line|last) = columns ([0-9]+) ([0-9]+) .*/\2 \3/p' "crates/$3")
     if [ -z "$shown" ] || [ -z "$fields" ]; then
         echo "manual: $1: no table in the manual, or no field in crates/$3"
         failed=yes
