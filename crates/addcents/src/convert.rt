@@ -9,7 +9,7 @@ use casemaster::{master, refusals, row};
 use text::fields;
 
 // The answer of the call: done, or the number of the refusal.
-#[derive(Drop)]
+#[derive(Clone, Copy)]
 pub enum CentsAdded {
     Done,
     Refused(u64),

@@ -1,2 +1,4 @@
 // The conversion of a master whose rows have no cents.
+#![tactic(auto)]
+
 pub mod convert;

@@ -1,1 +1,3 @@
 // What every call answers: definitions and laws alone.
+#![tactic(auto)]
+

@@ -1,4 +1,6 @@
 // Applies the batch of the paper's example, then shows the files that the run left.
+#![tactic(auto)]
+
 use apply_samples::show;
 
 fn main() {

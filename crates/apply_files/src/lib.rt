@@ -1,4 +1,6 @@
 // The program apply-batch: four files read, the batch applied, two files and a line written.
+#![tactic(auto)]
+
 mod files;
 pub mod limits;
 pub mod outcome;

@@ -10,7 +10,7 @@ pub const BATCH_SPACE: usize = 24745;
 pub const LOCALS_SPACE: usize = 3000;
 
 // What reading a file gave.
-#[derive(Drop)]
+#[derive(Clone, Copy)]
 pub enum Input {
     // It is missing, or it can't be read.
     Missing,

@@ -6,7 +6,7 @@ ghost use Rattle.apply_files.specs.Year.{is_ascii_digit, ascii_number_onto, year
 use text::characters::is_within;
 
 // What year.txt holds: the number of four ASCII digits, or anything else.
-#[derive(Drop)]
+#[derive(Clone, Copy)]
 pub enum Year {
     Of(u64),
     Wrong,

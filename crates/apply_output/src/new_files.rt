@@ -8,7 +8,7 @@ use crate::parts::{blocks_length, detail_count, first_numbers};
 use batch::apply::Applied;
 
 // What is written of the two buffers that the call leaves.
-#[derive(Drop)]
+#[derive(Clone, Copy)]
 pub enum NewFiles {
     // A refusal writes no file.
     NoFile,

@@ -17,7 +17,7 @@ use rejectfile::verdicts::Progress;
 use text::fields;
 
 // The answer of the call: the counts of a run that is carried out, or the number of the refusal.
-#[derive(Drop)]
+#[derive(Clone, Copy)]
 pub enum Applied {
     Done {
         accepted: u64,
@@ -30,7 +30,7 @@ pub enum Applied {
 }
 
 // The result of a run that is carried out, and the journal's length.
-#[derive(Drop)]
+#[derive(Clone, Copy)]
 pub struct RunResult {
     pub accepted: u64,
     pub rejected: u64,

@@ -22,21 +22,21 @@ use rejectfile::verdicts;
 use rejectfile::verdicts::Progress;
 
 // How many details are of own keys, and how many rows they add.
-#[derive(Drop)]
+#[derive(Clone, Copy)]
 pub struct Arranged {
     pub own: usize,
     pub new: usize,
 }
 
 // How many rows there are then, and the journal's length.
-#[derive(Drop)]
+#[derive(Clone, Copy)]
 pub struct Moved {
     pub rows: usize,
     pub written: usize,
 }
 
 // What the work has come to, and the journal's length.
-#[derive(Drop)]
+#[derive(Clone, Copy)]
 pub struct JournaledWork {
     pub progress: Progress,
     pub written: usize,

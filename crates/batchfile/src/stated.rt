@@ -50,7 +50,7 @@ pub fn totals_record(state: &[u8], t: Totals) -> [u8; 245]
 }
 
 // How many details of each case type there are.
-#[derive(Drop)]
+#[derive(Clone, Copy)]
 pub struct CaseCounts {
     pub tanf: u64,
     pub non_tanf: u64,

@@ -13,7 +13,7 @@ use text::fields::Columns;
 const ALL_TOTALS: Columns = Columns { first: 6, last: 45 };
 
 // The totals of some details: how many they are and what they amount to, under each case type.
-#[derive(Drop)]
+#[derive(Clone, Copy)]
 pub struct Totals {
     pub tanf_count: u64,
     pub non_tanf_count: u64,

@@ -141,7 +141,7 @@ pub const LIVE: u8 = 0x40;
 pub const DELETED: u8 = 0xC4;
 
 // The form of a row: before it had cents, or with them.
-#[derive(Drop)]
+#[derive(Clone, Copy)]
 pub enum Form {
     Old,
     New,

@@ -9,7 +9,7 @@ use text::byte_order;
 use text::byte_order::Order;
 
 // Where a key's row is, or where it would go.
-#[derive(Drop)]
+#[derive(Clone, Copy)]
 pub enum Place {
     At(usize),
     Gap(usize),
@@ -60,7 +60,7 @@ fn is_row_below(m: &[u8], p: usize, key: &[u8]) -> bool
 }
 
 // How far a search has come: so many rows have keys below the one looked for, and the first that hasn't stands at most so many rows on.
-#[derive(Drop)]
+#[derive(Clone, Copy)]
 pub struct Reach {
     pub low: usize,
     pub high: usize,

@@ -9,7 +9,7 @@ use crate::{accepted, tables};
 
 // The answer of the calls: converted; the place of the first byte without a counterpart (refusal 16); an output shorter than the input
 // (refusal 17).
-#[derive(Drop)]
+#[derive(Clone, Copy)]
 pub enum Converted {
     Done,
     NoCounterpart(usize),

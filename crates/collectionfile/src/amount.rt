@@ -8,7 +8,7 @@ use crate::cents::Cents;
 use text::fields;
 
 // An amount as read: its cents, or bad.
-#[derive(Drop)]
+#[derive(Clone, Copy)]
 pub enum Amount {
     Good(Cents),
     Bad,

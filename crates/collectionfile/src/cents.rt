@@ -1,3 +1,3 @@
 // Cents, as the collection file has its amounts.
-#[derive(Drop)]
+#[derive(Clone, Copy)]
 pub struct Cents(pub u64);

@@ -11,7 +11,7 @@ use layout::limits::MAX_RECORDS;
 use text::fields;
 
 // How many lines have an adjustment and a collection above zero.
-#[derive(Drop)]
+#[derive(Clone, Copy)]
 pub struct Totals {
     pub adjustments: u64,
     pub collections: u64,

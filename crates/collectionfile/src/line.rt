@@ -11,7 +11,7 @@ use text::fields;
 pub const LINE_WIDTH: usize = 240;
 
 // The two amounts of a line, a bad one being zero, and whether neither is bad and not both are above zero.
-#[derive(Drop)]
+#[derive(Clone, Copy)]
 pub struct Amounts {
     pub right: bool,
     pub collection: Cents,

@@ -37,7 +37,7 @@ fn show_list(list: &[u32; 4]) {
 }
 
 // What an update is tried on beside the records: the bytes and the count of the table, the bytes of the file, the numbers of the list.
-#[derive(Drop)]
+#[derive(Clone, Copy)]
 struct Sizes {
     table: usize,
     count: usize,

@@ -11,7 +11,7 @@ use layout::states;
 use text::{counting, fields};
 
 // The answer of the call: how many codes there are, or the number of the refusal.
-#[derive(Drop)]
+#[derive(Clone, Copy)]
 pub enum Codes {
     Done(usize),
     Refused(u64),

@@ -12,7 +12,7 @@ use contacttable::table;
 use layout::limits::MAX_ROWS;
 
 // The answer of the call: the new table count and how many numbers are listed, or the number of the refusal.
-#[derive(Drop)]
+#[derive(Clone, Copy)]
 pub enum Updated {
     Done(usize, usize),
     Refused(u64),

@@ -1,2 +1,4 @@
 // Dates of the Gregorian calendar.
+#![tactic(auto)]
+
 pub mod calendar;

@@ -1,1 +1,3 @@
 // Theorems over whole calls; there is no code here.
+#![tactic(auto)]
+

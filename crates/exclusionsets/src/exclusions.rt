@@ -10,7 +10,7 @@ ghost use Rattle.exclusionsets.specs.WordNumbers.{three_number, can_end, word_nu
 use text::fields;
 
 // What an exclusion field names: a set, ADM in bit 0, or failure at a word that is none of the eight.
-#[derive(Drop)]
+#[derive(Clone, Copy)]
 pub enum Exclusions {
     Set(u8),
     Failure,

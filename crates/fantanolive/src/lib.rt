@@ -1,5 +1,7 @@
 // The C functions of the static library: each runs one public call, returns 0 or the refusal's number, and writes the result numbers
 // of a call that is carried out. Every argument may be anything that its type can hold.
+#![tactic(auto)]
+
 pub mod codepage_calls;
 pub mod contacts_calls;
 pub mod journal_calls;

@@ -5,7 +5,7 @@ ghost use Rattle.journal.specs.Numbers.{number_bytes};
 ghost use Rattle.journal.specs.Reading.{IsNumber};
 
 // What was read: a number, and the index behind it; or none.
-#[derive(Drop)]
+#[derive(Clone, Copy)]
 pub struct Number {
     pub found: bool,
     pub value: usize,

@@ -7,7 +7,7 @@ ghost use Rattle.journaledapply.specs.Journaled.{refusal25, with_journal, journa
 use batch::{apply, refusals};
 
 // The answer of the call: the counts of a run that is carried out and the journal's length, or the number of the refusal.
-#[derive(Drop)]
+#[derive(Clone, Copy)]
 pub enum Journaled {
     Done {
         accepted: u64,

@@ -23,7 +23,7 @@ use text::counting::one_if;
 
 // How far the walk has come: the position in the key order, the first row not yet passed, the place that the next row goes to, and the
 // index that the next entry goes to.
-#[derive(Drop)]
+#[derive(Clone, Copy)]
 pub struct Cursor {
     pub position: usize,
     pub from: usize,

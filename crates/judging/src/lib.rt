@@ -1,4 +1,6 @@
 // A record's errors and warnings, and the set of all that hold.
+#![tactic(auto)]
+
 pub mod errors;
 pub mod front;
 pub mod judge;

@@ -8,7 +8,7 @@ ghost use Rattle.judging.specs.Parts.{IsFirst, first_codes, codes06to08, codes10
 use crate::errors;
 
 // Errors 01 to 05, which are judged first: those of the key, the type and the name.
-#[derive(Drop)]
+#[derive(Clone, Copy)]
 pub struct FirstErrors {
     pub state: bool,
     pub ssn: bool,

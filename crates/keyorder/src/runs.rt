@@ -20,7 +20,7 @@ pub fn own_end(numbers: &[u64], d: usize) -> usize
 }
 
 // Where the details of one key end, whether one of them gives its name, and whether one makes a row where there is none.
-#[derive(Drop)]
+#[derive(Clone, Copy)]
 pub struct Run {
     pub end: usize,
     pub gives: bool,

@@ -10,7 +10,7 @@ use text::counting::one_if;
 use text::fields;
 
 // How far the count of new rows has come: the position in the key order, the first row not yet passed, and the new rows so far.
-#[derive(Drop)]
+#[derive(Clone, Copy)]
 pub struct Count {
     pub position: usize,
     pub from: usize,

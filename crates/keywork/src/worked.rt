@@ -47,7 +47,7 @@ fn front_of(
 }
 
 // Whether a row is held after a detail, and the number with the verdict.
-#[derive(Drop)]
+#[derive(Clone, Copy)]
 pub struct After {
     pub held: bool,
     pub number: u64,

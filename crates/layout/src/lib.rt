@@ -1,5 +1,7 @@
 // The layout of records: the columns of the charts, tables, the rule of each field, keys, and sets of codes.
 // Each function answers a definition of specs/, in the file of its own name.
+#![tactic(auto)]
+
 pub mod chart_01;
 pub mod chart_02;
 pub mod chart_06;

@@ -4,7 +4,7 @@ use layout::name::is_name_byte;
 use text::characters::{COMMA, HYPHEN, NINE, SPACE, ZERO, is_digit, is_letter, is_within};
 use vector_text::print;
 
-#[derive(Drop)]
+#[derive(Clone, Copy)]
 enum Class {
     Letter,
     Digit,

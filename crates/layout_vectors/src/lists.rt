@@ -14,7 +14,7 @@ use vector_text::lists::text_end;
 use vector_text::print;
 
 // What a text is tried as.
-#[derive(Drop)]
+#[derive(Clone, Copy)]
 pub enum Subject {
     Ebcdic,
     Blank,

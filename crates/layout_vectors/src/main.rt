@@ -1,5 +1,7 @@
 // Vectors of the crate layout for single fields and for sets of codes, worked by hand from the papers: a line for each, compared with the
 // file stdout. Keys and rows have a program of their own.
+#![tactic(auto)]
+
 mod calendar;
 mod characters;
 mod codes;

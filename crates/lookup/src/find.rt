@@ -8,7 +8,7 @@ use casemaster::{refusals, search};
 use layout::key;
 
 // The answer of the call: the place of the key's row, or the number of the refusal.
-#[derive(Drop)]
+#[derive(Clone, Copy)]
 pub enum Found {
     At(usize),
     Refused(u64),

@@ -15,7 +15,7 @@ use text::byte_order::Order;
 use text::{byte_order, words};
 
 // The answer of the call: how many comparisons with a row were made, or the number of the refusal.
-#[derive(Drop)]
+#[derive(Clone, Copy)]
 pub enum FoundMany {
     Done(u64),
     Refused(u64),

@@ -13,7 +13,7 @@ use layout::{chart_a2, records};
 use text::fields;
 
 // The answer of the call: how many records the merged batch has, or the number of the refusal.
-#[derive(Drop)]
+#[derive(Clone, Copy)]
 pub enum Merged {
     Done(usize),
     Refused(u64),

@@ -15,14 +15,14 @@ use judging::{judge, warnings};
 use layout::{chart_a1, locals, record};
 
 // One row or none: where no row is held, the bytes stand for nothing.
-#[derive(Drop)]
+#[derive(Clone, Copy)]
 pub struct Case {
     pub held: bool,
     pub row: [u8; 200],
 }
 
 // The new state, and the verdict on the record.
-#[derive(Drop)]
+#[derive(Clone, Copy)]
 pub struct Step {
     pub case: Case,
     pub verdict: Verdict,

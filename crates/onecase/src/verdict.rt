@@ -4,7 +4,7 @@ ghost use Rattle.text.specs.Fields.{columns};
 ghost use Rattle.onecase.specs.Verdict.{four_bytes};
 
 // The four stored characters that go with error 17.
-#[derive(Drop)]
+#[derive(Clone, Copy)]
 pub struct FourBytes {
     pub a: u8,
     pub b: u8,
@@ -13,7 +13,7 @@ pub struct FourBytes {
 }
 
 // A verdict with its set of codes: 2 to the power of each code, added up.
-#[derive(Drop)]
+#[derive(Clone, Copy)]
 pub enum Verdict {
     // No error; the set has the warnings.
     Accepted(u64),

@@ -1,5 +1,7 @@
 // Vectors of the one-case machine, worked by hand from the papers. The file stdin has them, a record to a line, and the file stdout the
 // same lines with the verdict and the row behind each record. src/run.rt says how a line is read.
+#![tactic(auto)]
+
 mod print;
 mod record;
 mod run;

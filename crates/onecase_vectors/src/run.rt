@@ -12,7 +12,7 @@ use onecase::case::{Case, Step};
 use onecase::verdict::Verdict;
 use vector_text::ebcdic::write;
 
-#[derive(Drop)]
+#[derive(Clone, Copy)]
 struct Control {
     state: [u8; 2],
     year: u64,
@@ -20,7 +20,7 @@ struct Control {
 }
 
 // Where the reading stands: the control record, the row that vectors start from, and what the last record left.
-#[derive(Drop)]
+#[derive(Clone, Copy)]
 struct Stand {
     control: Control,
     start: Case,

@@ -14,7 +14,7 @@ use casemaster::{refusals, row};
 use text::{counting, fields};
 
 // The answer of the call: how many pages there are, or the number of the refusal.
-#[derive(Drop)]
+#[derive(Clone, Copy)]
 pub enum Printed {
     Done(usize),
     Refused(u64),
@@ -24,7 +24,7 @@ pub enum Printed {
 const PAGE_LINES: usize = 58;
 
 // Where the printing stands: lines of every kind written, the number of the present page, and how many rows it has.
-#[derive(Drop)]
+#[derive(Clone, Copy)]
 struct Standing {
     written: usize,
     page: u64,

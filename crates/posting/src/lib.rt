@@ -1,4 +1,6 @@
 // Posting the weekly collection file to a master, to the cent.
+#![tactic(auto)]
+
 pub mod balance;
 pub mod hints;
 pub mod money;

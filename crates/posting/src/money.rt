@@ -4,7 +4,7 @@ ghost use Rattle.std.specs.Prelude.{◌≡◌, ◌+◌, ◌*◌, ◌/◌, ◌%�
 use collectionfile::cents::Cents;
 
 // Whole dollars, as the master has them.
-#[derive(Drop)]
+#[derive(Clone, Copy)]
 pub struct Dollars(pub u64);
 
 // Dollars and the cents beside them, in cents.

@@ -18,7 +18,7 @@ use collectionfile::{file, line};
 use text::{counting, fields};
 
 // The answer of the call: how many lines are listed, or the number of the refusal.
-#[derive(Drop)]
+#[derive(Clone, Copy)]
 pub enum Posted {
     Done(u64),
     Refused(u64),

@@ -9,7 +9,7 @@ use casemaster::row;
 use collectionfile::line;
 
 // A row after a line, and whether the line was posted.
-#[derive(Drop)]
+#[derive(Clone, Copy)]
 pub struct Turn {
     pub posted: bool,
     pub row: [u8; 200],

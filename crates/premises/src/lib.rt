@@ -1,1 +1,3 @@
 // Why the premises of a theorem of `effects` are there; there is no code here.
+#![tactic(auto)]
+

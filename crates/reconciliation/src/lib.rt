@@ -1,2 +1,4 @@
 // The reconciliation file.
+#![tactic(auto)]
+
 pub mod reconcile;

@@ -18,14 +18,14 @@ use text::fields::Columns;
 use text::{counting, fields};
 
 // The answer of the call: the number of REC records, or the number of the refusal.
-#[derive(Drop)]
+#[derive(Clone, Copy)]
 pub enum Reconciled {
     Done(usize),
     Refused(u64),
 }
 
 // How many cases are reported, and of each case type.
-#[derive(Drop)]
+#[derive(Clone, Copy)]
 struct Cases {
     total: usize,
     tanf: usize,

@@ -10,7 +10,7 @@ use text::counting::one_if;
 use text::fields;
 
 // The counts so far.
-#[derive(Drop)]
+#[derive(Clone, Copy)]
 pub struct Tally {
     pub tanf_accepted: u64,
     pub tanf_rejected: u64,

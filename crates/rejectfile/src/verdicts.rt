@@ -17,7 +17,7 @@ use layout::records::RECORD_WIDTH;
 use onecase::verdict::Verdict;
 
 // How far the work has come: rows, reject records and counts.
-#[derive(Drop)]
+#[derive(Clone, Copy)]
 pub struct Progress {
     pub rows: usize,
     pub rejects: usize,

@@ -8,7 +8,7 @@ use journal::entries;
 use text::fields;
 
 // How far the restoring has come: the index of the next entry, and the place that the next row goes to.
-#[derive(Drop)]
+#[derive(Clone, Copy)]
 pub struct Position {
     pub at: usize,
     pub to: usize,

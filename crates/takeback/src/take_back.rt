@@ -7,7 +7,7 @@ use crate::{restoring, testing};
 use casemaster::refusals;
 
 // The answer of the call: the old row count, or the number of the refusal.
-#[derive(Drop)]
+#[derive(Clone, Copy)]
 pub enum TakenBack {
     Done(usize),
     Refused(u64),

@@ -14,7 +14,7 @@ use text::{byte_order, words};
 
 // How far the test has come: whether it passed so far, the index of the next entry, the marks 00 met, and the key of the last row that
 // would be left, if there is one, as the numbers of its first eight bytes and of its last four.
-#[derive(Drop)]
+#[derive(Clone, Copy)]
 pub struct Tested {
     pub ok: bool,
     pub at: usize,
@@ -151,7 +151,7 @@ fn all_tested(m: &[u8], n: usize, journal: &[u8], before: usize, at: usize) -> b
 }
 
 // The two counts at the front of a journal, and the index of its first entry.
-#[derive(Drop)]
+#[derive(Clone, Copy)]
 pub struct Counts {
     pub found: bool,
     pub before: usize,

@@ -7,7 +7,7 @@ ghost use Rattle.text.specs.ByteOrder.{order_in, order_of, is_less, rising};
 use crate::words;
 
 // How one byte string stands to another in byte order.
-#[derive(Drop)]
+#[derive(Clone, Copy)]
 pub enum Order {
     Less,
     Equal,

@@ -5,7 +5,7 @@ ghost use Rattle.text.specs.Fields.{columns, placed, Inside, every, is_blank, is
 ghost use Rattle.text.specs.Blocks.{spliced};
 
 // Columns first to last, counted from 1 as the charts print them.
-#[derive(Drop)]
+#[derive(Clone, Copy)]
 pub struct Columns {
     pub first: usize,
     pub last: usize,

@@ -1,4 +1,6 @@
 // Byte strings: characters, byte order, and fields at any place and of any width; counting and listing.
+#![tactic(auto)]
+
 pub mod byte_order;
 pub mod characters;
 pub mod counting;

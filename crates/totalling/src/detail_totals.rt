@@ -7,7 +7,7 @@ use batchfile::{refusals, totals};
 use layout::records::RECORD_WIDTH;
 
 // The answer of the call: the two counts and the two amounts, or the number of the refusal.
-#[derive(Drop)]
+#[derive(Clone, Copy)]
 pub enum Totalled {
     Done {
         tanf_count: u64,

@@ -1,0 +1,16 @@
+-- `fantanolive_apply`: each answer of `apply` is written as the number and the result that its outcome stands for. Assumes nothing.
+use Rattle.fantanolive.proofs.CallsLaws.{apply_left_lem}
+use Rattle.batch.specs.Call.{call_of}
+use Rattle.fantanolive.proofs.fantanolive_apply.Goals as goal
+
+pub returns-in-Done : goal.returns-in-Done
+returns-in-Done c =
+    let a = c.args in
+    let g = call_of a.master.now a.rows a.batch.now a.locals.now a.year a.verdicts.now a.rejects.now in
+    apply_left_lem g _ _ _ _ _ _ c.apply.ensures c.in-Done.is
+
+pub returns-in-Refused : goal.returns-in-Refused
+returns-in-Refused c =
+    let a = c.args in
+    let g = call_of a.master.now a.rows a.batch.now a.locals.now a.year a.verdicts.now a.rejects.now in
+    apply_left_lem g _ _ _ _ _ _ c.apply.ensures c.in-Refused.is

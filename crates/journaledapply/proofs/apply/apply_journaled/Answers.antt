@@ -1,0 +1,43 @@
+-- `apply::apply_journaled`: a refusal is answered with every buffer untouched, and where there is none `run` writes the journal. Assumes
+-- nothing.
+use mathlib.Core.Path.{sym, ◌∙◌}
+use native.Mathlib.Omega.{arith}
+use Rattle.layout.proofs.LimitsLaws.{few_details}
+use Rattle.batch.proofs.KnownLaws.{known}
+use Rattle.batch.proofs.PassedLaws.{passed}
+use Rattle.batch.specs.Call.{call_of}
+use Rattle.journaledapply.proofs.JournaledLaws.{journaled_refused, journaled_25, has_space, journaled_done}
+use Rattle.journaledapply.proofs.apply.apply_journaled.Goals as goal
+
+pub returns-then-number-ne0 : goal.returns-then-number-ne0
+returns-then-number-ne0 c =
+    let a = c.args in
+    let g = call_of a.master.now a.rows a.batch.now a.locals.now a.year a.verdicts.now a.rejects.now in
+    journaled_refused g a.journal.now _ c.first_refusal-number.ensures c.if-number-ne0.true
+
+pub is_short-requires : goal.is_short-requires
+is_short-requires c =
+    let a = c.args in
+    let g = call_of a.master.now a.rows a.batch.now a.locals.now a.year a.verdicts.now a.rejects.now in
+    let k = known g (passed g (sym c.first_refusal-number.ensures ∙ c.if-number-ne0.false)) in
+    (omega (arith, k.batch_in), omega (arith, k.batch_limit, few_details))
+
+pub returns-then-is_short : goal.returns-then-is_short
+returns-then-is_short c =
+    let a = c.args in
+    let g = call_of a.master.now a.rows a.batch.now a.locals.now a.year a.verdicts.now a.rejects.now in
+    journaled_25 g a.journal.now (sym c.first_refusal-number.ensures ∙ c.if-number-ne0.false) c.is_short.result c.is_short.ensures c.if-is_short.true
+
+pub run-r-requires : goal.run-r-requires
+run-r-requires c =
+    let a = c.args in
+    let g = call_of a.master.now a.rows a.batch.now a.locals.now a.year a.verdicts.now a.rejects.now in
+    let z = sym c.first_refusal-number.ensures ∙ c.if-number-ne0.false in
+    (z, (λ _. has_space g a.journal.now z c.is_short.result c.is_short.ensures c.if-is_short.false))
+
+pub returns : goal.returns
+returns c =
+    let a = c.args in
+    let g = call_of a.master.now a.rows a.batch.now a.locals.now a.year a.verdicts.now a.rejects.now in
+    let z = sym c.first_refusal-number.ensures ∙ c.if-number-ne0.false in
+    journaled_done g a.journal.now z c.is_short.result c.is_short.ensures c.if-is_short.false _ _ _ _ _ c.run-r.ensures

@@ -1,0 +1,12 @@
+-- `errors::has_11` meets its contract: the type is tested first; another type has no 11. Assumes nothing.
+use borrow.Author.Tests.{eq-eqb, ne_eqb}
+use Rattle.judging.specs.Errors.{error11}
+use Rattle.judging.proofs.errors.has_11.Goals as goal
+
+pub returns-then-t : goal.returns-then-t
+unfolding error11
+returns-then-t c = rw (eq-eqb _ _ c.if-t.true, c.is_blank.ensures, c.field.ensures)
+
+pub returns-else-t : goal.returns-else-t
+unfolding error11
+returns-else-t c = rw (ne_eqb _ _ c.if-t.false)

@@ -1,0 +1,12 @@
+-- `errors::has_13` meets its contract: the type is tested first; another type has no 13. Assumes nothing.
+use borrow.Author.Tests.{eq-eqb, ne_eqb}
+use Rattle.judging.specs.Errors.{error13}
+use Rattle.judging.proofs.errors.has_13.Goals as goal
+
+pub returns-then-t : goal.returns-then-t
+unfolding error13
+returns-then-t c = rw (eq-eqb _ _ c.if-t.true, c.in_window.ensures, c.field.ensures)
+
+pub returns-else-t : goal.returns-else-t
+unfolding error13
+returns-else-t c = rw (ne_eqb _ _ c.if-t.false)

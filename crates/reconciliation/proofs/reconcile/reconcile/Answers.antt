@@ -1,0 +1,96 @@
+-- `reconcile::reconcile`: each early answer is the first refusal that holds, and behind them the records and RCT fill the front of the
+-- buffer. Assumes nothing.
+use mathlib.Core.Bool.{true}
+use mathlib.Core.List.{List, ◌++◌}
+use mathlib.Core.Path.{◌≡◌, sym, ap, ◌∙◌}
+use Prim.Native.Nat.{ℕ, ◌/◌, ◌<◌}
+use native.Mathlib.Omega.{arith}
+use lib.ListN.{length}
+use borrow.Author.Rules.{rules}
+use borrow.Author.Tests.{not-true, not-false}
+use Rattle.layout.specs.Limits.{max_rows}
+use Rattle.reconciliation.specs.Reconcile.{rec_records}
+use Rattle.text.specs.Blocks.{joined, over}
+use Rattle.dates.specs.Calendar.{is_date}
+use Rattle.casemaster.specs.Master.{rows_of}
+use Rattle.layout.specs.States.{is_state}
+use Rattle.text.proofs.HoldsLaws.{holds_count, holds_last}
+use Rattle.reconciliation.proofs.ReconcileLaws.{rct_counted}
+use Rattle.reconciliation.proofs.ReconcileOutcomeLaws.{reconcile_master, reconcile_12, reconcile_13, reconcile_11, reconcile_done}
+use Rattle.layout.proofs.StatesLaws.{state_wide}
+use Rattle.dates.proofs.CalendarLaws.{date_wide}
+use Rattle.casemaster.proofs.RefusalsLaws.{master_rows}
+use Rattle.casemaster.specs.Refusals.{master_refusal}
+use Rattle.reconciliation.proofs.reconcile.reconcile.Goals as goal
+
+pub returns-then-refusal-ne0 : goal.returns-then-refusal-ne0
+returns-then-refusal-ne0 c =
+    let a = c.args in
+    reconcile_master max_rows a.master.now a.rows a.state.now a.date.now a.out.now c.master_refusal-refusal.result c.master_refusal-refusal.ensures c.if-refusal-ne0.true
+
+pub returns-then-not-is_state : goal.returns-then-not-is_state
+returns-then-not-is_state c =
+    let a = c.args in
+    let e : master_refusal max_rows a.master.now a.rows 0 ≡ 0 = sym c.master_refusal-refusal.ensures ∙ c.if-refusal-ne0.false in
+    reconcile_12 max_rows a.master.now a.rows a.state.now a.date.now a.out.now e (sym c.is_state.ensures ∙ not-true _ c.if-not-is_state.true-raw)
+
+pub returns-then-not-is_date : goal.returns-then-not-is_date
+returns-then-not-is_date c =
+    let a = c.args in
+    let e : master_refusal max_rows a.master.now a.rows 0 ≡ 0 = sym c.master_refusal-refusal.ensures ∙ c.if-refusal-ne0.false in
+    let s : is_state a.state.now ≡ true = sym c.is_state.ensures ∙ not-false _ c.if-not-is_state.false-raw in
+    reconcile_13 max_rows a.master.now a.rows a.state.now a.date.now a.out.now e s (sym c.is_date.ensures ∙ not-true _ c.if-not-is_date.true-raw)
+
+pub count_cases-cases-requires : goal.count_cases-cases-requires
+count_cases-cases-requires c =
+    let a = c.args in
+    omega (arith, master_rows max_rows a.master.now a.rows (sym c.master_refusal-refusal.ensures ∙ c.if-refusal-ne0.false))
+
+pub returns-then-out-cases : goal.returns-then-out-cases
+returns-then-out-cases c =
+    let a = c.args in
+    let e : master_refusal max_rows a.master.now a.rows 0 ≡ 0 = sym c.master_refusal-refusal.ensures ∙ c.if-refusal-ne0.false in
+    let s : is_state a.state.now ≡ true = sym c.is_state.ensures ∙ not-false _ c.if-not-is_state.false-raw in
+    let d : is_date a.date.now ≡ true = sym c.is_date.ensures ∙ not-false _ c.if-not-is_date.false-raw in
+    reconcile_11 max_rows a.master.now a.rows a.state.now a.date.now a.out.now e s d (omega (arith, c.count_cases-cases.ensures.0, c.if-out-cases.true))
+
+pub put_records-records-requires : goal.put_records-records-requires
+put_records-records-requires c =
+    let a = c.args in (
+      omega (arith, master_rows max_rows a.master.now a.rows (sym c.master_refusal-refusal.ensures ∙ c.if-refusal-ne0.false)),
+      omega (arith, c.count_cases-cases.ensures.0, c.if-out-cases.false),
+    )
+
+pub rct_record-control-requires : goal.rct_record-control-requires
+rct_record-control-requires c =
+    let a = c.args in (
+      state_wide a.state.now (sym c.is_state.ensures ∙ not-false _ c.if-not-is_state.false-raw),
+      date_wide a.date.now (sym c.is_date.ensures ∙ not-false _ c.if-not-is_date.false-raw),
+    )
+
+pub overflow_mul-records : goal.overflow_mul-records
+overflow_mul-records c = omega (arith, holds_count 245 c.put_records-records.ensures, c.count_cases-cases.ensures.0, c.if-out-cases.false)
+
+pub copy_in-requires : goal.copy_in-requires
+copy_in-requires c =
+    let w : length c.rct_record-control.result ≡ 245 = search rules in
+    omega (arith, holds_count 245 c.put_records-records.ensures, c.count_cases-cases.ensures.0, c.if-out-cases.false, c.put_records-records.auto.0)
+
+pub returns : goal.returns
+returns c =
+    let a = c.args in
+    let e : master_refusal max_rows a.master.now a.rows 0 ≡ 0 = sym c.master_refusal-refusal.ensures ∙ c.if-refusal-ne0.false in
+    let s : is_state a.state.now ≡ true = sym c.is_state.ensures ∙ not-false _ c.if-not-is_state.false-raw in
+    let d : is_date a.date.now ≡ true = sym c.is_date.ensures ∙ not-false _ c.if-not-is_date.false-raw in
+    let k = c.count_cases-cases.ensures in
+    let p = c.put_records-records in
+    let n = holds_count 245 p.ensures in
+    let r = c.rct_record-control.result in
+    let w : length r ≡ 245 = search rules in
+    let rows : List (List ℕ) = rows_of a.rows a.master.now in
+    let l : length (rec_records a.state.now rows) < length a.out.now / 245 = omega (arith, k.0, c.if-out-cases.false) in
+    reconcile_done max_rows a.master.now a.rows a.state.now a.date.now a.out.now e s d p.result c.copy_in.new.dst l n
+    (c.copy_in.ensures
+    ∙ holds_last 245 r p.ensures w (omega (arith, p.auto.0))
+    ∙ ap (λ (z : List ℕ). over (joined (rec_records a.state.now rows) ++ z) a.out.now)
+    (rct_counted a.state.now a.date.now rows _ _ _ r k.1.0 k.1.1 k.0 c.rct_record-control.ensures))

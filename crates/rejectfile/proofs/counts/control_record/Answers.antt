@@ -1,0 +1,21 @@
+-- `counts::control_record`: the fields are put into a blank record one behind the other. Assumes nothing.
+use mathlib.Core.Path.{refl}
+use Rattle.rejectfile.specs.Tally.{counts_in}
+use Rattle.rejectfile.proofs.CountsLaws.{control-written}
+use Rattle.text.proofs.ColumnsWritten.{written_all}
+use Rattle.rejectfile.proofs.counts.control_record.Goals as goal
+
+pub returns : goal.returns
+returns c =
+    let a = c.args in
+    written_all
+    (control-written a.state.now (counts_in a.t) c.requires _ _ _ _ _ _ _ _
+    c.put.ensures
+    c.put-2.ensures
+    c.put_number.ensures
+    c.put_number-2.ensures
+    c.put_number-3.ensures
+    c.put_number-4.ensures
+    c.put_number-5.ensures
+    c.put_number-6.ensures)
+    refl

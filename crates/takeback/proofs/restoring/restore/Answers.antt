@@ -1,0 +1,30 @@
+use Rattle.takeback.proofs.RestoringLaws.{restoring_none, restoring_next, restoring_end}
+use mathlib.Core.Path.{refl}
+use native.Mathlib.Omega.{arith}
+use Prim.Native.Nat.{◌-◌}
+use Rattle.takeback.proofs.restoring.restore.Goals as goal
+
+pub loop-p-init : goal.loop-p-init
+loop-p-init c =
+    let a = c.args in
+    restoring_none a.m.now a.n a.journal.now a.at _ refl refl c.requires.0.1 c.requires.1
+
+pub place_restored-s-requires : goal.place_restored-s-requires
+place_restored-s-requires c =
+    let l = c.loop-p in
+    ((omega (arith, c.requires.0.0, l.invariant.same_length, c.loop-p-test.true), l.invariant.to_low, l.invariant.inside), l.invariant.left)
+
+pub loop-p-preserved : goal.loop-p-preserved
+loop-p-preserved c =
+    let a = c.args in
+    let l = c.loop-p in
+    restoring_next a.m.now a.n a.journal.now a.at l.m l.s l.p l.invariant c.loop-p-test.true _ _ c.place_restored-s.ensures
+
+pub shape_of-m : goal.shape_of-m
+shape_of-m c = c.loop-p.invariant.same_length
+
+pub returns : goal.returns
+returns c =
+    let a = c.args in
+    let l = c.loop-p in
+    restoring_end a.m.now a.n a.journal.now a.at l.m l.s l.p l.invariant (omega (arith, c.loop-p-test.false))
