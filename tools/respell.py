@@ -15,6 +15,7 @@ import sys
 
 WORD = re.compile(r"(?<![\w'′-])[A-Za-zℕ][\w'′]*(?:-[\w'′]+)*(?![\w'′])")
 STD = set("length take drop map append set put zip replicate cons nil suc zero add sub mul le lt eq sum filter reverse cond not and or mod div pow".split())
+CHOSEN = {"row-in": "row_inside"}
 KEEP = {"ref-ptr", "ghost-name", "get_or-set_same", "get_or-set_other"}
 
 
@@ -103,6 +104,7 @@ def decide(root):
             if "definition" in found[o] or found[o] == {"field"}:
                 continue
             turned[o] = new + "_lem"
+    turned.update(CHOSEN)
     return {o: n for o, n in turned.items() if o != n}
 
 
@@ -157,6 +159,9 @@ def main():
         print("left: also a name of the library:", n)
         del turned[n]
     turn = lambda s: WORD.sub(lambda m: turned.get(m[0], m[0]), s)
+    # A name of src/ may be a lemma's too: in .rt files and edits only what is no Rust name is turned.
+    in_code = {o: n for o, n in turned.items() if "-" in o or re.search("[A-Z]", o)}
+    turn_code = lambda s: WORD.sub(lambda m: in_code.get(m[0], m[0]), s)
     n = 0
     paths = list(files(root))
     for folder in ("docs", "tests"):
@@ -168,7 +173,7 @@ def main():
         if not p.endswith((".antt", ".rt", ".edit", ".md", ".sh", ".txt")):
             continue
         text = open(p, encoding="utf-8").read()
-        new = (antt if p.endswith(".antt") else rust if p.endswith(".rt") else edit if p.endswith(".edit") else turn_page(p))(text, turn)
+        new = (antt if p.endswith(".antt") else rust if p.endswith(".rt") else edit if p.endswith(".edit") else turn_page(p))(text, turn_code if p.endswith((".rt", ".edit")) else turn)
         if new != text:
             n += 1
             with open(p, "w", encoding="utf-8") as f:

@@ -208,7 +208,7 @@ row_with_same key new (row ∷ rows) k = go (row_with_same key new rows k) (side
     go : row_with key (with_row new rows) ≡ some new → Sides (row_key new) (row_key row) → row_with key (with_row new (row ∷ rows)) ≡ some new
     go ih (below o u) = rw (with_below new row rows o, eq_same (row_key new) key k)
     go ih (level e) = rw (with_level new row rows e, eq_same (row_key new) key k)
-    go ih (above o u) = rw (with_above new row rows o, same_order (row_key row) key, ← k, u) (rw k ih)
+    go ih (above o u) = rw (with_above new row rows o, same_order (row_key row) key, ← k, u) ih
 
 pub row_with_other : (key new : List ℕ) (rows : List (List ℕ)) → same_bytes (row_key new) key ≡ false
     → row_with key (with_row new rows) ≡ row_with key rows

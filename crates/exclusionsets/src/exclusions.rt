@@ -81,7 +81,7 @@ fn ends_word(s: &[u8], end: usize) -> bool
 }
 
 // The three bytes from `at` on as a number where a word can end behind them; else 0, which is no name's number.
-fn word_number_lem(s: &[u8], at: usize) -> u32
+fn word_number(s: &[u8], at: usize) -> u32
     requires { at < length s.now }
     ensures { result ≡ word_number s.now at }
 {
@@ -149,7 +149,7 @@ fn read_words(s: &[u8]) -> Exclusions
             at += 1;
             continue 'words;
         }
-        let word = word_number_lem(s, at);
+        let word = word_number(s, at);
         let mut n: usize = 0;
         'names: loop {
             if n == 8 {

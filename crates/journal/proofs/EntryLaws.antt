@@ -66,7 +66,7 @@ module _ (at : ℕ) (s : List ℕ) where
             is = rw (n.is, front, z);
             further = omega (arith, n.further);
             inside = omega arith;
-            row_in_lem = λ f. absurd (let y : ◌≡◌ {A = ℕ} 0 1 = cc in omega arith);
+            row_inside = λ f. absurd (let y : ◌≡◌ {A = ℕ} 0 1 = cc in omega arith);
           }
 
       pub bad_mark : (mark ≡ 0 → ⊥) → (mark ≡ 1 → ⊥) → EntryOutOfReach (read_entry (drop at s))
@@ -88,7 +88,7 @@ module _ (at : ℕ) (s : List ℕ) where
             is = rw (n.is, front, z, f, g);
             further = omega (arith, n.further);
             inside = omega arith;
-            row_in_lem = λ f. omega arith;
+            row_inside = λ f. omega arith;
           }
         where
           omega_eq : (i : ℕ) → i + 1 + 200 ≡ i + 201

@@ -44,7 +44,7 @@ pub record EntryFound (at : ℕ) (s : List ℕ) (place : ℕ) (new : Bool) (row 
   pub is : read_entry (drop at s) ≡ one_entry (entry place (old_at new row s)) (drop next s)
   pub further : at < next
   pub inside : next ≤ length s
-  pub row_in_lem : new ≡ false → row + 200 ≤ length s
+  pub row_inside : new ≡ false → row + 200 ≤ length s
 
 abbrev pub IsEntryAt : Bool → ℕ → List ℕ → ℕ → Bool → ℕ → ℕ → Type 0
 IsEntryAt true at s place new row next = EntryFound at s place new row next

@@ -37,7 +37,7 @@ fn name_number(name: FourBytes) -> u64
 }
 
 // The four characters that a number stands for.
-fn name_in_lem(n: u64) -> FourBytes
+fn name_in(n: u64) -> FourBytes
     ensures { four_bytes result ≡ name_in n }
 {
     let a = character_of(n);
@@ -75,7 +75,7 @@ pub fn verdict_in(number: u64) -> Verdict
     let set = number % HIGH_PLACE;
     let high = number % WORKED_PLACE / HIGH_PLACE;
     if set / NAMED % 2 == 1 {
-        return Verdict::RejectedWithName(set, name_in_lem(high));
+        return Verdict::RejectedWithName(set, name_in(high));
     }
     if set != 0 {
         return Verdict::Rejected(set);

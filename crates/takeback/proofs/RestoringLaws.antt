@@ -201,7 +201,7 @@ module _ (m : List ℕ) (p : ℕ) (journal : List ℕ) (s : Position) (m' : List
         let x = here journal s.at p c e i l r.at a y in
         let g = must_find journal s.at p c e i l in
         let row : List ℕ = take 200 (drop e.row journal) in
-        let wide : length row ≡ 200 = length-take-le 200 (drop e.row journal) (rw (length-drop e.row journal) (omega (arith, g.row_in_lem w))) in
+        let wide : length row ≡ 200 = length-take-le 200 (drop e.row journal) (rw (length-drop e.row journal) (omega (arith, g.row_inside w))) in
         let u : RowPut m s.to row m' = rw (f, part_width 200 journal e.row) (row_put m s.to row wide (omega arith)) in
         put-restored m p journal s m' r c.entries row u t k x.0 (omega (arith, g.inside)) (λ rows. x.1 (row_in m p) rows ∙ by_mark e.new false w e.row journal (restored_from (p + 1) x.0.entries rows))
 

@@ -14,7 +14,7 @@ returns-then-number-ne0 c =
 
 pub run-r-requires : goal.run-r-requires
 run-r-requires c =
-    (sym c.first_refusal-number.ensures ∙ c.if-number-ne0.false, λ w. absurd (false≢true w))
+    record { rejects_value = sym c.first_refusal-number.ensures ∙ c.if-number-ne0.false; batch_in_bounds = λ w. absurd (false≢true w) }
 
 pub returns : goal.returns
 returns c =

@@ -6,4 +6,4 @@ use Rattle.batch.proofs.apply.finish.Goals as goal
 
 pub returns : goal.returns
 returns c =
-    (c.copy_in.ensures ∙ ap (spliced c.args.rejects.now (c.args.s.rejects * 245)) c.control_record-last.ensures, (refl, refl))
+    record { rejects_after = c.copy_in.ensures ∙ ap (spliced c.args.rejects.now (c.args.s.rejects * 245)) c.control_record-last.ensures; result_value = (refl, refl) }

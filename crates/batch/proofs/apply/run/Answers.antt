@@ -22,31 +22,31 @@ pub overflow_sub-d : goal.overflow_sub-d
 overflow_sub-d c =
     let a = c.args in
     let g = call_of a.m.now a.n a.batch.now a.locals.now a.year a.verdicts.now a.rejects.now in
-    let k = known g (passed g c.requires.0) in
+    let k = known g (passed g c.requires.rejects_value) in
     omega (arith, k.batch_in)
 
 pub record_at-control-requires : goal.record_at-control-requires
 record_at-control-requires c =
     let a = c.args in
     let g = call_of a.m.now a.n a.batch.now a.locals.now a.year a.verdicts.now a.rejects.now in
-    let k = known g (passed g c.requires.0) in
+    let k = known g (passed g c.requires.rejects_value) in
     omega (arith, k.batch_in)
 
 pub work-s-requires : goal.work-s-requires
 unfolding control_of
 work-s-requires c =
-    ((c.requires.0, c.field-state.ensures ∙ ap (columns 1 2) c.record_at-control.ensures), c.requires.1)
+    record { rejects_value = (c.requires.rejects_value, c.field-state.ensures ∙ ap (columns 1 2) c.record_at-control.ensures); batch_in_bounds = c.requires.batch_in_bounds }
 
 pub finish-requires : goal.finish-requires
 unfolding control_of
 finish-requires c =
     let a = c.args in
     let g = call_of a.m.now a.n a.batch.now a.locals.now a.year a.verdicts.now a.rejects.now in
-    let k = known g (passed g c.requires.0) in
+    let k = known g (passed g c.requires.rejects_value) in
     let e : c.field-state.result.now ≡ submitting_state a.batch.now = c.field-state.ensures ∙ ap (columns 1 2) c.record_at-control.ensures in
     let left = c.work-s.ensures.worked in (
       ap length e ∙ state_two g.limit g.batch k.batch_passed,
-      omega (arith, k.space, left.rejects_few, c.work-s.auto.1.1.1.1.1.1.1.0),
+      omega (arith, k.space, left.rejects_few, c.work-s.auto.rejects),
       left.counted,
       omega (arith, k.batch_in, c.well_formed.1.1.0),
     )
@@ -56,7 +56,7 @@ unfolding control_of
 returns c =
     let a = c.args in
     let g = call_of a.m.now a.n a.batch.now a.locals.now a.year a.verdicts.now a.rejects.now in
-    let k = known g (passed g c.requires.0) in
+    let k = known g (passed g c.requires.rejects_value) in
     let e : c.field-state.result.now ≡ submitting_state a.batch.now = c.field-state.ensures ∙ ap (columns 1 2) c.record_at-control.ensures in
     let p = c.work-s.result.progress in
     let m = c.work-s.new.m in
@@ -65,10 +65,10 @@ returns c =
     record {
       is =
           ran g k m p.rows v rj p.rejects p.tally c.finish.new.rejects c.finish.result c.work-s.ensures.worked
-          c.work-s.auto.1.1.1.1.1.1.0 c.work-s.auto.1.1.1.1.1.1.1.0 (state_two g.limit g.batch k.batch_passed)
-          (c.finish.ensures.0 ∙ ap (λ (z : List ℕ). spliced rj (p.rejects * 245) (control_record z (counts_in p.tally))) e)
-          c.finish.ensures.1.0;
+          c.work-s.auto.verdicts c.work-s.auto.rejects (state_two g.limit g.batch k.batch_passed)
+          (c.finish.ensures.rejects_after ∙ ap (λ (z : List ℕ). spliced rj (p.rejects * 245) (control_record z (counts_in p.tally))) e)
+          c.finish.ensures.result_value.0;
       wrote =
           run_wrote g a.wanted a.journal.now p.rows m _ _ c.finish.result.written c.work-s.ensures.worked.rows_are
-          c.work-s.ensures.wrote c.finish.ensures.1.1;
+          c.work-s.ensures.wrote c.finish.ensures.result_value.1;
     }

@@ -18,16 +18,13 @@ start_journal-at-requires c =
 pub walk_keys-written-requires : goal.walk_keys-written-requires
 walk_keys-written-requires c =
     let a = c.args in
-    let raised = c.shift_rows.ensures in (
-      walk_ready a.state.now a.year a.list.now a.batch.now a.own a.new a.n a.m.now a.numbers.now a.wanted a.journal.now c.requires _ raised,
-      room_ready a.state.now a.year a.list.now a.batch.now a.own a.new a.n a.m.now a.numbers.now a.wanted a.journal.now c.requires _ raised _ _ c.start_journal-at.ensures,
-    )
+    let raised = c.shift_rows.ensures in record { walk_ready = walk_ready a.state.now a.year a.list.now a.batch.now a.own a.new a.n a.m.now a.numbers.now a.wanted a.journal.now c.requires _ raised; journal_room = room_ready a.state.now a.year a.list.now a.batch.now a.own a.new a.n a.m.now a.numbers.now a.wanted a.journal.now c.requires _ raised _ _ c.start_journal-at.ensures }
 
 pub shape_of-m : goal.shape_of-m
-shape_of-m c = c.walk_keys-written.auto.0 ∙ c.shift_rows.auto.0
+shape_of-m c = c.walk_keys-written.auto.m ∙ c.shift_rows.auto.m
 
 pub returns : goal.returns
 returns c =
     let a = c.args in
     moved a.state.now a.year a.list.now a.batch.now a.own a.new a.n a.m.now a.numbers.now a.wanted a.journal.now c.requires _ c.shift_rows.ensures
-    _ _ c.start_journal-at.ensures _ _ _ _ c.walk_keys-written.ensures (c.walk_keys-written.auto.0 ∙ c.shift_rows.auto.0)
+    _ _ c.start_journal-at.ensures _ _ _ _ c.walk_keys-written.ensures (c.walk_keys-written.auto.m ∙ c.shift_rows.auto.m)

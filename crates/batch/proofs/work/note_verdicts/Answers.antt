@@ -14,7 +14,7 @@ work_alone-requires c =
 
 pub put_back-requires : goal.put_back-requires
 put_back-requires c =
-    omega (arith, c.requires.slots, c.work_alone.auto.1.0)
+    omega (arith, c.requires.slots, c.work_alone.auto.numbers)
 
 pub case_counts-counts-requires : goal.case_counts-counts-requires
 case_counts-counts-requires c =
@@ -25,7 +25,7 @@ pub write_verdicts-requires : goal.write_verdicts-requires
 unfolding details_of
 write_verdicts-requires c =
     let r = c.requires in
-    ((omega (arith, r.batch_in), omega (arith, r.slots, c.work_alone.auto.1.0, c.put_back.auto.0), r.space), c.case_counts-counts.ensures)
+    record { d_in_bounds = (omega (arith, r.batch_in), omega (arith, r.slots, c.work_alone.auto.numbers, c.put_back.auto.numbers), r.space); tanf_value = c.case_counts-counts.ensures }
 
 pub returns : goal.returns
 returns c =

@@ -43,10 +43,7 @@ loop-form-init c = (omega arith, first_code, c.four_number-back.ensures.1, c.eig
 pub is_sound_row_in-requires : goal.is_sound_row_in-requires
 is_sound_row_in-requires c =
     let l = c.loop-form in
-    let m = c.args.m.now in (
-      (simp (length-take, length-drop) (omega arith), l.invariant.1, l.invariant.2),
-      (l.invariant.3 ∙ ap bytes_number (cut_front l.i m), l.invariant.4 ∙ ap bytes_number (cut_back l.i m)),
-    )
+    let m = c.args.m.now in record { row_len = (simp (length-take, length-drop) (omega arith), l.invariant.1, l.invariant.2); front_value = (l.invariant.3 ∙ ap bytes_number (cut_front l.i m), l.invariant.4 ∙ ap bytes_number (cut_back l.i m)) }
 
 pub returns-then-not-is_sound_row_in : goal.returns-then-not-is_sound_row_in
 unfolding are_sound_in

@@ -6,4 +6,4 @@ use Rattle.casemaster.proofs.master.put_row.Goals as goal
 pub returns : goal.returns
 returns c =
     let a = c.args in
-    rw c.copy_in.ensures (row_put a.m.now a.p a.t3 (omega arith) c.requires)
+    rw c.copy_in.ensures (row_put a.m.now a.p a.row (omega arith) c.requires)

@@ -4,7 +4,7 @@ use Rattle.casemaster.proofs.row.is_sound_row.Goals as goal
 
 pub is_sound_row_in-requires : goal.is_sound_row_in-requires
 is_sound_row_in-requires c =
-    ((c.requires, first_code, c.four_number-back.ensures.1), (c.eight_number-front.ensures, c.four_number-back.ensures.0))
+    record { row_len = (c.requires, first_code, c.four_number-back.ensures.1); front_value = (c.eight_number-front.ensures, c.four_number-back.ensures.0) }
 
 pub returns : goal.returns
 returns c = c.is_sound_row_in.ensures

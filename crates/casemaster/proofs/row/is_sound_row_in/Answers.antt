@@ -19,7 +19,7 @@ known c =
     let row = c.args.row.now in
     let b = bytes_of row (λ i h. omega (arith, c.shared_slice_known-1.given i)) in
     c.is_sound_key_in.ensures (row_key row) (length-take-le 12 row (omega arith)) (bytes_take 12 row b)
-    (c.requires.1.0 ∙ ap bytes_number (key_front row)) (c.requires.1.1 ∙ ap bytes_number (key_back row))
+    (c.requires.front_value.0 ∙ ap bytes_number (key_front row)) (c.requires.front_value.1 ∙ ap bytes_number (key_back row))
 
 pub returns-then-not-is_sound_key_in : goal.returns-then-not-is_sound_key_in
 unfolding is_sound_in

@@ -9,10 +9,10 @@ use Rattle.caserecords.proofs.records_to.put_if.Goals as goal
 pub returns-then-not-differs : goal.returns-then-not-differs
 returns-then-not-differs c =
     let a = c.args in
-    put_none a.out.now a.k a.differs a.t4 (not-true _ c.if-not-differs.true-raw)
+    put_none a.out.now a.k a.differs a.rec (not-true _ c.if-not-differs.true-raw)
 
 pub returns : goal.returns
 returns c =
     let a = c.args in
-    let w : length a.t4 ≡ 245 = search rules in
-    put_one a.out.now a.k a.differs a.t4 c.copy_in.new.dst (not-false _ c.if-not-differs.false-raw) c.copy_in.ensures w c.requires
+    let w : length a.rec ≡ 245 = search rules in
+    put_one a.out.now a.k a.differs a.rec c.copy_in.new.dst (not-false _ c.if-not-differs.false-raw) c.copy_in.ensures w c.requires

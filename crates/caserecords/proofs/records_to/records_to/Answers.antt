@@ -50,4 +50,4 @@ pub returns : goal.returns
 returns c =
     let a = c.args in
     let p = c.put_records-records in
-    records_done a.row.now a.wanted.now a.list.now a.out.now (sym c.is_local_list.ensures ∙ not-false _ c.if-not-is_local_list.false-raw) (sym c.is_row.ensures ∙ not-false _ c.if-not-is_row.false-raw) (sym c.is_row-2.ensures ∙ not-false _ c.if-not-is_row-2.false-raw) (sym c.is_refused.ensures ∙ c.if-is_refused.false) p.result p.new.0 c.if-out-lt980.false p.auto.0 p.ensures (omega (arith, holds_count 245 p.ensures, four_records a.row.now a.wanted.now))
+    records_done a.row.now a.wanted.now a.list.now a.out.now (sym c.is_local_list.ensures ∙ not-false _ c.if-not-is_local_list.false-raw) (sym c.is_row.ensures ∙ not-false _ c.if-not-is_row.false-raw) (sym c.is_row-2.ensures ∙ not-false _ c.if-not-is_row-2.false-raw) (sym c.is_refused.ensures ∙ c.if-is_refused.false) p.result p.new.out c.if-out-lt980.false p.auto.out p.ensures (omega (arith, holds_count 245 p.ensures, four_records a.row.now a.wanted.now))

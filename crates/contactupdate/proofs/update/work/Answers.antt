@@ -11,7 +11,7 @@ use Rattle.contactupdate.proofs.update.work.Goals as goal
 pub count_present-total-requires : goal.count_present-total-requires
 count_present-total-requires c =
     let a = c.args in
-    (c.requires.marks.wide ∙ sym c.note_file-listed.auto.1.1.0, flag_small (contacts_of a.count a.table.now) a.held.now c.requires.marks)
+    (c.requires.marks.wide ∙ sym c.note_file-listed.auto.lasts, flag_small (contacts_of a.count a.table.now) a.held.now c.requires.marks)
 
 pub merge-requires : goal.merge-requires
 merge-requires c =

@@ -24,13 +24,13 @@ loop-n-preserved c =
     let on = eqb (l.left % 2) 1 in
     let k = name_three l.n (search rules) in
     let room : l.at + 4 ≤ length out = omega arith in
-    let p : IsPut out l.at on name w.new.0 w.result = rw c.names-table.ensures at w.ensures in
-    let e = word_end out w.new.0 l.at w.result on name k room p in
-    let t = word_turn out w.new.0 l.at w.result on name k room p (names_in (l.left / 2) (drop (l.n + 1) exclusion_names)) in (
+    let p : IsPut out l.at on name w.new.out w.result = rw c.names-table.ensures at w.ensures in
+    let e = word_end out w.new.out l.at w.result on name k room p in
+    let t = word_turn out w.new.out l.at w.result on name k room p (names_in (l.left / 2) (drop (l.n + 1) exclusion_names)) in (
       omega arith,
       omega arith,
-      word_wide out w.new.0 l.at w.result on name k room p ∙ l.invariant.2,
-      word_kept out w.new.0 l.at w.result on name k room p (spaces 40) l.invariant.3,
+      word_wide out w.new.out l.at w.result on name k room p ∙ l.invariant.2,
+      word_kept out w.new.out l.at w.result on name k room p (spaces 40) l.invariant.3,
       t ∙ (rw (names_step l.left l.n (search rules)) at l.invariant.4),
     )
 

@@ -10,38 +10,36 @@ use Rattle.exclusionsets.specs.Exclusions.{exclusion_names, words_from, place_am
 use Rattle.exclusionsets.specs.WordNumbers.{word_number}
 use Rattle.exclusionsets.proofs.ExclusionsLaws.{first_word, word_here, word_skip, words_none, number_of_name, table_number, number_here, number_other, name_behind, place_here, place_next, place_end, read_word, read_fails}
 use Rattle.exclusionsets.proofs.exclusions.read_words.Goals as goal
+use Rattle.exclusionsets.proofs.exclusions.read_words.Goals.{At-names}
 
 -- in the inner loop: the field, the place and the set at the outer loop's turn, the word, the words behind it,
 -- and the word's number
 
-abbrev Names : Type 0
-Names = tie.At-names invariant-names decreases-names invariant-words decreases-words
+abbrev field : At-names → List ℕ
+field q = q.args.s.now
 
-abbrev field : Names → List ℕ
-field q = q.before.before.before.before.before.before.before.before.before.before.args.s.now
+abbrev outer_at : At-names → ℕ
+outer_at q = q.words.at
 
-abbrev outer-at : Names → ℕ
-outer-at q = q.before.before.before.before.before.before.words.at
+abbrev outer_set : At-names → ℕ
+outer_set q = q.words.set
 
-abbrev outer-set : Names → ℕ
-outer-set q = q.before.before.before.before.before.before.words.set
+abbrev word : At-names → List ℕ
+word q = first_word (drop (outer_at q) (field q))
 
-abbrev word : Names → List ℕ
-word q = first_word (drop (outer-at q) (field q))
+abbrev rest : At-names → List (List ℕ)
+rest q = words_from [] (drop (length (word q)) (drop (outer_at q) (field q)))
 
-abbrev rest : Names → List (List ℕ)
-rest q = words_from [] (drop (length (word q)) (drop (outer-at q) (field q)))
+at_word : (q : At-names) → exclusions_of (field q) ≡ read_onto (outer_set q) (word q ∷ rest q)
+at_word q =
+    q.words.invariant
+    ∙ ap (read_onto (outer_set q)) (word_here (field q) (outer_at q) q.if-s-at.false (sym q.is_separator.ensures ∙ q.if-is_separator.false))
 
-at-word : (q : Names) → exclusions_of (field q) ≡ read_onto (outer-set q) (word q ∷ rest q)
-at-word q =
-    q.before.before.before.before.before.before.words.inv
-    ∙ ap (read_onto (outer-set q)) (word_here (field q) (outer-at q) q.before.before.before.before.before.if1.left (sym q.before.before.before.is-separator.ensures ∙ q.before.before.if2.left))
+number : (q : At-names) → q.word_number-word.result ≡ word_number (field q) (outer_at q)
+number q = q.word_number-word.ensures
 
-number : (q : Names) → q.before.word_number_lem.result ≡ word_number (field q) (outer-at q)
-number q = q.before.word_number_lem.ensures
-
-bytes : (q : Names) (k : ℕ) → get_or (field q) k 0 < 256
-bytes q k = omega (arith, q.before.before.before.before.shared-slice-known2.given k)
+bytes : (q : At-names) (k : ℕ) → get_or (field q) k 0 < 256
+bytes q k = omega (arith, q.shared_slice_known-in-words-1.given k)
 
 pub words-init : goal.words-init
 unfolding exclusions_of
@@ -58,24 +56,26 @@ names-init c = (refl, refl, search rules, omega arith)
 
 pub words-preserved : goal.words-preserved
 words-preserved c =
+    let q = (goal.at.words-preserved c).At-names in
     let h : c.names.n < 8 = omega arith in
-    let e : number_of_name c.names.n ≡ word_number (field c) (outer-at c) =
-    sym (c.name_number-name.ensures ∙ table_number c.names-table.ensures c.names.n) ∙ c.if-name-word.true ∙ number c in
-    let t = number_here (field c) (outer-at c) c.names.n h (bytes c) e in
-    let k = place_here (word c) c.names.n h t in
-    let n : place_among (word c) exclusion_names ≡ c.names.n = omega (arith, c.names.invariant.3) in
-    at-word c ∙ read_word (outer-set c) (word c) (rest c) c.names.n n h
-    ∙ ap (read_onto (bit_or (outer-set c) (bits_named c.names.n))) (name_behind (field c) (outer-at c) c.names.n h t)
-    ∙ ap (λ (x : ℕ). read_onto (bit_or (outer-set c) (bits_named c.names.n)) (words_from [] (drop (x + 4) (field c)))) (sym c.names.invariant.1)
-    ∙ ap (λ (x : ℕ). read_onto (bit_or x (bits_named c.names.n)) (words_from [] (drop (c.names.at + 4) (field c)))) (sym c.names.invariant.0)
-    ∙ ap (λ (x : ℕ). read_onto (bit_or c.names.set x) (words_from [] (drop (c.names.at + 4) (field c)))) (sym (c.name_bits-bits.ensures c.names.n h))
+    let e : number_of_name c.names.n ≡ word_number (field q) (outer_at q) =
+    sym (c.name_number-name.ensures ∙ table_number c.names-table.ensures c.names.n) ∙ c.if-name-word.true ∙ number q in
+    let t = number_here (field q) (outer_at q) c.names.n h (bytes q) e in
+    let k = place_here (word q) c.names.n h t in
+    let n : place_among (word q) exclusion_names ≡ c.names.n = omega (arith, c.names.invariant.3) in
+    at_word q ∙ read_word (outer_set q) (word q) (rest q) c.names.n n h
+    ∙ ap (read_onto (bit_or (outer_set q) (bits_named c.names.n))) (name_behind (field q) (outer_at q) c.names.n h t)
+    ∙ ap (λ (x : ℕ). read_onto (bit_or (outer_set q) (bits_named c.names.n)) (words_from [] (drop (x + 4) (field q)))) (sym c.names.invariant.1)
+    ∙ ap (λ (x : ℕ). read_onto (bit_or x (bits_named c.names.n)) (words_from [] (drop (c.names.at + 4) (field q)))) (sym c.names.invariant.0)
+    ∙ ap (λ (x : ℕ). read_onto (bit_or c.names.set x) (words_from [] (drop (c.names.at + 4) (field q)))) (sym (c.name_bits-bits.ensures c.names.n h))
 
 pub names-preserved : goal.names-preserved
 names-preserved c =
+    let q = (goal.at.names-preserved c).At-names in
     let h : c.names.n < 8 = omega arith in
     let k = c.name_number-name.ensures ∙ table_number c.names-table.ensures c.names.n in
-    let t = number_other (field c) (outer-at c) c.names.n h (λ e. c.if-name-word.false (k ∙ e ∙ sym (number c))) in
-    let p = place_next (word c) c.names.n h t in
+    let t = number_other (field q) (outer_at q) c.names.n h (λ e. c.if-name-word.false (k ∙ e ∙ sym (number q))) in
+    let p = place_next (word q) c.names.n h t in
     (c.names.invariant.0, c.names.invariant.1, search rules, omega (arith, p, c.names.invariant.3))
 
 pub returns-then-s-at : goal.returns-then-s-at
@@ -86,6 +86,7 @@ returns-then-s-at c =
 
 pub returns-then-n-eq8 : goal.returns-then-n-eq8
 returns-then-n-eq8 c =
-    let n : place_among (word c) exclusion_names ≡ c.names.n =
-    c.names.invariant.3 ∙ rw (place_end (word c) c.names.n c.if-n-eq8.true) (add-zero c.names.n) in
-    sym (at-word c ∙ read_fails (outer-set c) (word c) (rest c) c.names.n n c.if-n-eq8.true)
+    let q = (goal.at.returns-then-n-eq8 c).At-names in
+    let n : place_among (word q) exclusion_names ≡ c.names.n =
+    c.names.invariant.3 ∙ rw (place_end (word q) c.names.n c.if-n-eq8.true) (add-zero c.names.n) in
+    sym (at_word q ∙ read_fails (outer_set q) (word q) (rest q) c.names.n n c.if-n-eq8.true)

@@ -33,7 +33,7 @@ run-r-requires c =
     let a = c.args in
     let g = call_of a.master.now a.rows a.batch.now a.locals.now a.year a.verdicts.now a.rejects.now in
     let z = sym c.first_refusal-number.ensures ∙ c.if-number-ne0.false in
-    (z, (λ _. has_space g a.journal.now z c.is_short.result c.is_short.ensures c.if-is_short.false))
+    record { rejects_value = z; batch_in_bounds = (λ _. has_space g a.journal.now z c.is_short.result c.is_short.ensures c.if-is_short.false) }
 
 pub returns : goal.returns
 returns c =

@@ -14,25 +14,22 @@ use Rattle.journalwalk.proofs.walk.walk_key.Goals as goal
 
 pub key_at-key-requires : goal.key_at-key-requires
 key_at-key-requires c =
-    let h = c.requires.0 in
+    let h = c.requires.position_lt_own in
     let i = c.index_part.ensures.0 in
     omega (arith, i, h.1.there _ (omega arith) h.0)
 
 pub case_at-case-requires : goal.case_at-case-requires
 case_at-case-requires c =
-    row_there _ _ _ _ _ c.is_row_of-held.ensures (omega (arith, c.requires.1.0.2, c.pull_rows.ensures.same_length))
+    row_there _ _ _ _ _ c.is_row_of-held.ensures (omega (arith, c.requires.to_le_from.0.2, c.pull_rows.ensures.same_length))
 
 pub work_key-next-requires : goal.work_key-next-requires
 work_key-next-requires c =
-    let a = c.args in (
-      key_ready a.state.now a.year a.list.now a.batch.now a.numbers.now a.s.position a.own c.run_at-run.result
-          c.requires.0.1 c.run_at-run.ensures,
-      c.requires.0.2,
-    )
+    let a = c.args in record { key_ready = key_ready a.state.now a.year a.list.now a.batch.now a.numbers.now a.s.position a.own c.run_at-run.result
+          c.requires.position_lt_own.1 c.run_at-run.ensures; ordered_if = c.requires.position_lt_own.2 }
 
 pub overflow_add-to : goal.overflow_add-to
 overflow_add-to c =
-    let h = c.requires.1.0 in
+    let h = c.requires.to_le_from.0 in
     omega (arith, h.0, c.rows_below-passed.ensures.within, h.2, c.well_formed.0)
 
 pub put_key_entry-written-requires : goal.put_key_entry-written-requires
@@ -50,11 +47,11 @@ put_key_entry-written-requires c =
       started = c.case_at-case.ensures;
       run = c.work_key-next.ensures;
     } in
-    entry_room f s _ _ _ _ _ _ _ _ steps a.wanted a.s.written a.journal.now c.requires.1.1.1
+    entry_room f s _ _ _ _ _ _ _ _ steps a.wanted a.s.written a.journal.now c.requires.to_le_from.1.1
 
 pub overflow_add-to-2 : goal.overflow_add-to-2
 overflow_add-to-2 c =
-    let h = c.requires.1.0 in
+    let h = c.requires.to_le_from.0 in
     omega (arith, h.0, c.rows_below-passed.ensures.within, h.2, c.well_formed.0)
 
 pub put_row_of-placed-requires : goal.put_row_of-placed-requires
@@ -72,11 +69,11 @@ put_row_of-placed-requires c =
       started = c.case_at-case.ensures;
       run = c.work_key-next.ensures;
     } in
-    put_room f s _ _ _ _ _ _ _ _ steps c.requires.1.1.0 c.requires.1.0.2
+    put_room f s _ _ _ _ _ _ _ _ steps c.requires.to_le_from.1.0 c.requires.to_le_from.0.2
 
 pub overflow_add-result : goal.overflow_add-result
 overflow_add-result c =
-    let h = c.requires.1.0 in
+    let h = c.requires.to_le_from.0 in
     omega (arith, c.one_if.ensures.1, c.rows_below-passed.ensures.within, h.2, c.well_formed.0)
 
 pub returns : goal.returns
@@ -95,4 +92,4 @@ returns c =
       run = c.work_key-next.ensures;
     } in
     key_journaled f s _ _ _ _ _ _ _ _ steps a.wanted a.s.written a.journal.now
-    c.requires.1.1.0 _ _ c.put_row_of-placed.ensures _ c.one_if.ensures.0 _ _ c.put_key_entry-written.ensures
+    c.requires.to_le_from.1.0 _ _ c.put_row_of-placed.ensures _ c.one_if.ensures.0 _ _ c.put_key_entry-written.ensures

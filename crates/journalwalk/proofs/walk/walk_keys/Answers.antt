@@ -9,10 +9,10 @@ use Rattle.journalwalk.proofs.walk.walk_keys.Goals as goal
 pub loop-s-init : goal.loop-s-init
 loop-s-init c =
     let a = c.args in
-    let w = c.requires.0 in
+    let w = c.requires.walk_ready in
     let f = fixed_of a.state.now a.year a.list.now a.batch.now a.own a.end in
     let s = start_of a.from a.m.now a.numbers.now in
-    (w, (walking_start f s w refl refl, journaling_start f s a.wanted a.journal.now a.at refl refl c.requires.1))
+    (w, (walking_start f s w refl refl, journaling_start f s a.wanted a.journal.now a.at refl refl c.requires.journal_room))
 
 pub walk_key-s-requires : goal.walk_key-s-requires
 walk_key-s-requires c =
@@ -49,7 +49,7 @@ loop-s-preserved c =
     let t = c.loop-s-test.true in
     let f = fixed_of a.state.now a.year a.list.now a.batch.now a.own a.end in
     let s = start_of a.from a.m.now a.numbers.now in
-    (w, (walking_next f s w _ g t _ k.ensures.walked k.auto.0, journaling_next f s a.wanted a.journal.now a.at w _ g _ _ n t _ _ _ k.ensures))
+    (w, (walking_next f s w _ g t _ k.ensures.walked k.auto.m, journaling_next f s a.wanted a.journal.now a.at w _ g _ _ n t _ _ _ k.ensures))
 
 pub shape_of-m : goal.shape_of-m
 shape_of-m c = c.loop-s.invariant.1.0.len

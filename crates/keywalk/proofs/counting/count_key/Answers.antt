@@ -12,11 +12,11 @@ returns-then-not-makes c =
     let a = c.args in
     let f = c.run_at-run.ensures in (
       counted_idle a.state.now a.own a.n a.m.now a.numbers.now a.s c.run_at-run.result f (not-true _ c.if-not-makes.true-raw),
-      omega (arith, f.run.later, c.requires.1.2),
+      omega (arith, f.run.later, c.requires.from_le_n.2),
     )
 
 pub overflow_add-result : goal.overflow_add-result
-overflow_add-result c = omega (arith, c.one_if-one.ensures.1, c.requires.1.2, c.requires.0.0, c.well_formed)
+overflow_add-result c = omega (arith, c.one_if-one.ensures.1, c.requires.from_le_n.2, c.requires.position_lt_own.0, c.well_formed)
 
 pub returns : goal.returns
 returns c =
@@ -25,5 +25,5 @@ returns c =
       counted_new a.state.now a.own a.n a.m.now a.numbers.now a.s c.run_at-run.result f (not-false _ c.if-not-makes.false-raw) c.key_of-key.result c.rows_below.result c.one_if-one.result
           (c.key_of-key.ensures ∙ ap (key_of_rank a.state.now) c.rank_part.ensures) c.rows_below.ensures
           (c.one_if-one.ensures.0 ∙ rw c.is_row_of.ensures),
-      omega (arith, f.run.later, c.one_if-one.ensures.1, c.requires.1.2),
+      omega (arith, f.run.later, c.one_if-one.ensures.1, c.requires.from_le_n.2),
     )

@@ -18,7 +18,7 @@ count_key-s-requires c =
     let a = c.args in
     let h = c.requires in
     let i = c.loop-s.invariant in
-    ((c.loop-s-test.true, h.2, h.3), (i.1, h.0, i.2, rises_from a.m.now a.n c.loop-s.s.from (rows_rise _ h.1)))
+    record { position_lt_own = (c.loop-s-test.true, h.2, h.3); from_le_n = (i.1, h.0, i.2, rises_from a.m.now a.n c.loop-s.s.from (rows_rise _ h.1)) }
 
 pub loop-s-smaller : goal.loop-s-smaller
 loop-s-smaller c = let k = c.count_key-s.ensures.0.ended in omega (arith, k.later, c.loop-s-test.true)

@@ -20,11 +20,11 @@ copy_records-requires c =
 
 pub copy_records-requires-2 : goal.copy_records-requires-2
 copy_records-requires-2 c =
-    (omega (arith, out_long max_rows _ _ _ c.requires, c.copy_records.auto.0), omega (arith, second_long max_rows _ _ _ c.requires))
+    (omega (arith, out_long max_rows _ _ _ c.requires, c.copy_records.auto.out), omega (arith, second_long max_rows _ _ _ c.requires))
 
 pub copy_in-requires : goal.copy_in-requires
 copy_in-requires c =
-    omega (arith, out_long max_rows _ _ _ c.requires, c.copy_records-2.auto.0, c.copy_records.auto.0)
+    omega (arith, out_long max_rows _ _ _ c.requires, c.copy_records-2.auto.out, c.copy_records.auto.out)
 
 pub returns : goal.returns
 returns c =

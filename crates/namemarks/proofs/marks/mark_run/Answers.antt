@@ -16,7 +16,7 @@ pub returns-then-gives : goal.returns-then-gives
 returns-then-gives c =
     let a = c.args in
     let m = c.mark_sorted in
-    part-marked a.state.now a.batch.now a.numbers.now a.p a.e a.gives c.requires m.new.1.1.1.0 m.ensures
+    part-marked a.state.now a.batch.now a.numbers.now a.p a.e a.gives c.requires m.new.numbers m.ensures
 
 pub returns-else-gives : goal.returns-else-gives
 returns-else-gives c =

@@ -8,9 +8,9 @@ use Rattle.onecase.proofs.case.step_row.Goals as goal
 pub returns-then-set-eq0 : goal.returns-then-set-eq0
 returns-then-set-eq0 c names g =
     let a = c.args in
-    step_accepted (setting_of a.state.now a.year a.list.now names) (row_if a.held a.t2) a.rec.now _ _ _ (c.judge-judged.ensures names g).0 c.if-set-eq0.true c.warned-warned.ensures c.applied_row-case.ensures
+    step_accepted (setting_of a.state.now a.year a.list.now names) (row_if a.held a.row) a.rec.now _ _ _ (c.judge-judged.ensures names g).0 c.if-set-eq0.true c.warned-warned.ensures c.applied_row-case.ensures
 
 pub returns : goal.returns
 returns c names g =
     let a = c.args in
-    step_rejected (setting_of a.state.now a.year a.list.now names) (row_if a.held a.t2) a.rec.now _ _ _ _ (c.judge-judged.ensures names g).0 c.if-set-eq0.false (c.judge-judged.ensures names g).1 refl c.rejection-verdict.ensures
+    step_rejected (setting_of a.state.now a.year a.list.now names) (row_if a.held a.row) a.rec.now _ _ _ _ (c.judge-judged.ensures names g).0 c.if-set-eq0.false (c.judge-judged.ensures names g).1 refl c.rejection-verdict.ensures

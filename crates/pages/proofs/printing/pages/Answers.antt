@@ -47,4 +47,4 @@ print_rows-requires c =
 pub returns : goal.returns
 returns c =
     let a = c.args in
-    pages_done max_rows a.master.now a.rows a.out.now (sym c.master_refusal-refusal.ensures ∙ c.if-refusal-ne0.false) c.count_live-live.result c.count_live-live.ensures.0 c.print_rows.new.out c.print_rows.result (omega arith) c.print_rows.auto.0 c.print_rows.ensures
+    pages_done max_rows a.master.now a.rows a.out.now (sym c.master_refusal-refusal.ensures ∙ c.if-refusal-ne0.false) c.count_live-live.result c.count_live-live.ensures.0 c.print_rows.new.out c.print_rows.result (omega arith) c.print_rows.auto.out c.print_rows.ensures

@@ -28,13 +28,13 @@ pub put_line-lined-requires : goal.put_line-lined-requires
 put_line-lined-requires c =
     let a = c.args in
     let d : is_live a.row.now ≡ true = sym c.is_live.ensures ∙ not-false _ c.if-not-is_live.false-raw in
-    omega (arith, row_room a.out.now a.k a.page a.rows a.row.now d, c.requires.3, count_added a.k (heading_before a.page a.rows) c.open_page-opened.ensures, c.open_page-opened.auto.0)
+    omega (arith, row_room a.out.now a.k a.page a.rows a.row.now d, c.requires.3, count_added a.k (heading_before a.page a.rows) c.open_page-opened.ensures, c.open_page-opened.auto.out)
 
 pub close_page-written-requires : goal.close_page-written-requires
 close_page-written-requires c =
     let a = c.args in
     let d : is_live a.row.now ≡ true = sym c.is_live.ensures ∙ not-false _ c.if-not-is_live.false-raw in
-    omega (arith, row_room a.out.now a.k a.page a.rows a.row.now d, c.requires.3, count_added a.k (heading_before a.page a.rows) c.open_page-opened.ensures, c.open_page-opened.auto.0, count_added c.open_page-opened.result (c.line_of-line.result ∷ []) c.put_line-lined.ensures, c.put_line-lined.auto.0)
+    omega (arith, row_room a.out.now a.k a.page a.rows a.row.now d, c.requires.3, count_added a.k (heading_before a.page a.rows) c.open_page-opened.ensures, c.open_page-opened.auto.out, count_added c.open_page-opened.result (c.line_of-line.result ∷ []) c.put_line-lined.ensures, c.put_line-lined.auto.out)
 
 pub returns-then-now_rows-eq-PAGE_LINES : goal.returns-then-now_rows-eq-PAGE_LINES
 returns-then-now_rows-eq-PAGE_LINES c =

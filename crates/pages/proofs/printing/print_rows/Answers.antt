@@ -25,7 +25,7 @@ loop-i-preserved c =
     let a = c.args in
     let l = c.loop-i in
     let p = c.print_row-standing in
-    printing_next a.n a.m.now a.out.now l.invariant c.requires.1 p.new.0 _ _ _ c.loop-i-test.true p.auto.0 (rw (part_width 200 a.m.now (l.i * 200)) at p.ensures)
+    printing_next a.n a.m.now a.out.now l.invariant c.requires.1 p.new.out _ _ _ c.loop-i-test.true p.auto.out (rw (part_width 200 a.m.now (l.i * 200)) at p.ensures)
 
 pub close_page-requires : goal.close_page-requires
 close_page-requires c =

@@ -6,4 +6,4 @@ use Rattle.pages.proofs.printing.put_line.Goals as goal
 pub returns : goal.returns
 returns c =
     let a = c.args in
-    rw c.copy_in.ensures (holds_append 132 a.k a.out.now a.t3 (omega arith) (omega (arith, c.requires)))
+    rw c.copy_in.ensures (holds_append 132 a.k a.out.now a.line (omega arith) (omega (arith, c.requires)))

@@ -9,14 +9,14 @@ pub returns-then-not-right : goal.returns-then-not-right
 returns-then-not-right c =
     let a = c.args in
     let line = a.line.now in
-    let row = a.t1 in
+    let row = a.row in
     left_turn line row _ refl refl (not_right line row (sym c.read_amounts-amounts.ensures.right_is ∙ not-true _ c.if-not-right.true-raw))
 
 pub returns-then-not-live : goal.returns-then-not-live
 returns-then-not-live c =
     let a = c.args in
     let line = a.line.now in
-    let row = a.t1 in
+    let row = a.row in
     left_turn line row _ refl refl
     (not_live line row (sym c.read_amounts-amounts.ensures.right_is ∙ not-false _ c.if-not-right.false-raw) (sym c.is_live-live.ensures ∙ not-true _ c.if-not-live.true-raw))
 
@@ -24,7 +24,7 @@ pub returns-then-cents-adjustment : goal.returns-then-cents-adjustment
 returns-then-cents-adjustment c =
     let a = c.args in
     let line = a.line.now in
-    let row = a.t1 in
+    let row = a.row in
     left_turn line row _ refl refl
     (too_much line row (sym c.read_amounts-amounts.ensures.right_is ∙ not-false _ c.if-not-right.false-raw) (sym c.is_live-live.ensures ∙ not-false _ c.if-not-live.false-raw)
     (omega (arith, c.if-cents-adjustment.true, c.balance_of-cents.ensures.0, c.balance_of-cents.ensures.1, c.read_amounts-amounts.ensures.adjustment_is)))
@@ -33,7 +33,7 @@ pub returns : goal.returns
 returns c =
     let a = c.args in
     let line = a.line.now in
-    let row = a.t1 in
+    let row = a.row in
     let r = c.read_amounts-amounts.ensures in
     posted_turn line row _ c.balance_after-next.result.0 refl c.with_balance-new.ensures
     (c.balance_after-next.ensures ∙ rw (c.balance_of-cents.ensures.0, r.adjustment_is, r.collection_is))

@@ -28,5 +28,5 @@ returns c =
     let a = c.args in
     let p = c.fill_rec in
     let l = part-fill-rec-end c in
-    let w : length p.new.0 ≡ 245 = p.auto.0 ∙ simp (length-take, length-drop) (omega arith) in
-    put_one a.state.now a.row.now p.new.0 a.out.now a.k (reported (goal.at.returns c).Else-not-is_reported) p.ensures w l
+    let w : length p.new.rec ≡ 245 = p.auto.rec ∙ simp (length-take, length-drop) (omega arith) in
+    put_one a.state.now a.row.now p.new.rec a.out.now a.k (reported (goal.at.returns c).Else-not-is_reported) p.ensures w l

@@ -24,7 +24,7 @@ loop-i-preserved c =
     let a = c.args in
     let l = c.loop-i in
     let p = c.put_record-k in
-    (search rules, writing_next a.state.now a.n a.m.now l.invariant.1 p.new.0 p.result c.loop-i-test.true p.auto.0 (rw (part_width 200 a.m.now (l.i * 200)) at p.ensures))
+    (search rules, writing_next a.state.now a.n a.m.now l.invariant.1 p.new.out p.result c.loop-i-test.true p.auto.out (rw (part_width 200 a.m.now (l.i * 200)) at p.ensures))
 
 pub shape_of-out : goal.shape_of-out
 shape_of-out c = c.loop-i.invariant.1.wide

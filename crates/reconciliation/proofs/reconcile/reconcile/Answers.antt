@@ -52,13 +52,13 @@ returns-then-out-cases c =
     let e : master_refusal max_rows a.master.now a.rows 0 ≡ 0 = sym c.master_refusal-refusal.ensures ∙ c.if-refusal-ne0.false in
     let s : is_state a.state.now ≡ true = sym c.is_state.ensures ∙ not-false _ c.if-not-is_state.false-raw in
     let d : is_date a.date.now ≡ true = sym c.is_date.ensures ∙ not-false _ c.if-not-is_date.false-raw in
-    reconcile_11 max_rows a.master.now a.rows a.state.now a.date.now a.out.now e s d (omega (arith, c.count_cases-cases.ensures.0, c.if-out-cases.true))
+    reconcile_11 max_rows a.master.now a.rows a.state.now a.date.now a.out.now e s d (omega (arith, c.count_cases-cases.ensures.total_value, c.if-out-cases.true))
 
 pub put_records-records-requires : goal.put_records-records-requires
 put_records-records-requires c =
     let a = c.args in (
       omega (arith, master_rows max_rows a.master.now a.rows (sym c.master_refusal-refusal.ensures ∙ c.if-refusal-ne0.false)),
-      omega (arith, c.count_cases-cases.ensures.0, c.if-out-cases.false),
+      omega (arith, c.count_cases-cases.ensures.total_value, c.if-out-cases.false),
     )
 
 pub rct_record-control-requires : goal.rct_record-control-requires
@@ -69,12 +69,12 @@ rct_record-control-requires c =
     )
 
 pub overflow_mul-records : goal.overflow_mul-records
-overflow_mul-records c = omega (arith, holds_count 245 c.put_records-records.ensures, c.count_cases-cases.ensures.0, c.if-out-cases.false)
+overflow_mul-records c = omega (arith, holds_count 245 c.put_records-records.ensures, c.count_cases-cases.ensures.total_value, c.if-out-cases.false)
 
 pub copy_in-requires : goal.copy_in-requires
 copy_in-requires c =
     let w : length c.rct_record-control.result ≡ 245 = search rules in
-    omega (arith, holds_count 245 c.put_records-records.ensures, c.count_cases-cases.ensures.0, c.if-out-cases.false, c.put_records-records.auto.0)
+    omega (arith, holds_count 245 c.put_records-records.ensures, c.count_cases-cases.ensures.total_value, c.if-out-cases.false, c.put_records-records.auto.out)
 
 pub returns : goal.returns
 returns c =
@@ -91,6 +91,6 @@ returns c =
     let l : length (rec_records a.state.now rows) < length a.out.now / 245 = omega (arith, k.0, c.if-out-cases.false) in
     reconcile_done max_rows a.master.now a.rows a.state.now a.date.now a.out.now e s d p.result c.copy_in.new.dst l n
     (c.copy_in.ensures
-    ∙ holds_last 245 r p.ensures w (omega (arith, p.auto.0))
+    ∙ holds_last 245 r p.ensures w (omega (arith, p.auto.out))
     ∙ ap (λ (z : List ℕ). over (joined (rec_records a.state.now rows) ++ z) a.out.now)
     (rct_counted a.state.now a.date.now rows _ _ _ r k.1.0 k.1.1 k.0 c.rct_record-control.ensures))

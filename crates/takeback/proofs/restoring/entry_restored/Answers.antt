@@ -10,34 +10,34 @@ pub returns-then-place-p : goal.returns-then-place-p
 returns-then-place-p c =
     let a = c.args in
     let q = c.requires in
-    λ g. c.row_kept.ensures g (is_later a.journal.now a.s.at a.p g c.entry_at-e.result c.entry_at-e.ensures q.0.2 c.if-place-p.true)
+    λ g. c.row_kept.ensures g (is_later a.journal.now a.s.at a.p g c.entry_at-e.result c.entry_at-e.ensures q.p_in_bounds.2 c.if-place-p.true)
 
 pub returns-then-e : goal.returns-then-e
 returns-then-e c =
     let a = c.args in
     let q = c.requires in
-    λ g. new_restored a.m.now a.p a.journal.now a.s a.m.now _ c.entry_at-e.result c.entry_at-e.ensures q.0.2 c.if-place-p.false q.0.1 g c.if-e.true refl refl refl
+    λ g. new_restored a.m.now a.p a.journal.now a.s a.m.now _ c.entry_at-e.result c.entry_at-e.ensures q.p_in_bounds.2 c.if-place-p.false q.p_in_bounds.1 g c.if-e.true refl refl refl
 
 pub overflow_add-end : goal.overflow_add-end
 overflow_add-end c =
     let a = c.args in
     let q = c.requires in
-    omega (arith, (must_find a.journal.now a.s.at a.p q.1 c.entry_at-e.result c.entry_at-e.ensures q.0.2).row_in_lem c.if-e.false)
+    omega (arith, (must_find a.journal.now a.s.at a.p q.can_restore c.entry_at-e.result c.entry_at-e.ensures q.p_in_bounds.2).row_inside c.if-e.false)
 
 pub slice_bounds-copy_in-end : goal.slice_bounds-copy_in-end
 slice_bounds-copy_in-end c =
     let a = c.args in
     let q = c.requires in
-    omega (arith, (must_find a.journal.now a.s.at a.p q.1 c.entry_at-e.result c.entry_at-e.ensures q.0.2).row_in_lem c.if-e.false)
+    omega (arith, (must_find a.journal.now a.s.at a.p q.can_restore c.entry_at-e.result c.entry_at-e.ensures q.p_in_bounds.2).row_inside c.if-e.false)
 
 pub copy_in-requires : goal.copy_in-requires
 copy_in-requires c =
     let a = c.args in
     let q = c.requires in
-    simp (length-take, length-drop) (omega (arith, q.0.0, q.0.1))
+    simp (length-take, length-drop) (omega (arith, q.p_in_bounds.0, q.p_in_bounds.1))
 
 pub returns : goal.returns
 returns c =
     let a = c.args in
     let q = c.requires in
-    λ g. old_restored a.m.now a.p a.journal.now a.s _ _ c.entry_at-e.result c.entry_at-e.ensures q.0.2 c.if-place-p.false q.0.1 g c.if-e.false c.copy_in.ensures q.0.0 refl refl
+    λ g. old_restored a.m.now a.p a.journal.now a.s _ _ c.entry_at-e.result c.entry_at-e.ensures q.p_in_bounds.2 c.if-place-p.false q.p_in_bounds.1 g c.if-e.false c.copy_in.ensures q.p_in_bounds.0 refl refl

@@ -7,12 +7,12 @@ use Rattle.takeback.proofs.restoring.restore.Goals as goal
 pub loop-p-init : goal.loop-p-init
 loop-p-init c =
     let a = c.args in
-    restoring_none a.m.now a.n a.journal.now a.at _ refl refl c.requires.0.1 c.requires.1
+    restoring_none a.m.now a.n a.journal.now a.at _ refl refl c.requires.n_in_bounds.1 c.requires.can_restore
 
 pub place_restored-s-requires : goal.place_restored-s-requires
 place_restored-s-requires c =
     let l = c.loop-p in
-    ((omega (arith, c.requires.0.0, l.invariant.same_length, c.loop-p-test.true), l.invariant.to_low, l.invariant.inside), l.invariant.left)
+    record { p_in_bounds = (omega (arith, c.requires.n_in_bounds.0, l.invariant.same_length, c.loop-p-test.true), l.invariant.to_low, l.invariant.inside); can_restore = l.invariant.left }
 
 pub loop-p-preserved : goal.loop-p-preserved
 loop-p-preserved c =

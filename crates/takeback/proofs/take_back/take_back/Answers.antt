@@ -14,7 +14,7 @@ restore-requires c =
     let a = c.args in
     let z = sym c.take_back_refusal-refusal.ensures ∙ c.if-refusal-ne0.false in
     let k = known max_rows few_rows a.master.now a.rows a.journal.now z c.counts_of-c.result c.counts_of-c.ensures in
-    ((rows_inside max_rows a.master.now a.rows (no_refusal max_rows a.master.now a.rows a.journal.now z).0, k.inside), k.can)
+    record { n_in_bounds = (rows_inside max_rows a.master.now a.rows (no_refusal max_rows a.master.now a.rows a.journal.now z).0, k.inside); can_restore = k.can }
 
 pub returns : goal.returns
 returns c =

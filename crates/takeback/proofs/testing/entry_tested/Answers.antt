@@ -27,7 +27,7 @@ returns-then-e c =
 pub old_followed-requires : goal.old_followed-requires
 old_followed-requires c =
     let a = c.args in
-    (is_found a.m.now a.p a.journal.now a.s a.s c.entry_at-e.result c.entry_at-e.ensures c.if-not-e.false).row_in_lem c.if-e.false
+    (is_found a.m.now a.p a.journal.now a.s a.s c.entry_at-e.result c.entry_at-e.ensures c.if-not-e.false).row_inside c.if-e.false
 
 pub returns : goal.returns
 returns c =
