@@ -28,8 +28,8 @@ module _ (row : List ℕ) (wide : length row ≡ 200) where
   abbrev rec_widths : List ℕ
   rec_widths = 3 ∷ 2 ∷ 3 ∷ 9 ∷ 15 ∷ 20 ∷ 10 ∷ 8 ∷ 1 ∷ 8 ∷ 2 ∷ 24 ∷ 140 ∷ []
 
-  rec_widths : map length (REC ∷ rec_others) ≡ rec_widths
-  rec_widths =
+  rec_widths_lem : map length (REC ∷ rec_others) ≡ rec_widths
+  rec_widths_lem =
       rw (
         row-columns row wide 1 2 (lit≤ tt) (lit≤ tt) (lit≤ tt),
         row-columns row wide 13 15 (lit≤ tt) (lit≤ tt) (lit≤ tt),
@@ -47,12 +47,12 @@ module _ (row : List ℕ) (wide : length row ≡ 200) where
   pub rec_columns : IsRecRecord row (rec_record row)
   unfolding rec_record
   rec_columns =
-      let at = columns-appended rec_widths REC rec_others rec_widths in
+      let at = columns-appended rec_widths REC rec_others rec_widths_lem in
       -- 80 and 81 are each a part of the two spaces
       let part : (i : ℕ) → 1 ≤ i → i ≤ 2 → columns i i (columns 80 81 (rec_record row)) ≡ columns (80 + i - 1) (80 + i - 1) (rec_record row) =
       λ i l h. columns_of-columns 80 81 i i (rec_record row) (lit≤ tt) l (omega arith) (omega arith) in
       record {
-        wide = length-appended rec_widths REC rec_others rec_widths;
+        wide = length-appended rec_widths REC rec_others rec_widths_lem;
         identifier = at 0;
         state = at 1;
         local_code = at 2;

@@ -35,8 +35,8 @@ loop-i-preserved c =
     let f = c.note_record-listed.auto in (
       search rules,
       listed-within (is_faulty (contact_at a.file.now l.i)) l.listed l.i c.note_record-listed.result e.0 l.invariant.1,
-      f.1.1.0 ∙ l.invariant.2,
-      f.1.1.1.0 ∙ l.invariant.3,
+      f.lasts ∙ l.invariant.2,
+      f.faulty ∙ l.invariant.3,
       (rw e.1 (sym (lasts_next a.n a.file.now l.i t l.lasts))) ∙ l.invariant.4,
       rw (e.0, e.2) (listing_next a.n a.file.now a.faulty.now l.faulty l.listed l.i l.invariant.5 t (omega (arith, l.invariant.1, c.requires.3))),
     )

@@ -8,35 +8,23 @@ use Rattle.text.specs.ByteOrder.{order_of, is_less}
 use Rattle.text.proofs.ByteNumberLaws.{bytes_of}
 use Rattle.lookup.proofs.KeysLaws.{AreNumbers, numbers_at, key_in_list, first_below, second_below, neither_below}
 use Rattle.lookup.proofs.many.compare.Goals as goal
-use Rattle.lookup.proofs.many.compare.Goals.{After-four_number-back, After-is_twelve_below_in, After-is_twelve_below_in-2}
+use Rattle.lookup.proofs.many.compare.Goals.{After-is_twelve_below_in, After-is_twelve_below_in-2}
 
 -- the key of the row at p, and the key at i
 abbrev rowKeyAt : List ℕ → ℕ → List ℕ
 rowKeyAt m p = take 12 (drop (p * 200) m)
-
--- the numbers read are those of the row's key
-row-numbers : (c : After-four_number-back)
-    → AreNumbers c.eight_number-row_front.result c.four_number-row_back.result (rowKeyAt c.args.m.now c.args.p)
-row-numbers c =
-    let m = c.args.m.now in
-    let b = bytes_of m (λ i h. omega (arith, c.shared_slice_known-1.given i)) in
-    numbers_at m (c.args.p * 200) _ _ c.requires.0 b c.eight_number-row_front.ensures c.four_number-row_back.ensures.0
-
--- and of the key
-key_numbers : (c : After-four_number-back)
-    → AreNumbers c.eight_number-front.result c.four_number-back.result (key_in_list c.args.keys.now c.args.i)
-key_numbers c =
-    let k = c.args.keys.now in
-    let b = bytes_of k (λ i h. omega (arith, c.shared_slice_known-2-1.given i)) in
-    numbers_at k (c.args.i * 12) _ _ c.requires.1 b c.eight_number-front.ensures c.four_number-back.ensures.0
 
 -- what the first comparison of numbers says
 row_below : (c : After-is_twelve_below_in)
     → c.is_twelve_below_in.result ≡ is_less (order_of (rowKeyAt c.args.m.now c.args.p) (key_in_list c.args.keys.now c.args.i))
 row_below c =
     let a = c.args in
-    let n = row-numbers c in
-    let o = key_numbers c in
+    let m = a.m.now in
+    let k = a.keys.now in
+    let n = numbers_at m (a.p * 200) _ _ c.requires.0 (bytes_of m (λ i h. omega (arith, c.shared_slice_known-1.given i)))
+        c.eight_number-row_front.ensures c.four_number-row_back.ensures.0 in
+    let o = numbers_at k (a.i * 12) _ _ c.requires.1 (bytes_of k (λ i h. omega (arith, c.shared_slice_known-2-1.given i)))
+        c.eight_number-front.ensures c.four_number-back.ensures.0 in
     c.is_twelve_below_in.ensures (rowKeyAt a.m.now a.p) (key_in_list a.keys.now a.i) n.wide o.wide n.bytes o.bytes
     n.front_is n.back_is o.front_is o.back_is
 
@@ -45,8 +33,12 @@ key_below : (c : After-is_twelve_below_in-2)
     → c.is_twelve_below_in-2.result ≡ is_less (order_of (key_in_list c.args.keys.now c.args.i) (rowKeyAt c.args.m.now c.args.p))
 key_below c =
     let a = c.args in
-    let n = row-numbers c in
-    let o = key_numbers c in
+    let m = a.m.now in
+    let k = a.keys.now in
+    let n = numbers_at m (a.p * 200) _ _ c.requires.0 (bytes_of m (λ i h. omega (arith, c.shared_slice_known-1.given i)))
+        c.eight_number-row_front.ensures c.four_number-row_back.ensures.0 in
+    let o = numbers_at k (a.i * 12) _ _ c.requires.1 (bytes_of k (λ i h. omega (arith, c.shared_slice_known-2-1.given i)))
+        c.eight_number-front.ensures c.four_number-back.ensures.0 in
     c.is_twelve_below_in-2.ensures (key_in_list a.keys.now a.i) (rowKeyAt a.m.now a.p) o.wide n.wide o.bytes n.bytes
     o.front_is o.back_is n.front_is n.back_is
 

@@ -50,4 +50,8 @@ returns c =
     let l = c.loop-i in
     let t : a.n ≤ l.i = search rules in
     let z : length (rec_records s (drop l.i (rows_of a.n m))) ≡ 0 = ap length (rec_end s a.n m l.i t) in
-    (omega arith, (omega (arith, reported_end s a.n m l.i A t), omega (arith, reported_end s a.n m l.i N t)))
+    record {
+      total_value = omega arith;
+      tanf_value = omega (arith, reported_end s a.n m l.i A t);
+      non_tanf_value = omega (arith, reported_end s a.n m l.i N t);
+    }

@@ -7,14 +7,12 @@ use Rattle.text.specs.Characters.{A, N}
 use Rattle.casemaster.specs.Master.{rows_of}
 use Rattle.reconciliation.proofs.reconcile.count_cases.Given as goal
 
--- TODO
-abbrev invariant-loop : tie.invariant-loop
-invariant-loop m n state total₀ tanf₀ non-tanf₀ i₀ total tanf non_tanf i =
-    (i ≤ n) × (total ≤ i) × (tanf ≤ i) × (non_tanf ≤ i)
-    × (total + length (rec_records state (drop i (rows_of n m))) ≡ length (rec_records state (rows_of n m)))
-    × (tanf + reported_of A state (drop i (rows_of n m)) ≡ reported_of A state (rows_of n m))
-    × (non_tanf + reported_of N state (drop i (rows_of n m)) ≡ reported_of N state (rows_of n m))
+abbrev pub invariant-loop-i : goal.invariant-loop-i
+invariant-loop-i l =
+    (l.i ≤ l.n) × (l.total ≤ l.i) × (l.tanf ≤ l.i) × (l.non_tanf ≤ l.i)
+    × (l.total + length (rec_records l.state (drop l.i (rows_of l.n l.m))) ≡ length (rec_records l.state (rows_of l.n l.m)))
+    × (l.tanf + reported_of A l.state (drop l.i (rows_of l.n l.m)) ≡ reported_of A l.state (rows_of l.n l.m))
+    × (l.non_tanf + reported_of N l.state (drop l.i (rows_of l.n l.m)) ≡ reported_of N l.state (rows_of l.n l.m))
 
--- TODO
-abbrev decreases-loop : tie.decreases-loop
-decreases-loop m n state total₀ tanf₀ non-tanf₀ i₀ total tanf non_tanf i = n - i
+abbrev pub decreases-loop-i : goal.decreases-loop-i
+decreases-loop-i l = l.n - l.i

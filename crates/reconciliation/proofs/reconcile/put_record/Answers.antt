@@ -1,6 +1,7 @@
 -- `reconcile::put_record`: a row that is reported appends its record as one block more, another leaves the buffer. Assumes nothing.
 use mathlib.Core.Bool.{true}
 use mathlib.Core.Path.{◌≡◌, sym, ap, ◌∙◌}
+use Prim.Native.Nat.{◌+◌, ◌*◌, ◌≤◌}
 use native.Mathlib.Omega.{arith}
 use lib.ListN.{length, length-take, length-drop}
 use borrow.Author.Tests.{not-true, not-false}
@@ -27,6 +28,7 @@ pub returns : goal.returns
 returns c =
     let a = c.args in
     let p = c.fill_rec in
-    let l = part-fill-rec-end c in
+    let e = ap length (rec_one a.state.now a.row.now (reported (goal.at.returns c).Else-not-is_reported)) in
+    let l : a.k * 245 + 245 ≤ length a.out.now = omega arith in
     let w : length p.new.rec ≡ 245 = p.auto.rec ∙ simp (length-take, length-drop) (omega arith) in
     put_one a.state.now a.row.now p.new.rec a.out.now a.k (reported (goal.at.returns c).Else-not-is_reported) p.ensures w l

@@ -88,9 +88,9 @@ returns c =
     let r = c.rct_record-control.result in
     let w : length r ≡ 245 = search rules in
     let rows : List (List ℕ) = rows_of a.rows a.master.now in
-    let l : length (rec_records a.state.now rows) < length a.out.now / 245 = omega (arith, k.0, c.if-out-cases.false) in
+    let l : length (rec_records a.state.now rows) < length a.out.now / 245 = omega (arith, k.total_value, c.if-out-cases.false) in
     reconcile_done max_rows a.master.now a.rows a.state.now a.date.now a.out.now e s d p.result c.copy_in.new.dst l n
     (c.copy_in.ensures
     ∙ holds_last 245 r p.ensures w (omega (arith, p.auto.out))
     ∙ ap (λ (z : List ℕ). over (joined (rec_records a.state.now rows) ++ z) a.out.now)
-    (rct_counted a.state.now a.date.now rows _ _ _ r k.1.0 k.1.1 k.0 c.rct_record-control.ensures))
+    (rct_counted a.state.now a.date.now rows _ _ _ r k.tanf_value.0 k.1.1 k.0 c.rct_record-control.ensures))
