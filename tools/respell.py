@@ -15,7 +15,7 @@ import sys
 
 WORD = re.compile(r"(?<![\w'′-])[A-Za-zℕ][\w'′]*(?:-[\w'′]+)*(?![\w'′])")
 STD = set("length take drop map append set put zip replicate cons nil suc zero add sub mul le lt eq sum filter reverse cond not and or mod div pow".split())
-CHOSEN = {"row-in": "row_inside", "rec-widths": "rec_widths_lem"}
+CHOSEN = {"isZeroBalance": "is_zero_balance", "rowKeyAt": "row_key_at", "nonOut": "non_out", "nonWarned": "non_warned", "noText": "no_text", "row-in": "row_inside", "rec-widths": "rec_widths_lem"}
 KEEP = {"ref-ptr", "ghost-name", "get_or-set_same", "get_or-set_other"}
 
 

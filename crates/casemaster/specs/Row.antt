@@ -127,7 +127,7 @@ is_deleted row = eqb (get_or (row_status row) 0 0) D
 
 -- D exactly when the balance is zero
 abbrev pub is_deleted_exactly : Bool → List ℕ → Bool
-is_deleted_exactly isZeroBalance row = cond isZeroBalance (is_deleted row) (is_live row)
+is_deleted_exactly is_zero_balance row = cond is_zero_balance (is_deleted row) (is_live row)
 
 -- digits in 13–15, 66–73, 79–90, and a last name free of 05 as for type A
 unfoldable pub are_fields_sound : List ℕ → Bool

@@ -142,11 +142,11 @@ still x true = add-zero x
 still x false = add-zero x
 
 -- all counts with it moved
-pub moved_counts : (t : Tally) (detail : List ℕ) (a : Bool) (out nonOut warned nonWarned : ℕ)
+pub moved_counts : (t : Tally) (detail : List ℕ) (a : Bool) (out non_out warned non_warned : ℕ)
     → out ≡ cond (is_tanf detail && not a) 1 0
-    → nonOut ≡ cond (is_non_tanf detail && not a) 1 0
+    → non_out ≡ cond (is_non_tanf detail && not a) 1 0
     → warned ≡ cond (is_tanf detail && a) 1 0
-    → nonWarned ≡ cond (is_non_tanf detail && a) 1 0
+    → non_warned ≡ cond (is_non_tanf detail && a) 1 0
     → count_in A detail ≤ t.tanf_accepted
     → count_in N detail ≤ t.non_tanf_accepted
     → plus
@@ -154,16 +154,16 @@ pub moved_counts : (t : Tally) (detail : List ℕ) (a : Bool) (out nonOut warned
     (record {
       tanf_accepted = t.tanf_accepted - out;
       tanf_rejected = t.tanf_rejected + out;
-      non_tanf_accepted = t.non_tanf_accepted - nonOut;
-      non_tanf_rejected = t.non_tanf_rejected + nonOut;
+      non_tanf_accepted = t.non_tanf_accepted - non_out;
+      non_tanf_rejected = t.non_tanf_rejected + non_out;
       tanf_warned = t.tanf_warned + warned;
-      non_tanf_warned = t.non_tanf_warned + nonWarned;
+      non_tanf_warned = t.non_tanf_warned + non_warned;
       neither = t.neither;
     }))
     (one_detail detail false false)
     ≡ plus (counts_in t) (one_detail detail (not a) a)
 unfolding one_detail
-moved_counts t detail a out nonOut warned nonWarned e f g h l m =
+moved_counts t detail a out non_out warned non_warned e f g h l m =
     let x = is_tanf detail in
     let y = is_non_tanf detail in
     rw (

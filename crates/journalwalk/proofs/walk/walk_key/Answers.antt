@@ -20,7 +20,7 @@ key_at-key-requires c =
 
 pub case_at-case-requires : goal.case_at-case-requires
 case_at-case-requires c =
-    row_there _ _ _ _ _ c.is_row_of-held.ensures (omega (arith, c.requires.to_le_from.0.2, c.pull_rows.ensures.same_length))
+    row_there _ _ _ _ _ c.is_row_of-held.ensures (omega (arith, c.requires.to_le_from.2, c.pull_rows.ensures.same_length))
 
 pub work_key-next-requires : goal.work_key-next-requires
 work_key-next-requires c =
@@ -29,7 +29,7 @@ work_key-next-requires c =
 
 pub overflow_add-to : goal.overflow_add-to
 overflow_add-to c =
-    let h = c.requires.to_le_from.0 in
+    let h = c.requires.to_le_from in
     omega (arith, h.0, c.rows_below-passed.ensures.within, h.2, c.well_formed.0)
 
 pub put_key_entry-written-requires : goal.put_key_entry-written-requires
@@ -47,11 +47,11 @@ put_key_entry-written-requires c =
       started = c.case_at-case.ensures;
       run = c.work_key-next.ensures;
     } in
-    entry_room f s _ _ _ _ _ _ _ _ steps a.wanted a.s.written a.journal.now c.requires.to_le_from.1.1
+    entry_room f s _ _ _ _ _ _ _ _ steps a.wanted a.s.written a.journal.now c.requires.key_room
 
 pub overflow_add-to-2 : goal.overflow_add-to-2
 overflow_add-to-2 c =
-    let h = c.requires.to_le_from.0 in
+    let h = c.requires.to_le_from in
     omega (arith, h.0, c.rows_below-passed.ensures.within, h.2, c.well_formed.0)
 
 pub put_row_of-placed-requires : goal.put_row_of-placed-requires
@@ -69,11 +69,11 @@ put_row_of-placed-requires c =
       started = c.case_at-case.ensures;
       run = c.work_key-next.ensures;
     } in
-    put_room f s _ _ _ _ _ _ _ _ steps c.requires.to_le_from.1.0 c.requires.to_le_from.0.2
+    put_room f s _ _ _ _ _ _ _ _ steps c.requires.stays_before c.requires.to_le_from.2
 
 pub overflow_add-result : goal.overflow_add-result
 overflow_add-result c =
-    let h = c.requires.to_le_from.0 in
+    let h = c.requires.to_le_from in
     omega (arith, c.one_if.ensures.1, c.rows_below-passed.ensures.within, h.2, c.well_formed.0)
 
 pub returns : goal.returns
@@ -92,4 +92,4 @@ returns c =
       run = c.work_key-next.ensures;
     } in
     key_journaled f s _ _ _ _ _ _ _ _ steps a.wanted a.s.written a.journal.now
-    c.requires.to_le_from.1.0 _ _ c.put_row_of-placed.ensures _ c.one_if.ensures.0 _ _ c.put_key_entry-written.ensures
+    c.requires.stays_before _ _ c.put_row_of-placed.ensures _ c.one_if.ensures.0 _ _ c.put_key_entry-written.ensures

@@ -23,16 +23,13 @@ walk_key-s-requires c =
     let n = l.invariant.1.1 in
     let t = c.loop-s-test.true in
     let f = fixed_of a.state.now a.year a.list.now a.batch.now a.own a.end in
-    let s = start_of a.from a.m.now a.numbers.now in (
-      (t, walking_sorted f s w _ g, c.is_ordered-ordered.ensures),
-      (
-        (g.low, g.within, omega (arith, g.len, w.rows_in), walking_rises f s w _ g),
-        (
-          walking_room f s w _ g t,
-          journaling_room f s a.wanted a.journal.now a.at w _ g _ _ n t,
-        ),
-      ),
-    )
+    let s = start_of a.from a.m.now a.numbers.now in
+    record {
+      position_lt_own = (t, walking_sorted f s w _ g, c.is_ordered-ordered.ensures);
+      to_le_from = (g.low, g.within, omega (arith, g.len, w.rows_in), walking_rises f s w _ g);
+      stays_before = walking_room f s w _ g t;
+      key_room = journaling_room f s a.wanted a.journal.now a.at w _ g _ _ n t;
+    }
 
 pub loop-s-smaller : goal.loop-s-smaller
 loop-s-smaller c =

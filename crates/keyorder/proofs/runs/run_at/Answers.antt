@@ -16,8 +16,8 @@ pub returns-then-rank_part-rank : goal.returns-then-rank_part-rank
 returns-then-rank_part-rank c =
     let a = c.args in
     let l = c.loop-e in
-    run_found (now a.numbers) a.p a.own l.e l.gives l.makes l.invariant.1 l.invariant.0
-    (inr (λ (x : rank_part (get_or (now a.numbers) l.e 0) ≡ rank_part (get_or (now a.numbers) a.p 0)). c.if-rank_part-rank.true (c.rank_part.ensures ∙ x ∙ sym c.rank_part-rank.ensures)))
+    run_found (a.numbers.now) a.p a.own l.e l.gives l.makes l.invariant.1 l.invariant.0
+    (inr (λ (x : rank_part (get_or (a.numbers.now) l.e 0) ≡ rank_part (get_or (a.numbers.now) a.p 0)). c.if-rank_part-rank.true (c.rank_part.ensures ∙ x ∙ sym c.rank_part-rank.ensures)))
 
 pub loop-e-preserved : goal.loop-e-preserved
 loop-e-preserved c =

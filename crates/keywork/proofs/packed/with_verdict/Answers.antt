@@ -14,22 +14,22 @@ use Rattle.keywork.proofs.packed.with_verdict.Goals as goal
 pub returns-in-Accepted : goal.returns-in-Accepted
 returns-in-Accepted c =
     let a = c.args in
-    let g = c.v-1.given in
-    let f : Fits w64 g.0.0 = search rules in
-    subst (λ (w : Verdict). Packed c.joined.result a.i (meaning w)) (sym g.1) (packed_set a.i g.0.0 c.joined.result f.fits c.joined.ensures)
+    let g = c.in-Accepted in
+    let f : Fits w64 g.set = search rules in
+    subst (λ (w : Verdict). Packed c.joined.result a.i (meaning w)) (sym g.is) (packed_set a.i g.set c.joined.result f.fits c.joined.ensures)
 
 pub returns-in-Rejected : goal.returns-in-Rejected
 returns-in-Rejected c =
     let a = c.args in
-    let g = c.v-in-Rejected-1.given in
-    let f : Fits w64 g.0.0 = search rules in
-    subst (λ (w : Verdict). Packed c.joined-in-Rejected.result a.i (meaning w)) (sym g.1) (packed_set a.i g.0.0 c.joined-in-Rejected.result f.fits c.joined-in-Rejected.ensures)
+    let g = c.in-Rejected in
+    let f : Fits w64 g.set = search rules in
+    subst (λ (w : Verdict). Packed c.joined-in-Rejected.result a.i (meaning w)) (sym g.is) (packed_set a.i g.set c.joined-in-Rejected.result f.fits c.joined-in-Rejected.ensures)
 
 pub returns-in-RejectedWithName : goal.returns-in-RejectedWithName
 returns-in-RejectedWithName c =
     let a = c.args in
-    let g = c.v-in-RejectedWithName-1.given in
-    let f : Fits w64 g.0.0 = search rules in
+    let g = c.in-RejectedWithName in
+    let f : Fits w64 g.set = search rules in
     let n = c.name_number.ensures in
-    subst (λ (w : Verdict). Packed c.joined-in-RejectedWithName.result a.i (meaning w)) (sym g.1)
-    (packed_name a.i g.0.0 c.joined-in-RejectedWithName.result f.fits (four_bytes g.0.1.0) (omega (arith, n.0, n.1)) (rw (← n.0) c.joined-in-RejectedWithName.ensures))
+    subst (λ (w : Verdict). Packed c.joined-in-RejectedWithName.result a.i (meaning w)) (sym g.is)
+    (packed_name a.i g.set c.joined-in-RejectedWithName.result f.fits (four_bytes g.name) (omega (arith, n.0, n.1)) (rw (← n.0) c.joined-in-RejectedWithName.ensures))

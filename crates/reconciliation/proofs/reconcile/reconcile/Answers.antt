@@ -93,4 +93,4 @@ returns c =
     (c.copy_in.ensures
     ∙ holds_last 245 r p.ensures w (omega (arith, p.auto.out))
     ∙ ap (λ (z : List ℕ). over (joined (rec_records a.state.now rows) ++ z) a.out.now)
-    (rct_counted a.state.now a.date.now rows _ _ _ r k.tanf_value.0 k.1.1 k.0 c.rct_record-control.ensures))
+    (rct_counted a.state.now a.date.now rows _ _ _ r k.tanf_value k.non_tanf_value k.total_value c.rct_record-control.ensures))

@@ -25,7 +25,7 @@ returns c =
     let p = c.requires in
     let r : List ℕ = reject_record a.rec.now (meaning a.v) in
     let s = c.set_of in
-    let f : s.result < 2 ^ 64 = omega (arith, s.type-inv) in
+    let f : s.result < 2 ^ 64 = omega (arith, s.type_inv) in
     let o : 0 < s.result = omega (arith, c.if-set_of-eq0.false) in
     let e : if_any (meaning a.v).codes r ≡ r ∷ [] = rw (codes_in a.v, ← s.ensures) (some_any s.result r f o) in (
       rw (e, c.copy_in.ensures, c.reject_record-out.ensures)

@@ -50,7 +50,7 @@ loop-i-preserved c =
     let u = rw (part_width 245 a.batch.now (l.i * 245)) at o.ensures in
     writing_next a.rows a.batch.now a.d a.numbers.now a.rejects.now l.numbers l.rejects l.s l.i l.invariant
     c.loop-i-test.true c.requires.d_in_bounds.1 w.result w.ensures o.new.verdicts o.new.rejects o.result u
-    o.auto.1.1.1.1.0 o.auto.1.1.1.1.1.0
+    o.auto.verdicts o.auto.rejects
 
 pub shape_of-numbers : goal.shape_of-numbers
 shape_of-numbers c = c.loop-i.invariant.len_v
