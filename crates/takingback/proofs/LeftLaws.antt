@@ -38,7 +38,7 @@ use Rattle.takingback.specs.TakenBack.{rows_at_entry, HasRowsLeft}
 run_none : (setting : Setting) (o : Option (List ℕ)) (details : List (List ℕ)) → run_row setting o details ≡ none → o ≡ none
 unfolding run_row
 run_none setting o [] e = e
-run_none setting o (d ∷ details) e = none_stays setting o d (run_none setting _ details e)
+run_none setting o (d ∷ details) e = none_stays setting o d (run_none setting (next setting o d) details e)
 
 are_wide : (rows : List (List ℕ)) → All IsWide rows → AreWide rows
 are_wide [] w = tt
