@@ -6,7 +6,7 @@ use mathlib.Core.Bool.{Bool, true, false, cond, false≢true}
 use native.Mathlib.Omega.{arith}
 use lib.Dec.{eqb}
 use borrow.Author.Tests.{eqb-true, ne_eqb}
-use Rattle.answers.specs.Answer.{refuse_if, Answer, refused, done, Outcome, Run, outcome_by, answer_by, is_carried_out, refusal_number, numbers_of, returned}
+use Rattle.answers.specs.Answer.{refuse_if, refused, done, Outcome, Run, outcome_by, answer_by, is_carried_out, refusal_number, numbers_of, returned}
 
 -- ---- the first refusal that holds
 

@@ -1,3 +1,2 @@
 // What every call answers: definitions and laws alone.
 #![tactic(auto)]
-

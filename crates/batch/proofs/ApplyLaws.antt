@@ -4,15 +4,14 @@ use mathlib.Core.Path.{◌≡◌, refl, sym, ap, ◌∙◌}
 use mathlib.Core.Bool.{Bool, true, false, not, cond, ◌&&◌, ◌||◌, and-false}
 use mathlib.Core.List.{List, ◌++◌}
 use native.Mathlib.Omega.{arith}
-use lib.Dec.{eqb, leb, ltb, lit≤}
-use lib.ListN.{length, take, drop, length-drop, take-append-drop}
+use lib.Dec.{eqb, leb, ltb}
+use lib.ListN.{length, drop, take-append-drop}
 use lib.Seq.{length-take-le}
 use borrow.Author.Tests.{eq-eqb, ne_eqb, lt-ltb, le-ltb, le-leb, leb-true, leb-false}
 use Rattle.answers.specs.Answer.{refuse_if, done, Run}
 use Rattle.answers.proofs.AnswerLaws.{outcome_refused, outcome_done}
 use Rattle.text.specs.Blocks.{joined, over, spliced}
 use Rattle.casemaster.specs.Master.{rows_of}
-use Rattle.text.proofs.FieldsLaws.{length-columns}
 use Rattle.text.proofs.BlocksLaws.{length-blocks, holds_over}
 use Rattle.rejectfile.specs.Rejects.{numbers, reject_records}
 use Rattle.rejectfile.specs.Counts.{Counts, counts_of, control_record}
@@ -31,7 +30,7 @@ use Rattle.text.proofs.HoldsLaws.{holds_last}
 use Rattle.batch.proofs.KnownLaws.{Known}
 use Rattle.casemaster.specs.Refusals.{master_refusal}
 use Rattle.turns.specs.Adds.{adds_without_row}
-use Rattle.layout.specs.Batch.{detail_count, details_of, control_of, submitting_state}
+use Rattle.layout.specs.Batch.{detail_count, details_of, submitting_state}
 use Rattle.batch.specs.Call.{Call}
 use Rattle.batch.specs.Refusals.{refusal1, refusal2, refusal9, refusal10, refusal11, space_refusal, apply_refusal}
 

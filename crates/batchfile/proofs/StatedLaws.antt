@@ -7,8 +7,8 @@ use native.Mathlib.Omega.{arith}
 use native.Mathlib.Nat.{pow-le-pow_right}
 use lib.Dec.{lit≤, lit<}
 use lib.ListN.{length}
-use Rattle.text.specs.Characters.{is_digit, space}
-use Rattle.text.specs.Fields.{columns, every, is_blank, all_digits, number, digit_field, spaces, placed}
+use Rattle.text.specs.Characters.{is_digit}
+use Rattle.text.specs.Fields.{columns, every, is_blank, all_digits, digit_field, spaces, placed}
 use Rattle.text.proofs.BoolLaws.{and_both}
 use Rattle.text.proofs.SameLaws.{eq_same}
 use Rattle.text.proofs.ColumnsLaws.{columns_split}

@@ -8,7 +8,6 @@ use Rattle.collectionfile.specs.Chart05.{last_control, last_adjustments, last_co
 use Rattle.collectionfile.specs.Line.{collected, adjusted, is_right}
 use Rattle.collectionfile.specs.File.{lines_above, is_total, total_text}
 use Rattle.collectionfile.specs.declared.file.Totals.{Totals}
-use Rattle.collectionfile.specs.declared.cents.Cents.{Cents}
 use Rattle.collectionfile.specs.declared.amount.Amount.{Amount}
 use Rattle.collectionfile.specs.declared.amount.Amount.TheVariants.{Good, Bad}
 use Rattle.collectionfile.specs.declared.line.Amounts.{Amounts}

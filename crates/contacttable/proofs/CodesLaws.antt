@@ -6,7 +6,6 @@ use Prim.Native.Nat.{ℕ, ◌+◌, ◌*◌, ◌≤◌, ◌<◌}
 use native.Mathlib.Omega.{arith}
 use lib.ListN.{length, take, drop, length-append, length-take, length-drop, take-append-drop}
 use lib.Seq.{drop-drop, length-take-le}
-use lib.Dec.{ltb}
 use borrow.Author.Tests.{le-ltb, lt-ltb}
 use Rattle.text.specs.Blocks.{joined, spliced, over}
 use Rattle.layout.specs.States.{is_state}
@@ -15,7 +14,6 @@ use Rattle.contactrecord.specs.ChartA3.{contact_code}
 use Rattle.contacttable.specs.Table.{contacts_of, is_wrong_table}
 use Rattle.contacttable.specs.Codes.{is_local_of, local_codes, codes_refusal, codes_as, codes_run, codes_outcome}
 use Rattle.answers.proofs.AnswerLaws.{outcome_refused, outcome_done}
-use Rattle.contacttable.specs.declared.codes.Codes.{Codes}
 use Rattle.contacttable.specs.declared.codes.Codes.TheVariants.{Done, Refused}
 use Rattle.contacttable.proofs.TableLaws.{contact_at, contacts_next, contacts_end}
 use Rattle.text.proofs.WidthLaws.{joined-append}

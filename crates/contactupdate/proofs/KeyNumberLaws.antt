@@ -1,10 +1,10 @@
 -- Laws of the numbers of sound keys: they stand in the byte order of the keys, below 54,000. Assumes nothing.
-use mathlib.Core.Path.{◌≡◌, refl, ◌∙◌}
+use mathlib.Core.Path.{◌≡◌, ◌∙◌}
 use mathlib.Core.Bool.{true, ◌&&◌}
 use mathlib.Core.List.{List, [], ◌∷◌}
 use Prim.Native.Nat.{ℕ, ◌+◌, ◌-◌, ◌*◌, ◌≤◌, ◌<◌}
 use native.Mathlib.Omega.{arith}
-use lib.ListN.{length, take, drop, length-take, length-drop}
+use lib.ListN.{length, length-take, length-drop}
 use Rattle.text.specs.ByteOrder.{less, equal, greater, order_of}
 use Rattle.text.specs.Characters.{is_digit}
 use Rattle.text.specs.Fields.{number, all_digits, are_digits}

@@ -14,7 +14,7 @@ use Rattle.text.proofs.ByteOrderLaws.{Heads, lower, upper, same, heads}
 use Rattle.text.proofs.BlocksLaws.{length-blocks}
 use Rattle.contactrecord.specs.Contact.{is_contact_key, is_faulty}
 use Rattle.contacttable.specs.Table.{contacts_of, is_table}
-use Rattle.contactupdate.specs.Update.{updated, lacking, records_of}
+use Rattle.contactupdate.specs.Update.{updated, records_of}
 use Rattle.contactupdate.specs.KeyNumbers.{key_number, Held, spread, held_in}
 use Rattle.contactupdate.specs.Marks.{lacking_in, Flagged}
 use Rattle.contactupdate.specs.Noting.{held_after, lasts_from}

@@ -1,3 +1,2 @@
 // Theorems over whole calls; there is no code here.
 #![tactic(auto)]
-

@@ -11,13 +11,12 @@ use borrow.Author.Tests.{ltb-true, ltb-false, leb-true, eqb-true, lt-ltb, le-leb
 use lib.Bits.{bit_or}
 use lib.Dec.{eqb, leb, ltb}
 use lib.ListN.{length, get_or, take, drop, length-append, length-take, length-drop, drop_of_length-le}
-use lib.Seq.{drop-cons, drop-drop, take-add, take-suc, get_or-drop}
+use lib.Seq.{drop-cons, drop-drop, take-add, get_or-drop}
 use Rattle.text.specs.Characters.{A, comma, space, is_byte, within}
 use Rattle.text.specs.Fields.{every, is_blank, same_bytes, spaces, unless_empty}
 use Rattle.exclusionsets.specs.WordNumbers.{three_number, word_number}
 use Rattle.exclusionsets.specs.Exclusions.{exclusion_names, is_separator, words_from, place_among, bits_named, read_onto, names_shown, exclusion_columns}
 use Rattle.text.proofs.FieldsLaws.{and_left, and_right}
-use Rattle.text.proofs.PartsLaws.{part_more}
 use Rattle.text.proofs.SameLaws.{eq_same, same_eq}
 
 -- ---- parts and bytes of a list

@@ -1,6 +1,6 @@
 -- From the outcome of a call with a journal and of taking back to what its C function leaves, by the case of the answer. Assumes nothing.
 use Prim.Native.Nat.{ℕ}
-use mathlib.Core.Path.{◌≡◌, ap, ◌∙◌, sym}
+use mathlib.Core.Path.{◌≡◌}
 use mathlib.Core.List.{List}
 use Rattle.answers.specs.Answer.{returned}
 use Rattle.answers.proofs.AnswerLaws.{returned_by}

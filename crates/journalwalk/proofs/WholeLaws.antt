@@ -1,14 +1,13 @@
 -- The counts and the entries that the walk writes are the journal of the batch. Assumes nothing.
-use Prim.Native.Nat.{ℕ, ◌+◌, ◌*◌, ◌^◌, ◌≤◌, ◌<◌}
+use Prim.Native.Nat.{ℕ, ◌≤◌}
 use mathlib.Core.Bool.{true}
 use mathlib.Core.List.{List, ◌++◌, append_assoc}
 use native.Mathlib.Omega.{arith}
-use lib.ListN.{length, length-append}
+use lib.ListN.{length}
 use Rattle.journal.specs.Numbers.{number_bytes}
 use Rattle.journal.specs.Journal.{entries_from, entries_bytes, journal_of, journal_bytes}
 use Rattle.journal.specs.Writing.{Wrote}
-use Rattle.journal.proofs.NumberLaws.{number-length}
-use Rattle.journalwalk.specs.JournalWalk.{journal_part, JournalRoom}
+use Rattle.journalwalk.specs.JournalWalk.{journal_part}
 use Rattle.journalwalk.proofs.JournalingLaws.{wrote_then}
 
 -- the whole journal

@@ -1,5 +1,5 @@
 -- The codes of a record's errors and warnings rise, so that their number stands for them. Assumes nothing.
-use Prim.Native.Nat.{ℕ, ◌≤◌, ◌<◌}
+use Prim.Native.Nat.{ℕ}
 use mathlib.Core.List.{List}
 use mathlib.Core.Option.{Option}
 use lib.Dec.{lit≤, lit<}

@@ -16,7 +16,7 @@ use Rattle.text.specs.Options.{is_none}
 use Rattle.text.specs.Fields.{same_bytes}
 use Rattle.layout.specs.Locals.{is_local_list}
 use Rattle.layout.specs.Key.{is_own_key}
-use Rattle.casemaster.proofs.KeyRowLaws.{KeyRow, SoundKeyRow, found_keyed, found_sound, stored_wide, stored_fit, stored_here, stored_other}
+use Rattle.casemaster.proofs.KeyRowLaws.{KeyRow, found_keyed, found_sound, stored_wide, stored_fit, stored_here, stored_other}
 use Rattle.casemaster.specs.Row.{row_key}
 use Rattle.casemaster.specs.Master.{are_sound_rows}
 use Rattle.casemaster.specs.Rows.{row_with, with_stored}

@@ -13,7 +13,6 @@ use Rattle.text.specs.Fields.{same_bytes}
 use Rattle.casemaster.specs.Master.{rows_of, row_in}
 use Rattle.casemaster.specs.Search.{AreBelow, RowPut, Pulled}
 use Rattle.text.proofs.FieldsLaws.{and_left}
-use Rattle.keyorder.specs.Tagged.{key_in}
 use Rattle.keyorder.specs.Runs.{IsRun, RunFound}
 use Rattle.keyorder.specs.declared.runs.Run.{Run}
 use Rattle.keywork.specs.Worked.{RunWorked}

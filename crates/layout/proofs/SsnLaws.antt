@@ -3,7 +3,7 @@
 use mathlib.Core.Path.{◌≡◌, refl, sym, ap, ◌∙◌}
 use mathlib.Core.Bool.{Bool, true, false, ◌&&◌, ◌||◌, and-true, and_assoc}
 use mathlib.Core.List.{List, [], ◌∷◌, ◌++◌}
-use Prim.Native.Nat.{ℕ, suc, ◌+◌, ◌-◌, ◌*◌, ◌/◌, ◌%◌, ◌≤◌, ◌<◌}
+use Prim.Native.Nat.{ℕ, suc, ◌+◌, ◌*◌, ◌/◌, ◌%◌, ◌≤◌, ◌<◌}
 use native.Mathlib.Omega.{arith}
 use lib.Dec.{eqb, ltb, leb}
 use lib.ListN.{length, get_or, take, drop}
@@ -11,7 +11,7 @@ use lib.Seq.{drop-cons, take-add, take_all}
 use borrow.Author.Tests.{eqb-true, eqb-false, eq-eqb, ne_eqb, ltb-true, ltb-false, lt-ltb, le-ltb}
 use Rattle.text.specs.Characters.{is_byte, is_digit, zero_digit}
 use Rattle.text.specs.Fields.{columns, every, is_zero, all_digits, are_digits, number}
-use Rattle.text.specs.ByteNumbers.{AreBytes, bytes_number}
+use Rattle.text.specs.ByteNumbers.{bytes_number}
 use Rattle.text.proofs.FieldsLaws.{and_left, and_right, every-columns, digits_width, digits_all}
 use Rattle.text.proofs.NumberLaws.{digit_bounds, zero_number}
 use Rattle.layout.specs.Ssn.{area, group, serial}

@@ -13,7 +13,7 @@ use Rattle.text.specs.Options.{is_none}
 use Rattle.text.specs.Characters.{zero_digit, C, L, M, R}
 use Rattle.text.specs.Fields.{columns, is_blank, is_zero}
 use Rattle.text.proofs.FieldsLaws.{and_left, and_right}
-use Rattle.text.proofs.ColumnsLaws.{Put, written, length-written, columns-written, is_free, columns_free, read, AllFit}
+use Rattle.text.proofs.ColumnsLaws.{Put, written, length-written, columns-written, is_free, columns_free, AllFit}
 use Rattle.exclusionsets.specs.Exclusions.{exclusions_of}
 use Rattle.layout.specs.ChartA1.{local_code, case_id, exclusions}
 use Rattle.layout.specs.Locals.{zero_local_code}

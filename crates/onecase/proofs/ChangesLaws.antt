@@ -1,6 +1,6 @@
 -- What each type of record writes into a row, as a list of fields: they fit, so that a row of 200 bytes stays one, and all but a fresh
 -- row's leave the key. Assumes nothing.
-use Prim.Native.Nat.{ℕ, ◌≤◌}
+use Prim.Native.Nat.{ℕ}
 use mathlib.Core.Path.{◌≡◌, refl, ◌∙◌}
 use mathlib.Core.List.{List, [], ◌∷◌}
 use mathlib.Core.Bool.{Bool, true, false, not, cond}

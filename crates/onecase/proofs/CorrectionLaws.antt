@@ -17,7 +17,7 @@ use Rattle.casemaster.specs.Row.{is_live}
 use Rattle.text.proofs.BoolLaws.{and_second}
 use Rattle.text.proofs.SameLaws.{same_self}
 use Rattle.judging.specs.Setting.{Setting}
-use Rattle.judging.specs.Errors.{error10, error11, error16, is_local_code, is_live_row, code}
+use Rattle.judging.specs.Errors.{error10, error11, error16, is_local_code, is_live_row}
 use Rattle.onecase.specs.Verdict.{is_accepted}
 use Rattle.onecase.specs.Changes.{exclusion_byte, reidentified, relocated, amended, excluded}
 use Rattle.onecase.specs.Machine.{changed, applied, next}

@@ -1,6 +1,6 @@
 -- For the contracts of inner functions; no rule of the papers stands here.
 -- Refusal 26 tested place by place: what stands and what is left make the whole. Assumes nothing.
-use Rattle.std.specs.Prelude.{ℕ, ◌+◌, ◌*◌, ◌≤◌, ◌<◌, ◌≡◌, Bool, true, false, ◌&&◌, List, ◌∷◌, eqb, length, take, drop}
+use Rattle.std.specs.Prelude.{ℕ, ◌+◌, ◌≤◌, ◌<◌, ◌≡◌, Bool, true, false, ◌&&◌, List, ◌∷◌, eqb, length, take, drop}
 use Rattle.std.proofs.Math.Option.{Option, none, some}
 use Rattle.text.specs.Fields.{every}
 use Rattle.text.specs.ByteOrder.{order_of, is_less, rising}

@@ -1,5 +1,4 @@
 use mathlib.Core.Path.{◌≡◌}
-use Prim.Native.Nat.{◌-◌}
 use native.Mathlib.Omega.{arith}
 use Rattle.addcents.proofs.ConvertLaws.{zeroed_none, zeroed_next}
 use Rattle.addcents.proofs.convert.zero_all.Goals as goal

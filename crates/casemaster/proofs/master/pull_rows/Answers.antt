@@ -1,5 +1,4 @@
 use mathlib.Core.Path.{◌≡◌}
-use Prim.Native.Nat.{◌-◌}
 use native.Mathlib.Omega.{arith}
 use Rattle.casemaster.proofs.MovedLaws.{pulled_none, pulled_step, pulled_all, pulled_same}
 use Rattle.casemaster.proofs.master.pull_rows.Goals as goal

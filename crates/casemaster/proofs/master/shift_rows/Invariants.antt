@@ -1,6 +1,6 @@
 -- `master::shift_rows` meets its contract. The loop's invariant: the rows from place i on have moved up. Assumes nothing.
 use mathlib.Core.Path.{◌≡◌}
-use Prim.Native.Nat.{◌-◌, ◌*◌, ◌≤◌}
+use Prim.Native.Nat.{◌*◌, ◌≤◌}
 use lib.ListN.{length}
 use Rattle.casemaster.specs.Search.{shifted}
 use Rattle.casemaster.proofs.master.shift_rows.Given as goal

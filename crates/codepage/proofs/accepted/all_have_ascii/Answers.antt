@@ -1,4 +1,3 @@
-use Prim.Native.Nat.{◌-◌}
 use borrow.Author.Rules.{rules}
 use Rattle.codepage.specs.CodePage.{ascii_of}
 use Rattle.codepage.proofs.AcceptedLaws.{every-next, every_end}

@@ -1,7 +1,6 @@
 use Rattle.contacttable.proofs.TableLaws.{length_contact}
 use Rattle.contacttable.proofs.CodesLaws.{codes_start, codes_room, codes_write, codes_done}
 use borrow.Author.Rules.{rules}
-use Prim.Native.Nat.{◌-◌}
 use Rattle.contacttable.proofs.codes.put_codes.Goals as goal
 
 pub loop-i-init : goal.loop-i-init

@@ -4,7 +4,6 @@ use Rattle.text.proofs.BlocksLaws.{every_block_step, every_block_end}
 use Rattle.contacttable.proofs.TableLaws.{contact_at, length_contact}
 use mathlib.Core.Path.{refl, sym, ◌∙◌, ◌≡◌}
 use borrow.Author.Rules.{rules}
-use Prim.Native.Nat.{◌-◌}
 use Rattle.contacttable.proofs.table.are_good.Goals as goal
 
 pub loop-i-init : goal.loop-i-init

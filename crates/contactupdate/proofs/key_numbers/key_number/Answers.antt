@@ -16,12 +16,11 @@ place_of-place-requires c =
     ap is_state c.field.ensures ∙ key_state c.args.rec.now c.requires.1
 
 pub number_at-code-requires : goal.number_at-code-requires
-number_at-code-requires c =
-    (
-      record { low = search rules; ordered = search rules; high = omega (arith, c.requires.0) },
-      search rules,
-      digits_all 3 (columns 3 5 c.args.rec.now) (key_code c.args.rec.now c.requires.1),
-    )
+number_at-code-requires c = (
+  record { low = search rules; ordered = search rules; high = omega (arith, c.requires.0) },
+  search rules,
+  digits_all 3 (columns 3 5 c.args.rec.now) (key_code c.args.rec.now c.requires.1),
+)
 
 pub overflow_mul-result : goal.overflow_mul-result
 overflow_mul-result c = omega (arith, c.place_of-place.ensures.1)

@@ -2,7 +2,6 @@ use Rattle.contacttable.proofs.TableLaws.{length_contact}
 use Rattle.contactupdate.proofs.MarksLaws.{lacking-next, lacking_end}
 use borrow.Author.Rules.{rules}
 use native.Mathlib.Omega.{arith}
-use Prim.Native.Nat.{◌-◌}
 use Rattle.contactupdate.proofs.marks.count_lacking.Goals as goal
 
 pub loop-i-init : goal.loop-i-init

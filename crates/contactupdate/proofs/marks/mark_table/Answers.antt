@@ -5,7 +5,6 @@ use lib.ListN.{length-set}
 use mathlib.Core.Path.{refl, sym, ◌∙◌}
 use borrow.Author.Rules.{rules}
 use native.Mathlib.Omega.{arith}
-use Prim.Native.Nat.{◌-◌}
 use Rattle.contactupdate.proofs.marks.mark_table.Goals as goal
 
 pub loop-i-init : goal.loop-i-init

@@ -3,7 +3,7 @@ use Rattle.contactupdate.specs.KeyNumbers.{held_in}
 use Rattle.contactupdate.specs.Merging.{held_finally}
 use Rattle.contactupdate.proofs.MergingLaws.{Merging}
 use Rattle.contacttable.specs.Table.{contacts_of}
-use Prim.Native.Nat.{◌-◌, ◌≤◌}
+use Prim.Native.Nat.{◌≤◌}
 use Rattle.contactupdate.proofs.merging.merge.Given as goal
 
 abbrev pub invariant-loop-k : goal.invariant-loop-k

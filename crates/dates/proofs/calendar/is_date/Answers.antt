@@ -1,7 +1,6 @@
 -- `calendar::is_date` meets its contract: the definition's tests on the numbers of year, month and day, once there are eight digits. Assumes nothing.
 use mathlib.Core.Bool.{true}
 use mathlib.Core.Path.{◌≡◌, sym, ◌∙◌}
-use Prim.Native.Nat.{◌≤◌}
 use lib.Dec.{lit<, lit≤}
 use borrow.Author.Tests.{not-true, not-false}
 use Rattle.dates.specs.Calendar.{is_date}

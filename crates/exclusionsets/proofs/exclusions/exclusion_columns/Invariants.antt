@@ -2,7 +2,7 @@
 -- the columns of the names and bits that are left, is the answer. Assumes nothing.
 use mathlib.Core.Path.{◌≡◌}
 use mathlib.Core.List.{◌++◌}
-use Prim.Native.Nat.{◌+◌, ◌-◌, ◌*◌, ◌≤◌}
+use Prim.Native.Nat.{◌-◌, ◌*◌, ◌≤◌}
 use lib.ListN.{length, take, drop}
 use Rattle.exclusionsets.specs.Exclusions.{exclusion_names, names_shown, exclusion_columns}
 use Rattle.exclusionsets.proofs.exclusions.exclusion_columns.Given as goal

@@ -1,7 +1,7 @@
 -- `exclusions::exclusion_field` meets its contract: the loop keeps what is written and what is left to write equal to the whole text, and spaces behind it. Assumes nothing.
 use mathlib.Core.Path.{◌≡◌}
 use mathlib.Core.List.{◌++◌}
-use Prim.Native.Nat.{◌+◌, ◌-◌, ◌*◌, ◌≤◌}
+use Prim.Native.Nat.{◌-◌, ◌*◌, ◌≤◌}
 use lib.ListN.{length, take, drop}
 use Rattle.text.specs.Fields.{spaces}
 use Rattle.exclusionsets.specs.Exclusions.{exclusion_names}

@@ -1,7 +1,7 @@
 -- `exclusions::words_end` meets its contract. The loop's invariant: the words up to `end` are those of the field. Assumes nothing.
 use mathlib.Core.Path.{◌≡◌}
 use mathlib.Core.List.{[]}
-use Prim.Native.Nat.{◌-◌, ◌≤◌}
+use Prim.Native.Nat.{◌≤◌}
 use lib.ListN.{length, take}
 use Rattle.exclusionsets.specs.Exclusions.{words_from}
 use Rattle.exclusionsets.proofs.exclusions.words_end.Given as goal

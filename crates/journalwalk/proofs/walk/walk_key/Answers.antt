@@ -24,8 +24,11 @@ case_at-case-requires c =
 
 pub work_key-next-requires : goal.work_key-next-requires
 work_key-next-requires c =
-    let a = c.args in record { key_ready = key_ready a.state.now a.year a.list.now a.batch.now a.numbers.now a.s.position a.own c.run_at-run.result
-          c.requires.position_lt_own.1 c.run_at-run.ensures; ordered_if = c.requires.position_lt_own.2 }
+    let a = c.args in record {
+      key_ready = key_ready a.state.now a.year a.list.now a.batch.now a.numbers.now a.s.position a.own c.run_at-run.result
+          c.requires.position_lt_own.1 c.run_at-run.ensures;
+      ordered_if = c.requires.position_lt_own.2;
+    }
 
 pub overflow_add-to : goal.overflow_add-to
 overflow_add-to c =

@@ -3,7 +3,6 @@ use Rattle.keywalk.specs.Walking.{fixed_of, start_of}
 use Rattle.keywalk.proofs.WalkingLaws.{walking_start, walking_rises, walking_room, walking_sorted, walking_next}
 use Rattle.journalwalk.proofs.JournalingLaws.{journaling_start, journaling_room, journaling_next, journaling_done}
 use native.Mathlib.Omega.{arith}
-use Prim.Native.Nat.{◌-◌}
 use Rattle.journalwalk.proofs.walk.walk_keys.Goals as goal
 
 pub loop-s-init : goal.loop-s-init

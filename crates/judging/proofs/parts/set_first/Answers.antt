@@ -1,6 +1,5 @@
 -- `parts::set_first` meets its contract: the number of a list of codes is the sum of their flags, each at most 2 to the power of its code. Assumes nothing.
 use mathlib.Core.List.{◌++◌}
-use Prim.Native.Nat.{◌+◌}
 use native.Mathlib.Omega.{arith}
 use Rattle.judging.specs.Errors.{code}
 use Rattle.judging.proofs.CodeSums.{sum-code}

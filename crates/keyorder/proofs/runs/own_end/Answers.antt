@@ -1,4 +1,3 @@
-use Prim.Native.Nat.{◌-◌}
 use native.Mathlib.Omega.{arith}
 use Rattle.keyorder.proofs.RunLaws.{low_none, low_next, own_here, own_all}
 use Rattle.keyorder.proofs.runs.own_end.Goals as goal

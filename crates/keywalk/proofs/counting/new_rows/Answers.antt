@@ -1,5 +1,3 @@
-use Prim.Native.Nat.{◌-◌}
-use mathlib.Core.Bool.{true}
 use native.Mathlib.Omega.{arith}
 use Rattle.casemaster.specs.Master.{rows_of}
 use Rattle.casemaster.proofs.RowsLaws.{rows_rise}

@@ -1,6 +1,6 @@
 -- `is_code` is membership among the state codes. The loop's invariant: the codes before `lo` are below x and those behind the `left` codes from
 -- `lo` on above it; so in the end x can only be the code that is left. Assumes nothing.
-use Prim.Native.Nat.{◌+◌, ◌-◌, ◌≤◌}
+use Prim.Native.Nat.{◌+◌, ◌≤◌}
 use Rattle.layout.specs.StateCodes.{state_codes}
 use Rattle.layout.proofs.SearchLaws.{Bracket}
 use Rattle.layout.proofs.states.is_code.Given as goal

@@ -6,7 +6,7 @@ use Prim.Native.Nat.{ℕ, ◌*◌}
 use lib.ListN.{take, drop}
 use Rattle.text.specs.ByteOrder.{order_of, is_less}
 use Rattle.text.proofs.ByteNumberLaws.{bytes_of}
-use Rattle.lookup.proofs.KeysLaws.{AreNumbers, numbers_at, key_in_list, first_below, second_below, neither_below}
+use Rattle.lookup.proofs.KeysLaws.{numbers_at, key_in_list, first_below, second_below, neither_below}
 use Rattle.lookup.proofs.many.compare.Goals as goal
 use Rattle.lookup.proofs.many.compare.Goals.{After-is_twelve_below_in, After-is_twelve_below_in-2}
 
@@ -22,9 +22,9 @@ row_below c =
     let m = a.m.now in
     let k = a.keys.now in
     let n = numbers_at m (a.p * 200) _ _ c.requires.0 (bytes_of m (λ i h. omega (arith, c.shared_slice_known-1.given i)))
-        c.eight_number-row_front.ensures c.four_number-row_back.ensures.0 in
+    c.eight_number-row_front.ensures c.four_number-row_back.ensures.0 in
     let o = numbers_at k (a.i * 12) _ _ c.requires.1 (bytes_of k (λ i h. omega (arith, c.shared_slice_known-2-1.given i)))
-        c.eight_number-front.ensures c.four_number-back.ensures.0 in
+    c.eight_number-front.ensures c.four_number-back.ensures.0 in
     c.is_twelve_below_in.ensures (row_key_at a.m.now a.p) (key_in_list a.keys.now a.i) n.wide o.wide n.bytes o.bytes
     n.front_is n.back_is o.front_is o.back_is
 
@@ -36,9 +36,9 @@ key_below c =
     let m = a.m.now in
     let k = a.keys.now in
     let n = numbers_at m (a.p * 200) _ _ c.requires.0 (bytes_of m (λ i h. omega (arith, c.shared_slice_known-1.given i)))
-        c.eight_number-row_front.ensures c.four_number-row_back.ensures.0 in
+    c.eight_number-row_front.ensures c.four_number-row_back.ensures.0 in
     let o = numbers_at k (a.i * 12) _ _ c.requires.1 (bytes_of k (λ i h. omega (arith, c.shared_slice_known-2-1.given i)))
-        c.eight_number-front.ensures c.four_number-back.ensures.0 in
+    c.eight_number-front.ensures c.four_number-back.ensures.0 in
     c.is_twelve_below_in-2.ensures (key_in_list a.keys.now a.i) (row_key_at a.m.now a.p) o.wide n.wide o.bytes n.bytes
     o.front_is o.back_is n.front_is n.back_is
 

@@ -1,5 +1,4 @@
 use native.Mathlib.Omega.{arith}
-use Prim.Native.Nat.{◌-◌}
 use Rattle.lookup.proofs.WalkLaws.{going_none, going_all, going_end, going_less, going_equal, going_greater}
 use Rattle.lookup.proofs.many.walk.Goals as goal
 

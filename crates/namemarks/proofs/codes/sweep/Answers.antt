@@ -1,4 +1,3 @@
-use Prim.Native.Nat.{◌-◌}
 use Rattle.namemarks.proofs.MappedLaws.{mapped_start, mapped_end}
 use Rattle.namemarks.proofs.SweepLaws.{last_start, sweep_next}
 use Rattle.namemarks.proofs.codes.sweep.Goals as goal

@@ -1,5 +1,5 @@
 use native.Mathlib.Omega.{arith}
-use Prim.Native.Nat.{◌-◌, ◌*◌}
+use Prim.Native.Nat.{◌*◌}
 use lib.ListN.{length-take, length-drop}
 use Rattle.text.proofs.BlocksLaws.{part_width}
 use Rattle.pages.proofs.PrintingLaws.{printing_start, printing_room, printing_next, last_room, printing_end}

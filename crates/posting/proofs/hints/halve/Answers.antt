@@ -1,4 +1,3 @@
-use Prim.Native.Nat.{◌-◌}
 use native.Mathlib.Omega.{arith}
 use Rattle.posting.proofs.HintLaws.{halved_none, halved_next}
 use Rattle.posting.proofs.hints.halve.Goals as goal

@@ -1,6 +1,6 @@
 use Rattle.posting.proofs.LineLaws.{fit_of}
 use Rattle.text.proofs.BlocksLaws.{part_width}
-use Prim.Native.Nat.{◌-◌, ◌*◌, ◌<◌}
+use Prim.Native.Nat.{◌*◌, ◌<◌}
 use native.Mathlib.Omega.{arith}
 use lib.ListN.{length}
 use Rattle.posting.proofs.WorkLaws.{going_none, going_next, going_end}

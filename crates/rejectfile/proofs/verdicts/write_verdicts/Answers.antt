@@ -1,4 +1,4 @@
-use Prim.Native.Nat.{◌-◌, ◌*◌}
+use Prim.Native.Nat.{◌*◌}
 use native.Mathlib.Omega.{arith}
 use borrow.Author.Rules.{rules}
 use Rattle.text.proofs.BlocksLaws.{part_width}
@@ -28,11 +28,14 @@ record_verdict-s-requires c =
     let g = o.invariant in
     let l = c.loop-i-test.true in
     let w = c.verdict_in-v in
-    let e = part_width 245 a.batch.now (o.i * 245) in record { rec_len = (search rules, omega (arith, p.1, g.len_v), omega (arith, p.2, g.len_r, g.used)); coded_at_most = (
+    let e = part_width 245 a.batch.now (o.i * 245) in record {
+      rec_len = (search rules, omega (arith, p.1, g.len_v), omega (arith, p.2, g.len_r, g.used));
+      coded_at_most = (
         g.coded,
         rw e (stands_tanf a.rows a.batch.now a.d a.numbers.now a.rejects.now o.numbers o.rejects o.s o.i g l p.1 w.result w.ensures o.numbers o.rejects o.s),
         rw e (stands_non_tanf a.rows a.batch.now a.d a.numbers.now a.rejects.now o.numbers o.rejects o.s o.i g l p.1 w.result w.ensures o.numbers o.rejects o.s),
-      ) }
+      );
+    }
 
 pub overflow_add-i : goal.overflow_add-i
 overflow_add-i c =

@@ -1,7 +1,6 @@
 use Rattle.takeback.proofs.RestoringLaws.{restoring_none, restoring_next, restoring_end}
 use mathlib.Core.Path.{refl}
 use native.Mathlib.Omega.{arith}
-use Prim.Native.Nat.{◌-◌}
 use Rattle.takeback.proofs.restoring.restore.Goals as goal
 
 pub loop-p-init : goal.loop-p-init

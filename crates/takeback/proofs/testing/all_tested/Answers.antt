@@ -1,7 +1,6 @@
 use Rattle.takeback.proofs.TestingLaws.{testing_none, testing_stop, testing_next, testing_left, testing_end}
 use mathlib.Core.Path.{refl}
 use native.Mathlib.Omega.{arith}
-use Prim.Native.Nat.{◌-◌}
 use Rattle.takeback.proofs.testing.all_tested.Goals as goal
 
 pub loop-p-init : goal.loop-p-init

@@ -1,5 +1,4 @@
 use mathlib.Core.Path.{refl, sym, ◌∙◌}
-use Prim.Native.Nat.{◌-◌}
 use native.Mathlib.Omega.{arith}
 use Rattle.text.proofs.ByteOrderLaws.{order_below, order_above, order_same, order_end}
 use Rattle.text.proofs.byte_order.order_of.Goals as goal

@@ -1,6 +1,6 @@
 use mathlib.Core.Bool.{and_assoc, and-true}
 use mathlib.Core.Path.{sym, ◌∙◌}
-use Prim.Native.Nat.{◌+◌, ◌-◌}
+use Prim.Native.Nat.{◌+◌}
 use lib.Dec.{leb}
 use lib.ListN.{drop, get_or}
 use borrow.Author.Rules.{rules}
