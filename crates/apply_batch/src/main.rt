@@ -1,6 +1,6 @@
 // apply-batch: applies the batch in the present folder to the master beside it and prints one line. Document 01, "The printed line".
 #![tactic(auto)]
 
-fn main() {
-    apply_files::run();
+fn main(rt: HostRuntime) {
+    apply_files::run(&rt);
 }

@@ -2,35 +2,37 @@
 use apply_samples::files;
 use apply_samples::files::save;
 use apply_trials::tried;
+use std::rt::Runtime;
+use std::{fs, io};
 
-fn left_over() {
-    tried::save_right();
-    save(b"master.bin.tmp", b"left over");
-    save(b"rejects.bin.tmp", b"left over");
-    tried::run_right(b"temporary files left over");
+fn left_over(rt: &impl Runtime) -> io::Result<()> {
+    tried::save_right(rt)?;
+    save(rt, "master.bin.tmp", b"left over")?;
+    save(rt, "rejects.bin.tmp", b"left over")?;
+    tried::run_right(rt, b"temporary files left over")
 }
 
 // Under the temporary name stands a folder.
-fn not_written(name: &[u8], path: &[u8]) {
-    tried::save_right();
-    save(b"rejects.bin", b"old");
-    os::mkdir(path);
-    tried::run_right(name);
-    files::show(b"rejects.bin", b"old");
-    os::rmdir(path);
+fn not_written(rt: &impl Runtime, name: &[u8], path: &str) -> io::Result<()> {
+    tried::save_right(rt)?;
+    save(rt, "rejects.bin", b"old")?;
+    fs::create_dir(rt, path)?;
+    tried::run_right(rt, name)?;
+    files::show(rt, "rejects.bin", b"old")?;
+    fs::remove_dir(rt, path)
 }
 
 // In the place of rejects.bin stands a folder.
-fn not_renamed() {
-    tried::save_right();
-    os::mkdir(b"rejects.bin");
-    tried::run_right(b"rejects.bin can't be replaced");
-    os::rmdir(b"rejects.bin");
+fn not_renamed(rt: &impl Runtime) -> io::Result<()> {
+    tried::save_right(rt)?;
+    fs::create_dir(rt, "rejects.bin")?;
+    tried::run_right(rt, b"rejects.bin can't be replaced")?;
+    fs::remove_dir(rt, "rejects.bin")
 }
 
-pub fn all() {
-    left_over();
-    not_written(b"master.bin can't be written", b"master.bin.tmp");
-    not_written(b"rejects.bin can't be written", b"rejects.bin.tmp");
-    not_renamed();
+pub fn all(rt: &impl Runtime) -> io::Result<()> {
+    left_over(rt)?;
+    not_written(rt, b"master.bin can't be written", "master.bin.tmp")?;
+    not_written(rt, b"rejects.bin can't be written", "rejects.bin.tmp")?;
+    not_renamed(rt)
 }

@@ -6,10 +6,12 @@ mod failures;
 mod full;
 mod runs;
 
-fn main() {
-    full::space();
-    runs::control_records();
-    runs::counts();
-    runs::names();
-    failures::all();
+use std::io;
+
+fn main(rt: HostRuntime) -> io::Result<()> {
+    full::space(&rt)?;
+    runs::control_records(&rt)?;
+    runs::counts(&rt)?;
+    runs::names(&rt)?;
+    failures::all(&rt)
 }

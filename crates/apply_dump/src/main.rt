@@ -2,9 +2,10 @@
 #![tactic(auto)]
 
 use apply_samples::show;
+use std::io;
 
-fn main() {
-    apply_files::run();
-    show::file(b"master.bin", 200);
-    show::file(b"rejects.bin", 245);
+fn main(rt: HostRuntime) -> io::Result<()> {
+    apply_files::run(&rt);
+    show::file(&rt, "master.bin", 200)?;
+    show::file(&rt, "rejects.bin", 245)
 }

@@ -12,20 +12,27 @@ use apply_output::parts::first;
 use batch::apply::Applied;
 use limits::Input;
 use outcome::{length_of, outcome_of};
+use std::io;
+use std::rt::Files;
 
 // Writes the files of a run; a refusal writes none. False where a file can't be written.
-fn write_files(files: NewFiles, master: &[u8; 40001], rejects: &[u8; 24745]) -> bool {
+fn write_files(
+    rt: &(impl Files + Eprint),
+    files: NewFiles,
+    master: &[u8; 40001],
+    rejects: &[u8; 24745],
+) -> bool {
     match files {
         NewFiles::NoFile => true,
         NewFiles::Both {
             master: m,
             rejects: r,
-        } => files::replace(first(master, m), first(rejects, r)),
+        } => files::replace(rt, first(master, m), first(rejects, r)),
     }
 }
 
 // Says on standard error that standard output doesn't take the line, and, of a run that was carried out, that the files are in place.
-fn fail_line(answer: Applied) {
+fn fail_line(rt: &impl Eprint, answer: Applied, why: &io::Error) {
     match answer {
         Applied::Done {
             accepted: _,
@@ -33,22 +40,26 @@ fn fail_line(answer: Applied) {
             warned: _,
             neither: _,
             rows: _,
-        } => os::fail(b"master.bin and rejects.bin are in place, but the line can't be printed"),
-        Applied::Refused(_) => os::fail(b"the line can't be printed"),
+        } => {
+            let in_place = "master.bin and rejects.bin are in place, but the line can't be printed";
+            files::fail(rt, in_place, why);
+        }
+        Applied::Refused(_) => files::fail(rt, "the line can't be printed", why),
     }
 }
 
 // Prints the line of an answer to a batch.
-fn print_line(batch: &[u8], answer: Applied) {
+fn print_line(rt: &(impl Print + Eprint), batch: &[u8], answer: Applied) {
     let mut text = [0u8; 160];
     let n = line::put_line(&mut text, batch, answer);
-    if !io::write_all(libc::STDOUT_FILENO, first(&text, n)) {
-        fail_line(answer);
+    if let Err(e) = rt.write_all(first(&text, n)) {
+        fail_line(rt, answer, &e);
     }
 }
 
 // Applies the batch to the files, each as it was read into its buffer, writes, and prints the line.
 fn run_over(
+    rt: &(impl Files + Print + Eprint),
     master: &mut [u8; 40001],
     m: Input,
     batch: &[u8],
@@ -74,20 +85,20 @@ fn run_over(
     );
     let bytes = first(batch, length_of(b));
     let files = files_to_write(answer, bytes, master, &verdicts, &rejects);
-    if write_files(files, master, &rejects) {
-        print_line(bytes, answer);
+    if write_files(rt, files, master, &rejects) {
+        print_line(rt, bytes, answer);
     }
 }
 
 // Reads the four files of the present folder and runs over them.
-pub fn run() {
+pub fn run(rt: &(impl Files + Print + Eprint)) {
     let mut master = [0u8; 40001];
     let mut batch = [0u8; 24746];
     let mut locals = [0u8; 3001];
     let mut year = [0u8; 5];
-    let m = files::read(b"master.bin", &mut master);
-    let b = files::read(b"batch.bin", &mut batch);
-    let l = files::read(b"locals.bin", &mut locals);
-    let y = files::read(b"year.txt", &mut year);
-    run_over(&mut master, m, &batch, b, &locals, l, &year, y);
+    let m = files::read(rt, "master.bin", &mut master);
+    let b = files::read(rt, "batch.bin", &mut batch);
+    let l = files::read(rt, "locals.bin", &mut locals);
+    let y = files::read(rt, "year.txt", &mut year);
+    run_over(rt, &mut master, m, &batch, b, &locals, l, &year, y);
 }

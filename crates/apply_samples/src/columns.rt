@@ -15,24 +15,17 @@ fn put_byte(out: &mut [u8], column: usize, i: usize, b: u8) {
 
 // Writes a text into the columns from one on.
 pub fn put(out: &mut [u8], column: usize, text: &[u8]) {
-    let mut i = 0;
-    while i < text.len() {
-        put_byte(out, column, i, from_ascii(text[i]));
-        i += 1;
+    for (i, b) in text.iter().enumerate() {
+        put_byte(out, column, i, from_ascii(*b));
     }
 }
 
 // Writes the lowest digits of a number into the columns from one to another.
 pub fn put_number(out: &mut [u8], first: usize, last: usize, n: u64) {
-    let mut column = last;
     let mut left = n;
-    while first <= column {
-        if column == 0 {
-            return;
-        }
+    for column in (first..=last).rev() {
         put_byte(out, column, 0, 0xF0 + (left % 10) as u8);
-        left = left / 10;
-        column -= 1;
+        left /= 10;
     }
 }
 

@@ -1,88 +1,64 @@
 // Bytes shown on standard output.
+use std::rt::Files;
+use std::{fs, io};
 use vector_text::ebcdic::to_ascii;
-use vector_text::print;
-use vector_text::print::{number, text};
+use vector_text::print::text;
 
-fn byte(b: u8) {
-    print::byte(b);
-    text(b" ");
+fn byte(rt: &impl Print, b: u8) -> io::Result<()> {
+    print!(rt; "{b:02x} ")
 }
 
-fn character(b: u8) {
-    let one = [to_ascii(b, b'.')];
-    text(&one);
+fn character(rt: &impl Print, b: u8) -> io::Result<()> {
+    text(rt, &[to_ascii(b, b'.')])
 }
 
 // Bytes in hexadecimal, a space behind each.
-fn hexadecimal(s: &[u8]) {
-    let mut i = 0;
-    while i < s.len() {
-        byte(s[i]);
-        i += 1;
+fn hexadecimal(rt: &impl Print, s: &[u8]) -> io::Result<()> {
+    for b in s {
+        byte(rt, *b)?;
     }
+    Ok(())
 }
 
 // Bytes as characters.
-pub fn characters(s: &[u8]) {
-    let mut i = 0;
-    while i < s.len() {
-        character(s[i]);
-        i += 1;
+pub fn characters(rt: &impl Print, s: &[u8]) -> io::Result<()> {
+    for b in s {
+        character(rt, *b)?;
     }
+    Ok(())
 }
 
 // A line: the first column's number, the bytes, the characters.
-fn line(column: usize, s: &[u8]) {
-    number(column as u64);
-    text(b": ");
-    hexadecimal(s);
-    text(b"[");
-    characters(s);
-    text(b"]\n");
+fn line(rt: &impl Print, column: usize, s: &[u8]) -> io::Result<()> {
+    print!(rt; "{column}: ")?;
+    hexadecimal(rt, s)?;
+    text(rt, b"[")?;
+    characters(rt, s)?;
+    text(rt, b"]\n")
 }
 
 // A row or a record, twenty columns in a line.
-fn block(s: &[u8]) {
-    let mut at = 0;
-    while at < s.len() {
-        if s.len() - at <= 20 {
-            line(at + 1, &s[at..]);
-            return;
-        }
-        let end = at + 20;
-        line(at + 1, &s[at..end]);
-        at = end;
+fn block(rt: &impl Print, s: &[u8]) -> io::Result<()> {
+    for (i, columns) in s.chunks(20).enumerate() {
+        line(rt, i * 20 + 1, columns)?;
     }
+    Ok(())
 }
 
 // Rows or records of a width, one behind the other.
-pub fn blocks(s: &[u8], width: usize) {
-    let mut at = 0;
-    while at < s.len() {
-        if s.len() - at <= width {
-            block(&s[at..]);
-            return;
-        }
-        if width == 0 {
-            return;
-        }
-        let end = at + width;
-        block(&s[at..end]);
-        at = end;
+pub fn blocks(rt: &impl Print, s: &[u8], width: usize) -> io::Result<()> {
+    if width == 0 {
+        return Ok(());
     }
+    for columns in s.chunks(width) {
+        block(rt, columns)?;
+    }
+    Ok(())
 }
 
 // A file's name and its rows or records of a width.
-pub fn file(path: &[u8], width: usize) {
-    let mut buf = io::large_buffer();
-    let fd = os::open_read(path);
-    if fd < 0 {
-        os::fail(path);
-        return;
-    }
-    let n = io::read_full(fd, &mut buf);
-    libc::close(fd);
-    text(path);
-    text(b"\n");
-    blocks(&buf[..n], width);
+pub fn file(rt: &(impl Files + Alloc + Print), path: &str, width: usize) -> io::Result<()> {
+    let bytes = fs::read(rt, path)?;
+    println!(rt; "{path}")?;
+    blocks(rt, &bytes, width)
 }

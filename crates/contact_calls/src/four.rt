@@ -2,6 +2,7 @@
 ghost use Rattle.std.specs.Prelude.{◌≤◌};
 
 use contactrecord::chart_a3;
+use std::io;
 use text::fields;
 use text::fields::Columns;
 use vector_text::ebcdic::{read, write};
@@ -75,35 +76,42 @@ pub fn least(a: usize, b: usize) -> usize
 }
 
 // Some columns of the record at a place, in ASCII.
-fn show_columns(four: &[u8], place: usize, column: usize, width: usize) {
+fn show_columns(
+    rt: &impl Print,
+    four: &[u8],
+    place: usize,
+    column: usize,
+    width: usize,
+) -> io::Result<()> {
     let at = least(place, 3) * 220 + least(column, 200);
     let mut text = [0u8; 20];
     if four.len() == 880 {
         read(&four[at..], &mut text);
         let n = least(width, 20);
-        print::text(&text[0..n]);
+        print::text(rt, &text[0..n])?;
     }
+    Ok(())
 }
 
 // The key and the mark at a place.
-fn show_place(four: &[u8], place: usize) {
-    print::text(b" ");
-    show_columns(four, place, 0, 5);
-    show_columns(four, place, 76, 3);
+fn show_place(rt: &impl Print, four: &[u8], place: usize) -> io::Result<()> {
+    print::text(rt, b" ")?;
+    show_columns(rt, four, place, 0, 5)?;
+    show_columns(rt, four, place, 76, 3)
 }
 
 // Each place.
-pub fn show(four: &[u8; 880]) {
-    show_place(four, 0);
-    show_place(four, 1);
-    show_place(four, 2);
-    show_place(four, 3);
+pub fn show(rt: &impl Print, four: &[u8; 880]) -> io::Result<()> {
+    show_place(rt, four, 0)?;
+    show_place(rt, four, 1)?;
+    show_place(rt, four, 2)?;
+    show_place(rt, four, 3)
 }
 
 // The telephone numbers and extensions at the first place.
-pub fn show_telephones(four: &[u8; 880]) {
-    print::text(b" [");
-    show_columns(four, 0, 5, 18);
-    show_columns(four, 0, 23, 18);
-    print::text(b"]");
+pub fn show_telephones(rt: &impl Print, four: &[u8; 880]) -> io::Result<()> {
+    print::text(rt, b" [")?;
+    show_columns(rt, four, 0, 5, 18)?;
+    show_columns(rt, four, 0, 23, 18)?;
+    print::text(rt, b"]")
 }

@@ -6,7 +6,9 @@ mod codes;
 mod four;
 mod update;
 
-fn main() {
-    update::vectors();
-    codes::vectors();
+use std::io;
+
+fn main(rt: HostRuntime) -> io::Result<()> {
+    update::vectors(&rt)?;
+    codes::vectors(&rt)
 }

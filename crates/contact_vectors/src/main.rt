@@ -4,6 +4,8 @@
 mod lists;
 mod record;
 
-fn main() {
-    record::vectors();
+use std::io;
+
+fn main(rt: HostRuntime) -> io::Result<()> {
+    record::vectors(&rt)
 }

@@ -1,6 +1,7 @@
 // Fields: columns from 1, blank fields, digits and numbers.
 use crate::lists::Subject;
 use crate::{ebcdic, lists};
+use std::io;
 use text::fields::{
     Columns, all_digits, copy, copy_in, field, number_at, number_of, put, put_number, same,
 };
@@ -8,44 +9,40 @@ use vector_text::ebcdic::write;
 use vector_text::print;
 
 // The number of a whole field.
-pub fn value(s: &[u8]) {
+pub fn value(rt: &impl Print, s: &[u8]) -> io::Result<()> {
     if s.len() <= 18 && all_digits(s) {
-        print::number(number_of(s));
+        println!(rt; "{}", number_of(s))
     } else {
-        print::text(b"none");
+        println!(rt; "none")
     }
-    print::end();
 }
 
 // The number of columns 3 to 13.
-pub fn value_inside(s: &[u8; 40]) {
+pub fn value_inside(rt: &impl Print, s: &[u8; 40]) -> io::Result<()> {
     let c = Columns { first: 3, last: 13 };
     if all_digits(field(s, c)) {
-        print::number(number_at(s, c));
+        println!(rt; "{}", number_at(s, c))
     } else {
-        print::text(b"none");
+        println!(rt; "none")
     }
-    print::end();
 }
 
 // A number in columns 2 to 10 of eleven spaces.
-fn nine_wide(n: u64) {
+fn nine_wide(rt: &impl Print, n: u64) -> io::Result<()> {
     let mut s = [0x40u8; 11];
     put_number(&mut s, Columns { first: 2, last: 10 }, n);
-    print::text(b"nine digits of ");
-    print::number(n);
-    print::text(b" ");
-    ebcdic::columns(&s);
+    print!(rt; "nine digits of {n} ")?;
+    ebcdic::columns(rt, &s)
 }
 
-fn parts() {
+fn parts(rt: &impl Print) -> io::Result<()> {
     let s = letters();
-    print::text(b"columns 1-8 ");
-    ebcdic::columns(field(&s, Columns { first: 1, last: 8 }));
-    print::text(b"columns 3-5 ");
-    ebcdic::columns(field(&s, Columns { first: 3, last: 5 }));
-    print::text(b"columns 8-8 ");
-    ebcdic::columns(field(&s, Columns { first: 8, last: 8 }));
+    print::text(rt, b"columns 1-8 ")?;
+    ebcdic::columns(rt, field(&s, Columns { first: 1, last: 8 }))?;
+    print::text(rt, b"columns 3-5 ")?;
+    ebcdic::columns(rt, field(&s, Columns { first: 3, last: 5 }))?;
+    print::text(rt, b"columns 8-8 ")?;
+    ebcdic::columns(rt, field(&s, Columns { first: 8, last: 8 }))
 }
 
 fn letters() -> [u8; 8] {
@@ -71,50 +68,50 @@ fn with_three_copied() -> [u8; 8] {
     s
 }
 
-fn changes() {
-    print::text(b"XY put in 3-4 ");
-    ebcdic::columns(&with_two_put());
-    print::text(b"2-4 of 01234 copied to 6-8 ");
+fn changes(rt: &impl Print) -> io::Result<()> {
+    print::text(rt, b"XY put in 3-4 ")?;
+    ebcdic::columns(rt, &with_two_put())?;
+    print::text(rt, b"2-4 of 01234 copied to 6-8 ")?;
     let mut s = with_three_copied();
-    ebcdic::columns(&s);
+    ebcdic::columns(rt, &s)?;
     copy_in(&mut s, 0, b"\xE9");
-    print::text(b"Z copied in at 0 ");
-    ebcdic::columns(&s);
+    print::text(rt, b"Z copied in at 0 ")?;
+    ebcdic::columns(rt, &s)
 }
 
-fn equal(a: &[u8], b: &[u8]) {
-    print::subject(b"same", a);
-    print::subject(b"as", b);
-    print::answer(same(a, b));
+fn equal(rt: &impl Print, a: &[u8], b: &[u8]) -> io::Result<()> {
+    print::subject(rt, b"same", a)?;
+    print::subject(rt, b"as", b)?;
+    print::answer(rt, same(a, b))
 }
 
-fn numbers() {
+fn numbers(rt: &impl Print) -> io::Result<()> {
     let texts =
         b"number|00000000125|99999999999|10000000001|00000000000|0000000012A|00000025|7|999999999999999999";
-    lists::each(Subject::Number, texts);
+    lists::each(rt, Subject::Number, texts)?;
     let inside = b"number in 3-13|AB00000000125CD|0099999999999 1|AB0000000012 CD|AB 0000000012CD";
-    lists::each(Subject::NumberInside, inside);
-    nine_wide(0);
-    nine_wide(125);
-    nine_wide(999999999);
-    nine_wide(1000000000);
-    nine_wide(1234567890123);
+    lists::each(rt, Subject::NumberInside, inside)?;
+    nine_wide(rt, 0)?;
+    nine_wide(rt, 125)?;
+    nine_wide(rt, 999999999)?;
+    nine_wide(rt, 1000000000)?;
+    nine_wide(rt, 1234567890123)
 }
 
-fn equals() {
-    equal(b"OH", b"OH");
-    equal(b"OH", b"OK");
-    equal(b"OH", b"PH");
-    equal(b"OH", b"O");
-    equal(b"", b"");
+fn equals(rt: &impl Print) -> io::Result<()> {
+    equal(rt, b"OH", b"OH")?;
+    equal(rt, b"OH", b"OK")?;
+    equal(rt, b"OH", b"PH")?;
+    equal(rt, b"OH", b"O")?;
+    equal(rt, b"", b"")
 }
 
-pub fn vectors() {
-    lists::each(Subject::Blank, b"blank|    | |   A|A   | 0  | -  ||");
+pub fn vectors(rt: &impl Print) -> io::Result<()> {
+    lists::each(rt, Subject::Blank, b"blank|    | |   A|A   | 0  | -  ||")?;
     let texts = b"four digits|2007|0000|9999|20 7|200A|A007|    |200|20077||";
-    lists::each(Subject::Digits(4), texts);
-    numbers();
-    parts();
-    changes();
-    equals();
+    lists::each(rt, Subject::Digits(4), texts)?;
+    numbers(rt)?;
+    parts(rt)?;
+    changes(rt)?;
+    equals(rt)
 }

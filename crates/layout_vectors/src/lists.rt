@@ -8,6 +8,7 @@ use layout::process_year::in_window;
 use layout::ssn::wrong_ssn;
 use layout::states::is_state;
 use layout::zip::is_zip;
+use std::io;
 use text::fields::{are_digits, is_blank};
 use vector_text::ebcdic::write;
 use vector_text::lists::text_end;
@@ -52,38 +53,40 @@ fn holds(subject: Subject, s: &[u8]) -> bool {
 }
 
 // The line of one text, in a field of forty columns with spaces behind it.
-fn vector(name: &[u8], subject: Subject, text: &[u8]) {
+fn vector(rt: &impl Print, name: &[u8], subject: Subject, text: &[u8]) -> io::Result<()> {
     let mut field = [0x40u8; 40];
     let n = write(text, &mut field);
-    print::subject(name, text);
+    print::subject(rt, name, text)?;
     match subject {
-        Subject::Ebcdic => ebcdic::both_ways(&field[..n]),
-        Subject::Number => fields::value(&field[..n]),
-        Subject::NumberInside => fields::value_inside(&field),
-        Subject::Words => exclusions::read(&field),
-        _ => print::answer(holds(subject, &field[..n])),
+        Subject::Ebcdic => ebcdic::both_ways(rt, &field[..n]),
+        Subject::Number => fields::value(rt, &field[..n]),
+        Subject::NumberInside => fields::value_inside(rt, &field),
+        Subject::Words => exclusions::read(rt, &field),
+        _ => print::answer(rt, holds(subject, &field[..n])),
     }
 }
 
 // A line for each text from `start` on. A bar at the end of the list ends its last text and starts none.
-fn each_from(name: &[u8], subject: Subject, list: &[u8], start: usize)
+fn each_from(
+    rt: &impl Print,
+    name: &[u8],
+    subject: Subject,
+    list: &[u8],
+    start: usize,
+) -> io::Result<()>
     requires { start ≤ length list.now }
 {
-    let mut at = start;
-    while at < list.len() {
-        let end = text_end(list, at);
-        vector(name, subject, &list[at..end]);
-        if end == list.len() {
-            return;
-        }
-        at = end + 1;
+    for text in list[start..].split_inclusive(|b| *b == b'|') {
+        vector(rt, name, subject, &text[..text_end(text, 0)])?;
     }
+    Ok(())
 }
 
 // A line for each text of a list, whose first is the name of what is tried.
-pub fn each(subject: Subject, list: &[u8]) {
+pub fn each(rt: &impl Print, subject: Subject, list: &[u8]) -> io::Result<()> {
     let end = text_end(list, 0);
     if end < list.len() {
-        each_from(&list[0..end], subject, list, end + 1);
+        each_from(rt, &list[0..end], subject, list, end + 1)?;
     }
+    Ok(())
 }

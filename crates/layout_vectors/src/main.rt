@@ -16,17 +16,19 @@ mod ssn;
 mod states;
 mod zip;
 
-fn main() {
-    ebcdic::vectors();
-    characters::vectors();
-    fields::vectors();
-    states::vectors();
-    ssn::vectors();
-    name::vectors();
-    zip::vectors();
-    calendar::vectors();
-    process_year::vectors();
-    exclusions::vectors();
-    locals::vectors();
-    codes::vectors();
+use std::io;
+
+fn main(rt: HostRuntime) -> io::Result<()> {
+    ebcdic::vectors(&rt)?;
+    characters::vectors(&rt)?;
+    fields::vectors(&rt)?;
+    states::vectors(&rt)?;
+    ssn::vectors(&rt)?;
+    name::vectors(&rt)?;
+    zip::vectors(&rt)?;
+    calendar::vectors(&rt)?;
+    process_year::vectors(&rt)?;
+    exclusions::vectors(&rt)?;
+    locals::vectors(&rt)?;
+    codes::vectors(&rt)
 }

@@ -2,37 +2,37 @@
 use crate::lists;
 use crate::lists::Subject;
 use layout::states::is_state;
+use std::io;
 use vector_text::ebcdic::from_ascii;
 use vector_text::print;
 
-fn show(first: u8, second: u8) {
+fn show(rt: &impl Print, first: u8, second: u8) -> io::Result<()> {
     let code = [from_ascii(first), from_ascii(second)];
     if is_state(&code) {
         let text = [b' ', first, second];
-        print::text(&text);
+        print::text(rt, &text)?;
     }
+    Ok(())
 }
 
-fn starting_with(first: u8) {
-    let mut second = b'A';
-    while second <= b'Z' {
-        show(first, second);
-        second += 1;
+fn starting_with(rt: &impl Print, first: u8) -> io::Result<()> {
+    for second in b'A'..=b'Z' {
+        show(rt, first, second)?;
     }
+    Ok(())
 }
 
-fn all_pairs() {
-    let mut first = b'A';
-    while first <= b'Z' {
-        starting_with(first);
-        first += 1;
+fn all_pairs(rt: &impl Print) -> io::Result<()> {
+    for first in b'A'..=b'Z' {
+        starting_with(rt, first)?;
     }
+    Ok(())
 }
 
-pub fn vectors() {
-    print::text(b"states");
-    all_pairs();
-    print::end();
+pub fn vectors(rt: &impl Print) -> io::Result<()> {
+    print::text(rt, b"states")?;
+    all_pairs(rt)?;
+    print::end(rt)?;
     let texts = b"state|AA|AJ|AK|AL|NY|NZ|OG|OH|OI|OJ|OK|OL|WX|WY|WZ|ZZ|HO|oh|Oh|  |O |00|O|OHI||";
-    lists::each(Subject::State, texts);
+    lists::each(rt, Subject::State, texts)
 }

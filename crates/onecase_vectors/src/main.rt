@@ -7,8 +7,11 @@ mod record;
 mod run;
 mod scan;
 
-fn main() {
-    let mut buf = io::large_buffer();
-    let n = io::read_full(0, &mut buf);
-    run::lines(&buf[..n]);
+use std::io;
+use std::io::Read;
+
+fn main(rt: HostRuntime) -> io::Result<()> {
+    let mut text = Vec::new(rt.alloc());
+    rt.reader().read_to_end(&mut text)?;
+    run::lines(&rt, &text)
 }

@@ -36,14 +36,8 @@ fn write_field(columns: &mut [u8], field: &[u8]) {
 
 // Writes all fields of a text.
 fn fill(columns: &mut [u8], text: &[u8]) {
-    let mut at = 0;
-    while at < text.len() {
-        let end = scan::place(text, at, b']');
-        write_field(columns, &text[at..end]);
-        if end == text.len() {
-            return;
-        }
-        at = end + 1;
+    for field in text.split_inclusive(|b| *b == b']') {
+        write_field(columns, &field[..scan::place(field, 0, b']')]);
     }
 }
 

@@ -10,6 +10,7 @@
 use crate::{print, record, scan};
 use onecase::case::{Case, Step};
 use onecase::verdict::Verdict;
+use std::io;
 use vector_text::ebcdic::write;
 
 #[derive(Clone, Copy)]
@@ -48,27 +49,33 @@ fn before(stand: Stand, goes_on: bool) -> Case {
 }
 
 // The answer behind a record's line.
-fn show(verdict: Verdict, after: Case, text: &[u8]) {
-    vector_text::print::text(b" -> ");
-    print::verdict(verdict);
-    vector_text::print::text(b", ");
-    print::case(after, has(text, b'?'));
+fn show(rt: &impl Print, verdict: Verdict, after: Case, text: &[u8]) -> io::Result<()> {
+    vector_text::print::text(rt, b" -> ")?;
+    print::verdict(rt, verdict)?;
+    vector_text::print::text(rt, b", ")?;
+    print::case(rt, after, has(text, b'?'))
 }
 
 // A record: its answer, and where the reading then stands.
-fn recorded(stand: Stand, goes_on: bool, base: [u8; 245], text: &[u8]) -> Stand {
+fn recorded(
+    rt: &impl Print,
+    stand: Stand,
+    goes_on: bool,
+    base: [u8; 245],
+    text: &[u8],
+) -> io::Result<Stand> {
     let rec = record::described(base, text);
     let control = stand.control;
     let start = stand.start;
     let answer = step(before(stand, goes_on), rec, has(text, b'!'), control);
     let verdict = answer.verdict;
     let last = answer.case;
-    show(verdict, last, text);
-    Stand {
+    show(rt, verdict, last, text)?;
+    Ok(Stand {
         control,
         start,
         last,
-    }
+    })
 }
 
 fn started(stand: Stand, start: Case) -> Stand {
@@ -106,19 +113,19 @@ fn controlled(stand: Stand, text: &[u8]) -> Stand {
 }
 
 // One line.
-fn line(stand: Stand, base: [u8; 245], text: &[u8]) -> Stand {
+fn line(rt: &impl Print, stand: Stand, base: [u8; 245], text: &[u8]) -> io::Result<Stand> {
     if text.len() == 0 {
-        return stand;
+        return Ok(stand);
     }
-    vector_text::print::text(text);
+    vector_text::print::text(rt, text)?;
     let kind = text[0];
     match kind {
-        b'#' => stand,
-        b'c' => controlled(stand, text),
-        b'n' => started(stand, no_row()),
-        b'r' => started(stand, record::row(text)),
-        b'+' => recorded(stand, true, base, &text[1..]),
-        _ => recorded(stand, false, base, text),
+        b'#' => Ok(stand),
+        b'c' => Ok(controlled(stand, text)),
+        b'n' => Ok(started(stand, no_row())),
+        b'r' => Ok(started(stand, record::row(text))),
+        b'+' => recorded(rt, stand, true, base, &text[1..]),
+        _ => recorded(rt, stand, false, base, text),
     }
 }
 
@@ -145,17 +152,12 @@ fn beginning() -> Stand {
 }
 
 // All lines of a text.
-pub fn lines(text: &[u8]) {
+pub fn lines(rt: &impl Print, text: &[u8]) -> io::Result<()> {
     let base = record::base();
     let mut stand = beginning();
-    let mut at = 0;
-    while at < text.len() {
-        let end = scan::place(text, at, b'\n');
-        stand = line(stand, base, &text[at..end]);
-        vector_text::print::text(b"\n");
-        if end == text.len() {
-            return;
-        }
-        at = end + 1;
+    for part in text.split_inclusive(|b| *b == b'\n') {
+        stand = line(rt, stand, base, &part[..scan::place(part, 0, b'\n')])?;
+        vector_text::print::text(rt, b"\n")?;
     }
+    Ok(())
 }

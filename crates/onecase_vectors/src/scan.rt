@@ -6,14 +6,12 @@ pub fn place(text: &[u8], at: usize, b: u8) -> usize
     requires { at ≤ length text.now }
     ensures { (at ≤ result) × (result ≤ length text.now) }
 {
-    let mut i = at;
-    while i < text.len() {
+    for i in at..text.len() {
         if text[i] == b {
             return i;
         }
-        i += 1;
     }
-    i
+    text.len()
 }
 
 // The number with one more digit; other bytes are passed, and so is a digit behind four.
@@ -32,11 +30,9 @@ fn longer(n: u64, b: u8) -> u64 {
 
 // The number that the digits of a text write.
 pub fn number(text: &[u8]) -> u64 {
-    let mut n: u64 = 0;
-    let mut i = 0;
-    while i < text.len() {
-        n = longer(n, text[i]);
-        i += 1;
+    let mut n = 0;
+    for b in text {
+        n = longer(n, *b);
     }
     n
 }

@@ -4,10 +4,12 @@
 
 mod refusals;
 
-fn main() {
-    refusals::space();
-    refusals::years();
-    refusals::lists();
-    refusals::masters();
-    refusals::batches();
+use std::io;
+
+fn main(rt: HostRuntime) -> io::Result<()> {
+    refusals::space(&rt)?;
+    refusals::years(&rt)?;
+    refusals::lists(&rt)?;
+    refusals::masters(&rt)?;
+    refusals::batches(&rt)
 }

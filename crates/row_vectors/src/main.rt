@@ -5,7 +5,9 @@ mod key;
 mod lists;
 mod row;
 
-fn main() {
-    key::vectors();
-    row::vectors();
+use std::io;
+
+fn main(rt: HostRuntime) -> io::Result<()> {
+    key::vectors(&rt)?;
+    row::vectors(&rt)
 }

@@ -2,6 +2,7 @@
 use crate::lists;
 use crate::lists::Subject;
 use casemaster::row::{Form, is_live, is_sound_row};
+use std::io;
 use vector_text::ebcdic::write;
 use vector_text::print;
 
@@ -77,150 +78,169 @@ pub fn is_old_row_sound(column: usize, text: &[u8]) -> bool {
 }
 
 // The live row with a byte in a column.
-fn byte(column: usize, b: u8) {
+fn byte(rt: &impl Print, column: usize, b: u8) -> io::Result<()> {
     let row = with_byte(live(), column, b);
-    print::text(b"sound row, column ");
-    print::number(column as u64);
-    print::text(b" byte ");
-    print::byte(b);
-    print::text(b" ");
-    print::answer(is_sound_row(&row, Form::New));
+    print!(rt; "sound row, column {column} byte {b:02x} ")?;
+    print::answer(rt, is_sound_row(&row, Form::New))
 }
 
-fn live_rows() {
+fn live_rows(rt: &impl Print) -> io::Result<()> {
     let row = live();
-    print::text(b"live ");
-    print::answer(is_live(&row));
+    print::text(rt, b"live ")?;
+    print::answer(rt, is_live(&row))?;
     let row = deleted();
-    print::text(b"deleted live ");
-    print::answer(is_live(&row));
+    print::text(rt, b"deleted live ")?;
+    print::answer(rt, is_live(&row))
 }
 
-fn statuses() {
-    lists::each(Subject::Row(196), b"sound row, status| |D|L|d|0");
+fn statuses(rt: &impl Print) -> io::Result<()> {
+    lists::each(rt, Subject::Row(196), b"sound row, status| |D|L|d|0")?;
     lists::each(
+        rt,
         Subject::DeletedRow(196),
         b"sound deleted row, status|D| |E|d|0",
-    );
+    )?;
     lists::each(
+        rt,
         Subject::DeletedRow(73),
         b"sound deleted row, last digit of arrearage|0|5|A| ",
-    );
+    )?;
     lists::each(
+        rt,
         Subject::DeletedRow(66),
         b"sound deleted row, first digit of arrearage|0|1|A| ",
-    );
+    )
 }
 
-fn keys() {
-    lists::each(Subject::Row(1), b"sound row, state|OH|AK|WY|ZZ|O |oh");
+fn keys(rt: &impl Print) -> io::Result<()> {
+    lists::each(rt, Subject::Row(1), b"sound row, state|OH|AK|WY|ZZ|O |oh")?;
     lists::each(
+        rt,
         Subject::Row(3),
         b"sound row, ssn|900000000|666123456|123004567|12345678A",
-    );
-    lists::each(Subject::Row(12), b"sound row, case type|A|N|B| ");
+    )?;
+    lists::each(rt, Subject::Row(12), b"sound row, case type|A|N|B| ")
 }
 
-fn digits() {
+fn digits(rt: &impl Print) -> io::Result<()> {
     lists::each(
+        rt,
         Subject::Row(13),
         b"sound row, local code|000|777|   |A00|00A",
-    );
+    )?;
     let arrearages =
         b"sound row, arrearage|00000000|00000001|99999999|        |A0000025|0000002A|0000 025";
-    lists::each(Subject::Row(66), arrearages);
+    lists::each(rt, Subject::Row(66), arrearages)?;
     let payments =
         b"sound row, payment|000000000000|200799999999|    00000000|2007        |A00000000000|000A00000000";
-    lists::each(Subject::Row(79), payments);
-    lists::each(Subject::Row(83), b"sound row, column 83|A0000000|0000000A");
+    lists::each(rt, Subject::Row(79), payments)?;
+    lists::each(
+        rt,
+        Subject::Row(83),
+        b"sound row, column 83|A0000000|0000000A",
+    )
 }
 
-fn names() {
+fn names(rt: &impl Print) -> io::Result<()> {
     let texts =
         b"sound row, name|LI   |O-NE |-A   |--   |O NE |     |SMI1 | SMI |LI  H|    H|SMIT1";
-    lists::each(Subject::Row(31), texts);
+    lists::each(rt, Subject::Row(31), texts)?;
     lists::each(
+        rt,
         Subject::Row(35),
         b"sound row, columns 35-50|1234567890123456",
-    );
+    )
 }
 
-fn filler() {
+fn filler(rt: &impl Print) -> io::Result<()> {
     lists::each(
+        rt,
         Subject::Row(199),
         b"sound row, columns 199-200|  |X | 0|00|-",
-    );
+    )
 }
 
-fn cents() {
+fn cents(rt: &impl Print) -> io::Result<()> {
     lists::each(
+        rt,
         Subject::Row(197),
         b"sound row, cents|00|01|99|  |0 | 0|A0|0A",
-    );
+    )?;
     lists::each(
+        rt,
         Subject::DeletedRow(197),
         b"sound deleted row, cents|00|01|10|  ",
-    );
-    lists::each(Subject::CentsRow(196), b"sound row of 50 cents, status| |D");
+    )?;
     lists::each(
+        rt,
+        Subject::CentsRow(196),
+        b"sound row of 50 cents, status| |D",
+    )?;
+    lists::each(
+        rt,
         Subject::CentsRow(197),
         b"sound row of 50 cents, cents|01|10|00",
-    );
+    )
 }
 
-fn old_rows() {
+fn old_rows(rt: &impl Print) -> io::Result<()> {
     lists::each(
+        rt,
         Subject::OldRow(197),
         b"sound row without cents, columns 197-200|    |00  |X   |  X |   -",
-    );
+    )?;
     lists::each(
+        rt,
         Subject::OldRow(66),
         b"sound row without cents, arrearage|00000001|00000000",
-    );
+    )
 }
 
-fn free_columns() {
+fn free_columns(rt: &impl Print) -> io::Result<()> {
     lists::each(
+        rt,
         Subject::Row(16),
         b"sound row, case ID|ABCDEFGHIJ12345|               ",
-    );
+    )?;
     lists::each(
+        rt,
         Subject::Row(51),
         b"sound row, first name|123456789012345|               ",
-    );
-    lists::each(Subject::Row(74), b"sound row, transfer|ZZABC|OH001");
+    )?;
+    lists::each(rt, Subject::Row(74), b"sound row, transfer|ZZABC|OH001")?;
     lists::each(
+        rt,
         Subject::Row(176),
         b"sound row, address state and ZIP|ZZABCDEFGHI",
-    );
-    lists::each(Subject::Row(187), b"sound row, date|19000229|ABCDEFGH");
+    )?;
+    lists::each(rt, Subject::Row(187), b"sound row, date|19000229|ABCDEFGH")
 }
 
-fn bytes() {
-    byte(195, 0xFF);
-    byte(195, 0x40);
-    byte(194, 0xFF);
-    byte(196, 0x00);
-    byte(200, 0x00);
-    byte(16, 0xFF);
-    byte(65, 0xFF);
-    byte(66, 0xFF);
-    byte(74, 0xFF);
-    byte(78, 0xFF);
-    byte(79, 0xFF);
-    byte(90, 0xFF);
-    byte(91, 0xFF);
+fn bytes(rt: &impl Print) -> io::Result<()> {
+    byte(rt, 195, 0xFF)?;
+    byte(rt, 195, 0x40)?;
+    byte(rt, 194, 0xFF)?;
+    byte(rt, 196, 0x00)?;
+    byte(rt, 200, 0x00)?;
+    byte(rt, 16, 0xFF)?;
+    byte(rt, 65, 0xFF)?;
+    byte(rt, 66, 0xFF)?;
+    byte(rt, 74, 0xFF)?;
+    byte(rt, 78, 0xFF)?;
+    byte(rt, 79, 0xFF)?;
+    byte(rt, 90, 0xFF)?;
+    byte(rt, 91, 0xFF)
 }
 
-pub fn vectors() {
-    live_rows();
-    statuses();
-    keys();
-    digits();
-    names();
-    filler();
-    cents();
-    old_rows();
-    free_columns();
-    bytes();
+pub fn vectors(rt: &impl Print) -> io::Result<()> {
+    live_rows(rt)?;
+    statuses(rt)?;
+    keys(rt)?;
+    digits(rt)?;
+    names(rt)?;
+    filler(rt)?;
+    cents(rt)?;
+    old_rows(rt)?;
+    free_columns(rt)?;
+    bytes(rt)
 }

@@ -38,10 +38,8 @@ pub fn write(text: &[u8], field: &mut [u8]) -> usize
     ensures { IsPrefixLen result field.new }
 {
     let n = least(text.len(), field.len());
-    let mut i = 0;
-    while i < n {
+    for i in 0..n {
         field[i] = from_ascii(text[i]);
-        i += 1;
     }
     n
 }
@@ -51,10 +49,8 @@ pub fn read(field: &[u8], text: &mut [u8]) -> usize
     ensures { IsPrefixLen result text.new }
 {
     let n = least(field.len(), text.len());
-    let mut i = 0;
-    while i < n {
+    for i in 0..n {
         text[i] = to_ascii(field[i], b'?');
-        i += 1;
     }
     n
 }

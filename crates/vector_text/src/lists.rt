@@ -6,9 +6,10 @@ pub fn text_end(list: &[u8], at: usize) -> usize
     requires { at ≤ length list.now }
     ensures { (at ≤ result) × (result ≤ length list.now) }
 {
-    let mut end = at;
-    while end < list.len() && list[end] != b'|' {
-        end += 1;
+    for end in at..list.len() {
+        if list[end] == b'|' {
+            return end;
+        }
     }
-    end
+    list.len()
 }

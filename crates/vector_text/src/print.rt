@@ -1,45 +1,44 @@
 // What the lines on standard output are made of.
-use libc::STDOUT_FILENO;
+use std::io;
 
-pub fn text(s: &[u8]) {
-    io::write_all(STDOUT_FILENO, s);
+pub fn text(rt: &impl Print, s: &[u8]) -> io::Result<()> {
+    rt.write_all(s)
 }
 
-pub fn number(n: u64) {
-    io::print_decimal(STDOUT_FILENO, n);
+pub fn number(rt: &impl Print, n: u64) -> io::Result<()> {
+    print!(rt; "{n}")
 }
 
-pub fn end() {
-    text(b"\n");
+pub fn end(rt: &impl Print) -> io::Result<()> {
+    println!(rt)
 }
 
 // A byte as two hexadecimal digits.
-pub fn byte(b: u8) {
-    io::print_hex(STDOUT_FILENO, b as u64, 2);
+pub fn byte(rt: &impl Print, b: u8) -> io::Result<()> {
+    print!(rt; "{b:02x}")
 }
 
 // Bytes in hexadecimal.
-pub fn hex(s: &[u8]) {
-    let mut i = 0;
-    while i < s.len() {
-        byte(s[i]);
-        i += 1;
+pub fn hex(rt: &impl Print, s: &[u8]) -> io::Result<()> {
+    for b in s {
+        byte(rt, *b)?;
     }
+    Ok(())
 }
 
 // A line's start: what is tried, and on which text.
-pub fn subject(name: &[u8], vector: &[u8]) {
-    text(name);
-    text(b" [");
-    text(vector);
-    text(b"] ");
+pub fn subject(rt: &impl Print, name: &[u8], vector: &[u8]) -> io::Result<()> {
+    text(rt, name)?;
+    text(rt, b" [")?;
+    text(rt, vector)?;
+    text(rt, b"] ")
 }
 
 // A line's end.
-pub fn answer(holds: bool) {
+pub fn answer(rt: &impl Print, holds: bool) -> io::Result<()> {
     if holds {
-        text(b"yes\n");
+        text(rt, b"yes\n")
     } else {
-        text(b"no\n");
+        text(rt, b"no\n")
     }
 }
