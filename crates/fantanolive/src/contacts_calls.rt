@@ -17,8 +17,8 @@ pub extern "C" fn fantanolive_contacts_update(
     faulty: &mut [u32],
     res: &mut [u64; 2],
 ) -> u64
-    ensures { record { number = result; numbers = res.new; buffers = record { table = table.exit.now; faulty = faulty.new } }
-        ≡ update_left table.entry.now count file.now faulty.old res.old }
+    ensures { record { number = result; numbers = res.new; buffers = record { table = table.new; faulty = faulty.new } }
+        ≡ update_left table.old count file.now faulty.old res.old }
 {
     match update::update(table, count, file, faulty) {
         Updated::Done(records, listed) => {

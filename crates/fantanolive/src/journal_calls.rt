@@ -27,12 +27,12 @@ pub extern "C" fn fantanolive_apply_journaled(
       number = result;
       numbers = res.new;
       buffers = record {
-        applied = record { master = master.exit.now; verdicts = verdicts.new; rejects = rejects.new };
+        applied = record { master = master.new; verdicts = verdicts.new; rejects = rejects.new };
         journal = journal.new;
       };
     }
         ≡ journaled_left
-        (with_journal (call_of master.entry.now rows batch.now locals.now year verdicts.old rejects.old)
+        (with_journal (call_of master.old rows batch.now locals.now year verdicts.old rejects.old)
         journal.old)
         res.old }
 {

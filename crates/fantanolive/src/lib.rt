@@ -38,10 +38,10 @@ pub extern "C" fn fantanolive_apply(
     ensures { record {
       number = result;
       numbers = res.new;
-      buffers = record { master = master.exit.now; verdicts = verdicts.new; rejects = rejects.new };
+      buffers = record { master = master.new; verdicts = verdicts.new; rejects = rejects.new };
     }
         ≡ apply_left
-        (call_of master.entry.now rows batch.now locals.now year verdicts.old rejects.old)
+        (call_of master.old rows batch.now locals.now year verdicts.old rejects.old)
         res.old }
 {
     match apply::apply(master, rows, batch, locals, year, verdicts, rejects) {

@@ -34,9 +34,9 @@ pub extern "C" fn fantanolive_post(
     ensures { record {
       number = result;
       numbers = listed.new;
-      buffers = record { master = master.exit.now; lines = lines.new };
+      buffers = record { master = master.new; lines = lines.new };
     }
-        ≡ post_left (post_call master.entry.now rows file.now lines.old) listed.old }
+        ≡ post_left (post_call master.old rows file.now lines.old) listed.old }
 {
     match post::post(master, rows, file, lines) {
         Posted::Done(count) => {
