@@ -44,12 +44,12 @@ fields() {
 # defined LAYOUT FILE [RECORD]: a line `LAYOUT FIRST LAST DEFINITION` for each definition of columns in a file of crates/, or in a record of it
 defined() {
     local digits
-    digits=$(sed -n 's/^pageDigits = //p' crates/pages/specs/Forms.antt)
+    digits=$(sed -n 's/^page_digits = //p' crates/pages/specs/Forms.antt)
     if [ $# -eq 2 ]; then
-        sed -nE "s/^([a-zA-Z0-9]+) (rec|row|line|last) = columns ([0-9]+) ([0-9]+) .*/$1 \3 \4 \1/p" "$2"
+        sed -nE "s/^([a-zA-Z0-9_]+) (rec|row|line|last) = columns ([0-9]+) ([0-9]+) .*/$1 \3 \4 \1/p" "$2"
     else
-        sed -n "/^pub record $3 /,/^\$/p" "$2" | sed -nE 's/^  pub ([a-z-]+) : columns (\([^)]*\)|[0-9]+) (\([^)]*\)|[0-9]+) line .*/\2|\3|\1/p' |
-            while IFS='|' read -r first last name; do echo "$1 $((${first//pageDigits/$digits})) $((${last//pageDigits/$digits})) $name"; done
+        sed -n "/^pub record $3 /,/^\$/p" "$2" | sed -nE 's/^  pub ([a-zA-Z0-9_-]+) : columns (\([^)]*\)|[0-9]+) (\([^)]*\)|[0-9]+) line .*/\2|\3|\1/p' |
+            while IFS='|' read -r first last name; do echo "$1 $((${first//page_digits/$digits})) $((${last//page_digits/$digits})) $name"; done
     fi
 }
 
@@ -68,8 +68,8 @@ specified() {
 }
 # The rules read the front of a last name by itself: the first four columns of the field.
 specified | sort >"$work/specified"
-compare 'columns of the table, and of crates/*/specs' "$(awk '$6 != "null" { print $1, $2, $3, $6 }' "$work/listed" | sort)" "$(grep -v 'ameFront$' "$work/specified")"
-compare 'the front of a last name' "$(awk '$6 ~ /^(lastName|rowLastName)$/ { print $1, $2, $2 + 3 }' "$work/listed" | sort)" "$(sed -n 's/ [a-zA-Z]*ameFront$//p' "$work/specified")"
+compare 'columns of the table, and of crates/*/specs' "$(awk '$6 != "null" { print $1, $2, $3, $6 }' "$work/listed" | sort)" "$(grep -v 'name_front$' "$work/specified")"
+compare 'the front of a last name' "$(awk '$1 !~ /^page_/ && $6 ~ /^(last_name|row_last_name)$/ { print $1, $2, $2 + 3 }' "$work/listed" | sort)" "$(sed -n 's/ [a-zA-Z_]*name_front$//p' "$work/specified")"
 
 # --- Widths, and no gaps.
 

@@ -12,7 +12,7 @@ fault() {
 }
 
 # the names and the number that are looked for
-grep -qE '^maxRows = 16777215$' crates/layout/specs/Limits.antt || fault 'crates/layout/specs/Limits.antt has no maxRows of 16777215'
+grep -qE '^max_rows = 16777215$' crates/layout/specs/Limits.antt || fault 'crates/layout/specs/Limits.antt has no max_rows of 16777215'
 grep -qE '^pub const MAX_ROWS: usize = 16777215;$' crates/layout/src/limits.rt || fault 'crates/layout/src/limits.rt has no MAX_ROWS of 16777215'
 grep -qE '^pub const MAX_RECORDS: usize = 16777216;$' crates/layout/src/limits.rt || fault 'crates/layout/src/limits.rt has no MAX_RECORDS of 16777216'
 
@@ -24,10 +24,10 @@ theorems=(crates/effects crates/takingback/specs crates/balancing/specs crates/l
     crates/pages/specs crates/pages/proofs/OutcomeLaws.antt crates/pages/proofs/PagesProof.antt
     crates/addcents/specs/Theorem.antt crates/addcents/proofs/ConvertLaws.antt crates/addcents/proofs/ConvertProof.antt)
 for path in "${theorems[@]}"; do
-    [ -n "$(find "$path" -name '*.antt' -print -quit 2>/dev/null)" ] || fault "$path has no definition or proof"
+    [ -n "$(find "$path" -path 'crates/*/out' -prune -o -name '*.antt' -print -quit 2>/dev/null)" ] || fault "$path has no definition or proof"
 done
 room='^crates/takingback/specs/JournaledBatch.antt:[0-9]+:(use |EnoughRoom = )'
-named=$(grep -rnE 'maxRows|MAX_ROWS|MAX_RECORDS' "${theorems[@]}")
+named=$(grep -rnE --exclude-dir=out 'max_rows|max_records|MAX_ROWS|MAX_RECORDS' "${theorems[@]}")
 [ "$(grep -cE "$room" <<<"$named")" = 2 ] || fault 'EnoughRoom of takingback no longer names the limit of the code'
 if grep -vE "$room" <<<"$named"; then
     fault 'a definition or theorem over any limit names the limit of the code'
@@ -39,12 +39,12 @@ numbered=(
     layout/specs/Limits.antt
     layout/src/limits.rt
     layout/proofs/LimitsLaws.antt
-    batch/proofs/refusals/most_rows/Proof.antt
-    merging/proofs/merge/cannot_merge/Proof.antt
+    batch/proofs/refusals/most_rows/Answers.antt
+    merging/proofs/merge/cannot_merge/Answers.antt
     journal/proofs/ExamplesProof.antt
     posting/src/hints.rt
 )
-found=$(grep -rnE '1677721[56]' crates --include='*.rt' --include='*.antt')
+found=$(grep -rnE --exclude-dir=out '1677721[56]' crates --include='*.rt' --include='*.antt')
 for path in "${numbered[@]}"; do
     grep -qF "crates/$path:" <<<"$found" || fault "the number of the limit doesn't stand in crates/$path, which is named here"
 done

@@ -84,7 +84,7 @@ table_of() {
 columns_of() {
     local shown fields next=1 first last
     shown=$(table_of "$1" "$2")
-    fields=$(sed -nE -e '/^[a-zA-Z]*ameFront /d' -e 's/^[a-zA-Z0-9]+ (rec|row|line|last) = columns ([0-9]+) ([0-9]+) .*/\2 \3/p' "crates/$3")
+    fields=$(sed -nE -e '/^[a-zA-Z_]*name_front /d' -e 's/^[a-zA-Z0-9_]+ (rec|row|line|last) = columns ([0-9]+) ([0-9]+) .*/\2 \3/p' "crates/$3")
     if [ -z "$shown" ] || [ -z "$fields" ]; then
         echo "manual: $1: no table in the manual, or no field in crates/$3"
         failed=yes
@@ -146,12 +146,12 @@ compare statuses "$shown" "$helped"
 # --- Names of definitions and theorems.
 
 declared=$(sed -nE 's/^ *((abbrev|unfoldable) )?(pub )?([^ ]+) :.*/\4/p' crates/*/specs/*.antt crates/*/proofs/*.antt | sort -u)
-cited=$(section '## How agreement with another engine is shown' | tr '\n' ' ' | grep -oE '\(.[^)]*.\)' | grep -oE '`[A-Za-z-]+`' | tr -d '`' | sort -u)
+cited=$(section '## How agreement with another engine is shown' | tr '\n' ' ' | grep -oE '\(.[^)]*.\)' | grep -oE '`[A-Za-z_-]+`' | tr -d '`' | sort -u)
 compare 'names of definitions and theorems' "$cited" "$(comm -12 <(echo "$cited") <(echo "$declared"))"
 
 # --- States, version.
 
-table=$(sed -n '/^stateTable =/,/^$/p' crates/layout/specs/States.antt | grep -oE '\([^)]*\)' | while read -r state; do tr -cd '[:upper:]' <<<"$state" && echo; done)
+table=$(sed -n '/^state_table =/,/^$/p' crates/layout/specs/States.antt | sed 's/letter_\([a-z]\)/\U\1/g' | grep -oE '\([^)]*\)' | while read -r state; do tr -cd '[:upper:]' <<<"$state" && echo; done)
 shown=$(section '## Words' | tr '\n' ' ' | sed -n 's/.*\*\*State\.\*\* One of the table of 54: \([A-Z ]*\)\..*/\1/p' | tr ' ' '\n')
 compare 'state table' "$shown" "$table"
 shown=$(sed -n '/^ \*   state  /,/^ \*   key  /p' include/fantanolive.h | grep -oE '\b[A-Z]{2}\b' | grep -v '^A$')
