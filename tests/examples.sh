@@ -6,9 +6,9 @@ cd -- "$(dirname -- "$(readlink -f -- "$0")")/.."
 library=target/staticlib/libfantanolive.a
 log=target/examples/build.log
 mkdir -p target/examples
-if [ -f "$library" ] && [ -z "$(find crates crates.txt -newer "$library")" ]; then only=--examples; else only=; fi
 # shellcheck source=tests/fresh-apply-batch.sh
 . tests/fresh-apply-batch.sh
+if [ -f "$library" ] && ! newer_crates "$library"; then only=--examples; else only=; fi
 if ! { bin/build-library $only && fresh_apply_batch; } >"$log" 2>&1; then
     cat "$log"
     echo "examples: not built"

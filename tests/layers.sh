@@ -5,7 +5,7 @@
 set -u
 root=$(dirname -- "$(dirname -- "$(readlink -f -- "$0")")")
 cd -- "$root" || exit 2
-mapfile -d '' -t files < <(find crates -path 'crates/*/out' -prune -o \( -name '*.antt' -o -name '*.rt' \) -print0 | LC_ALL=C sort -z)
+mapfile -d '' -t files < <(find crates -regex 'crates/[^/]*/out' -prune -o \( -name '*.antt' -o -name '*.rt' \) -print0 | LC_ALL=C sort -z)
 awk '
 function fault(text) { print text; faults++ }
 

@@ -11,6 +11,13 @@ fault() {
     failed=yes
 }
 
+# searched WORDS PATH..: the lines with the words in the files below the paths; what rt keeps in crates/*/out is no source
+searched() {
+    local words=$1
+    shift
+    find "$@" -regex 'crates/[^/]*/out' -prune -o -type f -exec grep -HnE -- "$words" {} +
+}
+
 # the names and the number that are looked for
 grep -qE '^max_rows = 16777215$' crates/layout/specs/Limits.antt || fault 'crates/layout/specs/Limits.antt has no max_rows of 16777215'
 grep -qE '^pub const MAX_ROWS: usize = 16777215;$' crates/layout/src/limits.rt || fault 'crates/layout/src/limits.rt has no MAX_ROWS of 16777215'
@@ -24,10 +31,10 @@ theorems=(crates/effects crates/takingback/specs crates/balancing/specs crates/l
     crates/pages/specs crates/pages/proofs/OutcomeLaws.antt crates/pages/proofs/PagesProof.antt
     crates/addcents/specs/Theorem.antt crates/addcents/proofs/ConvertLaws.antt crates/addcents/proofs/ConvertProof.antt)
 for path in "${theorems[@]}"; do
-    [ -n "$(find "$path" -path 'crates/*/out' -prune -o -name '*.antt' -print -quit 2>/dev/null)" ] || fault "$path has no definition or proof"
+    [ -n "$(find "$path" -regex 'crates/[^/]*/out' -prune -o -name '*.antt' -print -quit 2>/dev/null)" ] || fault "$path has no definition or proof"
 done
 room='^crates/takingback/specs/JournaledBatch.antt:[0-9]+:(use |EnoughRoom = )'
-named=$(grep -rnE --exclude-dir=out 'max_rows|max_records|MAX_ROWS|MAX_RECORDS' "${theorems[@]}")
+named=$(searched 'max_rows|max_records|MAX_ROWS|MAX_RECORDS' "${theorems[@]}")
 [ "$(grep -cE "$room" <<<"$named")" = 2 ] || fault 'EnoughRoom of takingback no longer names the limit of the code'
 if grep -vE "$room" <<<"$named"; then
     fault 'a definition or theorem over any limit names the limit of the code'
@@ -44,7 +51,7 @@ numbered=(
     journal/proofs/ExamplesProof.antt
     posting/src/hints.rt
 )
-found=$(grep -rnE --exclude-dir=out '1677721[56]' crates --include='*.rt' --include='*.antt')
+found=$(searched '1677721[56]' crates | grep -E '^[^:]*\.(rt|antt):')
 for path in "${numbered[@]}"; do
     grep -qF "crates/$path:" <<<"$found" || fault "the number of the limit doesn't stand in crates/$path, which is named here"
 done

@@ -11,7 +11,7 @@
 set -eu
 cd -- "$(dirname -- "$(readlink -f -- "$0")")/.."
 shopt -s nullglob globstar
-find . -name target -prune -o -name .git -prune -o -path './crates/*/out' -prune -o -print | sed 's,^\./,,' | LC_ALL=C awk -v sheet=docs/RULES.md '
+find . -name target -prune -o -name .git -prune -o -regex './crates/[^/]*/out' -prune -o -print | sed 's,^\./,,' | LC_ALL=C awk -v sheet=docs/RULES.md '
 function has(list, one) { return index(list " ", " " one " ") > 0 }
 function with(list, one) { return has(list, one) ? list : list " " one }
 function several(list) { return split(list, parts, " ") > 1 }

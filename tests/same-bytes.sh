@@ -1,6 +1,6 @@
 #!/usr/bin/env bash
 # Builds everything from a copy of the source in another folder, in another time zone and with another mask, and compares the packages (bin/package) with those of this folder:
-# the same bytes in every file, and no path of either folder in the programs or the libraries. The archive is built there over the proved crates of this folder; it is copied, with a
+# the same bytes in every file, and no path of either folder in the programs or the libraries. The archive is proved and built there too (rt begins with what it kept here); it is copied, with a
 # line, where the Rattle kit is missing or a crate has changed since it was built. Wants the built programs. Prints what differs, and then status 1.
 set -u
 export LC_ALL=C PYTHONDONTWRITEBYTECODE=1
@@ -27,10 +27,11 @@ built() {
     fi
 }
 archive=target/staticlib/libfantanolive.a
-if command -v rt >/dev/null && [ -d target/stamp ] && [ -z "$(find crates crates.txt -newer "$archive" -print -quit)" ]; then
-    cp -a crates crates.txt "$other"
-    cp -a target/stamp target/rlib target/log "$other/target"
-    built "$other" rt staticlib fantanolive
+# shellcheck source=tests/fresh-apply-batch.sh
+. tests/fresh-apply-batch.sh
+if command -v rt >/dev/null && [ -f crates/fantanolive/out/libfantanolive.a ] && ! newer_crates "$archive"; then
+    tar -cf - --anchored --no-wildcards-match-slash --exclude='crates/*/out' crates crates.txt | tar -xf - -C "$other"
+    built "$other" bin/build-library --archive
 else
     echo 'skipped: without the Rattle kit and the proved crates the archive is not built again'
     mkdir "$other/target/staticlib"
