@@ -1,6 +1,6 @@
 #!/usr/bin/env bash
 # Holds the names that docs/RULES.md cites in backquotes against the source. In a table the column's head says what a name must be:
-#   definition   declared in the file of specs/ that is named last before it (`Row `isLive`, `isDeleted``), or the name of such a file
+#   definition   declared in the file of specs/ that is named last before it (`Row `is_live`, `is_deleted``), or the name of such a file
 #   promise      FILE::NAME or TYPE::NAME, an item of src/; declared in the file in brackets behind it or behind its list (`a`, `b` (FormLaws)); declared
 #                in the file of specs/ before it or before its list; else a name that one file alone declares
 #   tests, edits an edit of must-fail/, a crate, or NAME or FILE::NAME, a test function in Rust
