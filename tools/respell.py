@@ -5,8 +5,8 @@ usage: python3 tools/respell.py        at the top of the repository, once, right
 
 It reads the declarations of specs/ and of the lemma files in proofs/, and writes each of their names anew wherever it stands as a whole
 word: in .antt files, in the clauses of .rt files, in the must-fail edits and, between backticks, in the documents. Names of functions of
-src/, exported C names, strings and the names that Rattle makes keep their spelling. Two names that would fall together keep apart:
-the lemma gets `_lem`, the field `_field`.
+src/, exported C names, strings and the names that Rattle makes keep their spelling. Where two names would fall together the lemma gets
+`_lem`. CHOSEN has names whose spelling no rule gives.
 """
 import collections
 import os
@@ -15,7 +15,19 @@ import sys
 
 WORD = re.compile(r"(?<![\w'′-])[A-Za-zℕ][\w'′]*(?:-[\w'′]+)*(?![\w'′])")
 STD = set("length take drop map append set put zip replicate cons nil suc zero add sub mul le lt eq sum filter reverse cond not and or mod div pow".split())
-CHOSEN = {"isZeroBalance": "is_zero_balance", "rowKeyAt": "row_key_at", "nonOut": "non_out", "nonWarned": "non_warned", "noText": "no_text", "row-in": "row_inside", "rec-widths": "rec_widths_lem"}
+CHOSEN = {
+    "behind-code": "behind_code",
+    "behind-last": "behind_last",
+    "behind-arrearage": "behind_arrearage",
+    "not-deleted": "not_deleted",
+    "isZeroBalance": "is_zero_balance",
+    "rowKeyAt": "row_key_at",
+    "nonOut": "non_out",
+    "nonWarned": "non_warned",
+    "noText": "no_text",
+    "row-in": "row_inside",
+    "rec-widths": "rec_widths_lem",
+}
 KEEP = {"ref-ptr", "ghost-name", "get_or-set_same", "get_or-set_other"}
 
 

@@ -60,7 +60,7 @@ pub record Examples : Type 0 where
   pub minus_zero : amount_cents (field 0xD0) ≡ none
   -- 0 dollars and 50 cents is live
   pub live : is_sound_row (row 0 50 space) ≡ true
-  pub not-deleted : is_sound_row (row 0 50 D) ≡ false
+  pub not_deleted : is_sound_row (row 0 50 D) ≡ false
   pub deleted : is_sound_row (row 0 0 D) ≡ true
   -- 0.25 off 0.50; 1.01 off 3.00
   pub lowered : posted_row (line 25 0) (row 0 50 space) ≡ row 0 25 space

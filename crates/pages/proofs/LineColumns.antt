@@ -46,13 +46,13 @@ module _ (row : List ℕ) (wide : length row ≡ 200) where
         key = at 0;
         behind_key = at 1;
         local_code = at 2;
-        behind-code = at 3;
+        behind_code = at 3;
         last_name = at 4;
-        behind-last = at 5;
+        behind_last = at 5;
         first_name = at 6;
         behind_first = at 7;
         arrearage = at 8;
-        behind-arrearage = at 9;
+        behind_arrearage = at 9;
         bits = at 10;
         bits_counted = λ h. ap number (at 10) ∙ number_digits 1 (bits_set row) (omega (arith, ones-le 8 (get_or (row_exclusions row) 0 0) h));
         filler = at 11;

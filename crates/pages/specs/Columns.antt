@@ -10,13 +10,13 @@ pub record IsLine (row line : List ℕ) : Type 0 where
   pub key : columns 1 12 line ≡ row_key row
   pub behind_key : columns 13 13 line ≡ spaces 1
   pub local_code : columns 14 16 line ≡ row_local_code row
-  pub behind-code : columns 17 17 line ≡ spaces 1
+  pub behind_code : columns 17 17 line ≡ spaces 1
   pub last_name : columns 18 37 line ≡ row_last_name row
-  pub behind-last : columns 38 38 line ≡ spaces 1
+  pub behind_last : columns 38 38 line ≡ spaces 1
   pub first_name : columns 39 53 line ≡ row_first_name row
   pub behind_first : columns 54 54 line ≡ spaces 1
   pub arrearage : columns 55 62 line ≡ row_arrearage row
-  pub behind-arrearage : columns 63 63 line ≡ spaces 1
+  pub behind_arrearage : columns 63 63 line ≡ spaces 1
   pub bits : columns 64 64 line ≡ digit_field 1 (bits_set row)
   -- which is the count itself, since a byte has at most eight
   pub bits_counted : get_or (row_exclusions row) 0 0 < 256 → number (columns 64 64 line) ≡ bits_set row
