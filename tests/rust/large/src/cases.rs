@@ -1,6 +1,7 @@
 //! The commands, each with what the library's call gives over the same bytes.
 
 use std::fs::{self, File};
+use std::hint::black_box;
 use std::io::Write;
 use std::path::Path;
 use std::time::Instant;
@@ -14,6 +15,7 @@ use generator::text::{put_text, text, SPACE};
 
 use crate::files::{batch, Files, MOST, STATE};
 use crate::journal::journal;
+use crate::log::sha256::sha256;
 use crate::pages::{pages, printed};
 
 pub struct Case {
@@ -27,7 +29,7 @@ pub struct Case {
     pub listed: (&'static str, usize),
     /// Seconds that the library's call takes; 0 where there is none.
     pub call: f64,
-    /// Seconds that reading and writing the files takes.
+    /// Seconds that reading and writing the files takes, with fingerprints where the program takes them.
     pub files: f64,
     /// Bytes of the files that are read.
     pub read: u64,
@@ -58,17 +60,28 @@ impl Case {
         }
     }
 
-    /// Reads the files by name and writes the outputs as the program does, to see how long that takes.
+    /// Whether a file is written over: the program then takes fingerprints for its log.
+    fn is_logged(&self) -> bool {
+        let is_written = |name| self.written.iter().any(|(other, _)| *other == name);
+        self.changed.iter().any(|(name, _)| is_written(*name))
+    }
+
+    /// Reads the files by name and writes the outputs as the program does, with their fingerprints where it takes them, to see how
+    /// long that takes: many processors have no instructions for a fingerprint.
     fn time_files(mut self, folder: &Path, names: &[&str]) -> Case {
+        let is_logged = self.is_logged();
+        let fingerprint = |bytes: &[u8]| is_logged.then(|| black_box(sha256(bytes)));
         let start = Instant::now();
         for name in names {
             let bytes = fs::read(folder.join(name)).expect("it was written");
             self.read += bytes.len() as u64;
+            fingerprint(&bytes);
         }
         for (_, bytes) in &self.written {
             let mut file = File::create(folder.join("copy")).expect("the folder takes files");
             file.write_all(bytes).expect("the disk has room");
             file.sync_all().expect("it can be synced");
+            fingerprint(bytes);
         }
         self.files = start.elapsed().as_secs_f64();
         self

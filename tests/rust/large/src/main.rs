@@ -1,6 +1,6 @@
 //! Large files (65,535 rows, details, lines and contact records) through every command of the program. What a
 //! command writes is compared with what the library's call gives over the same bytes; its time with that call's and with reading
-//! and writing the files; its memory with the sizes of the files.
+//! and writing the files, their fingerprints taken where the program takes them; its memory with the sizes of the files.
 //!
 //!     cargo run --release -p large -- PROGRAM
 //!
@@ -9,6 +9,7 @@
 mod cases;
 mod files;
 mod journal;
+mod log;
 mod measure;
 mod pages;
 
