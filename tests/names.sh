@@ -66,7 +66,7 @@ FILENAME ~ /\.antt$/ {
 
 # .rt: the items, and the type that an impl is of
 FILENAME ~ /\.rt$/ {
-    if ($0 ~ /^impl /) { type = first_word($0, "^impl "); sub(/[^A-Za-z0-9_].*/, "", type) }
+    if ($0 ~ /^impl[ <]/) { type = first_word($0, "^impl(<[^>]*>)? "); sub(/[^A-Za-z0-9_].*/, "", type) }
     else if ($0 ~ /^}/) type = ""
     else if ($0 ~ /^ *(pub )?(extern "C" )?(fn|const|static|struct|enum) [A-Za-z0-9_]/) {
         name = first_word($0, "^ *(pub )?(extern \"C\" )?(fn|const|static|struct|enum) ")

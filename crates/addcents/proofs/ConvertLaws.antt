@@ -7,7 +7,11 @@ use mathlib.Core.Bool.{true, ◌&&◌, and-true}
 use native.Mathlib.Omega.{arith}
 use lib.Dec.{eqb, lit≤}
 use lib.ListN.{length, take, drop}
-use Rattle.answers.proofs.AnswerLaws.{outcome_refused, outcome_done}
+use Rattle.answers.specs.Refusal.{refusal_number_of}
+use Rattle.answers.specs.declared.refusal.Refusal.{Refusal}
+use Rattle.answers.proofs.AnswerLaws.{outcome_done}
+use Rattle.answers.proofs.RefusalLaws.{outcome_err}
+use Rattle.std.specs.Prelude.{Ok, Err}
 use Rattle.text.specs.Characters.{space, zero_digit, is_digit}
 use Rattle.text.specs.Fields.{columns, is_blank, is_zero, all_digits, number}
 use Rattle.text.specs.Blocks.{blocks, joined, over}
@@ -23,7 +27,6 @@ use Rattle.casemaster.proofs.RefusalsLaws.{old_master_rows}
 use Rattle.casemaster.specs.Row.{with_zero_cents}
 use Rattle.addcents.specs.Convert.{ConvertCall, added_as, convert_run, convert_outcome, AreCentsAdded}
 use Rattle.addcents.specs.Zeroed.{Zeroed}
-use Rattle.addcents.specs.declared.convert.CentsAdded.TheVariants.{Done, Refused}
 
 -- ---- the rows, one after the other
 
@@ -49,15 +52,15 @@ module _ (limit : ℕ) (master : List ℕ) (rows : ℕ) where
   abbrev call : ConvertCall
   call = record { master = master; rows = rows; limit = limit }
 
-  pub convert_refused : (n : ℕ) → n ≡ old_master_refusal limit master rows → (n ≡ 0 → ⊥) → AreCentsAdded call (added_as (Refused n) master)
+  pub convert_refused : (r : Refusal) → refusal_number_of r ≡ old_master_refusal limit master rows → AreCentsAdded call (added_as (Err r) master)
   unfolding convert_outcome
-  convert_refused n e h = record { is = outcome_refused _ master (convert_run call) n e h }
+  convert_refused r e = record { is = outcome_err _ master (convert_run call) r e }
 
   pub rows_inside : old_master_refusal limit master rows ≡ 0 → rows * 200 ≤ length master
   rows_inside e = omega (arith, old_master_rows limit master rows e)
 
   pub convert_done : (after : List ℕ) → old_master_refusal limit master rows ≡ 0 → Zeroed master rows after
-      → AreCentsAdded call (added_as Done after)
+      → AreCentsAdded call (added_as (Ok tt) after)
   unfolding convert_outcome
   convert_done after e z =
       let m : after ≡ over (joined (map with_zero_cents (rows_of rows master))) master =

@@ -5,15 +5,9 @@ ghost use Rattle.casemaster.specs.Row.{with_zero_cents};
 ghost use Rattle.addcents.specs.Convert.{convert_call, added_as, AreCentsAdded};
 ghost use Rattle.addcents.specs.Zeroed.{Zeroed};
 
+use answers::refusal::Refusal;
 use casemaster::{master, refusals, row};
 use text::fields;
-
-// The answer of the call: done, or the number of the refusal.
-#[derive(Clone, Copy)]
-pub enum CentsAdded {
-    Done,
-    Refused(u64),
-}
 
 // The row with zero cents.
 fn zero_cents(row: [u8; 200]) -> [u8; 200]
@@ -38,21 +32,16 @@ fn zero_all(m: &mut [u8], n: usize)
     requires { n * 200 ≤ length m.old }
     ensures { Zeroed m.old n m.new }
 {
-    let mut i: usize = 0;
-    while i < n {
+    for i in 0..n {
         zero_at(m, i);
-        i += 1;
     }
 }
 
 // Writes 00 into every row of a master that has no cents yet.
-pub fn add_cents(master: &mut [u8], rows: usize) -> CentsAdded
+pub fn add_cents(master: &mut [u8], rows: usize) -> Result<(), Refusal>
     ensures { AreCentsAdded (convert_call master.old rows) (added_as result master.new) }
 {
-    let refusal = refusals::old_master_refusal(master, rows);
-    if refusal != 0 {
-        return CentsAdded::Refused(refusal);
-    }
+    refusals::old_master_refusal(master, rows)?;
     zero_all(master, rows);
-    CentsAdded::Done
+    Ok(())
 }

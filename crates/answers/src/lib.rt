@@ -1,2 +1,4 @@
-// What every call answers: definitions and laws alone.
+// What every call answers: the refusals, and definitions and laws of an answer.
 #![tactic(auto)]
+
+pub mod refusal;

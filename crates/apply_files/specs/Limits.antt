@@ -1,8 +1,8 @@
 -- Document 01, "The printed line": the space of apply-batch, and `refused 0`. Assumes nothing.
 use Rattle.std.specs.Prelude.{ℕ, ◌+◌, ◌*◌, Bool, true, false, ◌||◌, ltb}
 use Rattle.std.proofs.Math.Option.{Option, none, some}
-use Rattle.apply_files.specs.declared.limits.Input.{Input}
-use Rattle.apply_files.specs.declared.limits.Input.TheVariants.{Missing, Bytes}
+use Rattle.std.specs.Prelude.{Some, None}
+use Rattle.std.specs.Prelude as Code
 
 -- space for 100 details, 200 rows and 1,000 codes, in bytes; a batch has the control record besides
 abbrev pub master_space : ℕ
@@ -15,9 +15,9 @@ abbrev pub locals_space : ℕ
 locals_space = 3 * 1000
 
 -- a file's size; none for one that is missing or can't be read
-abbrev pub size_of : Input → Option ℕ
-size_of Missing = none
-size_of (Bytes n) = some n
+abbrev pub size_of : Code.Option ℕ → Option ℕ
+size_of None = none
+size_of (Some n) = some n
 
 abbrev pub is_missing_file : Option ℕ → Bool
 is_missing_file none = true

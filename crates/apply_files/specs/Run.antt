@@ -3,18 +3,18 @@ use Rattle.std.specs.Prelude.{ℕ, ◌/◌, ◌%◌, List, ◌++◌, cond, eqb, 
 use Rattle.std.proofs.Math.Option.{Option, none, some}
 use Rattle.answers.specs.Answer.{refused}
 use Rattle.batch.specs.Apply.{ApplyOutcome, apply_outcome}
-use Rattle.apply_files.specs.declared.limits.Input.{Input}
-use Rattle.apply_files.specs.declared.limits.Input.TheVariants.{Missing, Bytes}
+use Rattle.std.specs.Prelude.{Some, None}
+use Rattle.std.specs.Prelude as Code
 use Rattle.apply_files.specs.Limits.{master_space, size_of, refusal0}
 use Rattle.apply_files.specs.Year.{year_in}
 use Rattle.batch.specs.Call.{call_of}
 
 -- the bytes of a file, at the front of the buffer that it was read into
-abbrev pub length_in : Input → ℕ
-length_in Missing = 0
-length_in (Bytes n) = n
+abbrev pub length_in : Code.Option ℕ → ℕ
+length_in None = 0
+length_in (Some n) = n
 
-abbrev pub bytes_in : Input → List ℕ → List ℕ
+abbrev pub bytes_in : Code.Option ℕ → List ℕ → List ℕ
 bytes_in file buffer = take (length_in file) buffer
 
 -- how much of the master's buffer the call is lent: the 200 rows; a master.bin of no multiple of 200 bytes alone, for refusal 3
@@ -45,7 +45,7 @@ by_year none master n batch locals verdicts rejects = unchanged 1 master verdict
 by_year (some year) master n batch locals verdicts rejects = year_outcome master n batch locals year verdicts rejects
 
 -- the run: `refused 0` before all else, then the year's text, then the call with its own refusals in order
-unfoldable pub run_outcome : (m b l y : Input) (master batch locals year verdicts rejects : List ℕ) → ApplyOutcome
+unfoldable pub run_outcome : (m b l y : Code.Option ℕ) (master batch locals year verdicts rejects : List ℕ) → ApplyOutcome
 run_outcome m b l y master batch locals year verdicts rejects =
     cond (refusal0 (size_of m) (size_of b) (size_of l) (size_of y)) (unchanged 0 master verdicts rejects)
     (by_year (year_in (bytes_in y year)) master (length_in m) (bytes_in b batch) (bytes_in l locals) verdicts rejects)

@@ -3,8 +3,8 @@ use Rattle.std.specs.Prelude.{ℕ, ◌+◌, ◌-◌, ◌*◌, List, [], ◌∷�
 use Rattle.std.proofs.Math.Option.{Option, none, some}
 use Rattle.text.specs.Characters.{within}
 use Rattle.text.specs.Fields.{every}
-use Rattle.apply_files.specs.declared.year.Year.{Year}
-use Rattle.apply_files.specs.declared.year.Year.TheVariants.{Of, Wrong}
+use Rattle.std.specs.Prelude.{Some, None}
+use Rattle.std.specs.Prelude as Code
 
 -- ASCII digits are 30–39 (hexadecimal)
 abbrev pub is_ascii_digit : ℕ → Bool
@@ -20,6 +20,6 @@ unfoldable pub year_in : List ℕ → Option ℕ
 year_in text = cond (eqb (length text) 4 && every is_ascii_digit text) (some (ascii_number_onto 0 text)) none
 
 -- what each answer stands for
-abbrev pub year_of : Year → Option ℕ
-year_of (Of n) = some n
-year_of Wrong = none
+abbrev pub year_of : Code.Option ℕ → Option ℕ
+year_of (Some n) = some n
+year_of None = none

@@ -1,5 +1,4 @@
 // Whole files by name. No contract can say what is read or written.
-use crate::limits::Input;
 use std::fs::OpenFile;
 use std::io::{Read, Write};
 use std::rt::Files;
@@ -12,14 +11,14 @@ fn read_all(file: impl Read + Drop, buf: &mut [u8]) -> io::Result<u64> {
     io::copy(&mut file.take(space), &mut rest)
 }
 
-// Reads a file into buf. A buffer with a byte more than there is space for shows that a file is longer.
-pub fn read(rt: &impl Files, path: &str, buf: &mut [u8]) -> Input {
+// Reads a file into buf, and answers how many bytes; none where it is missing or can't be read. A buffer with a byte more than there is space for shows that a file is longer.
+pub fn read(rt: &impl Files, path: &str, buf: &mut [u8]) -> Option<usize> {
     let Ok(file) = fs::open(rt, path) else {
-        return Input::Missing;
+        return None;
     };
     match read_all(file, buf) {
-        Ok(n) => Input::Bytes(n as usize),
-        Err(_) => Input::Missing,
+        Ok(n) => Some(n as usize),
+        Err(_) => None,
     }
 }
 

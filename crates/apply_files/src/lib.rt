@@ -9,8 +9,8 @@ pub mod year;
 use apply_output::line;
 use apply_output::new_files::{NewFiles, files_to_write};
 use apply_output::parts::first;
+use apply_output::stop::Stop;
 use batch::apply::Applied;
-use limits::Input;
 use outcome::{length_of, outcome_of};
 use std::io;
 use std::rt::Files;
@@ -18,38 +18,29 @@ use std::rt::Files;
 // Writes the files of a run; a refusal writes none. False where a file can't be written.
 fn write_files(
     rt: &(impl Files + Eprint),
-    files: NewFiles,
+    files: Option<NewFiles>,
     master: &[u8; 40001],
     rejects: &[u8; 24745],
 ) -> bool {
     match files {
-        NewFiles::NoFile => true,
-        NewFiles::Both {
-            master: m,
-            rejects: r,
-        } => files::replace(rt, first(master, m), first(rejects, r)),
+        Some(new) => files::replace(rt, first(master, new.master), first(rejects, new.rejects)),
+        None => true,
     }
 }
 
 // Says on standard error that standard output doesn't take the line, and, of a run that was carried out, that the files are in place.
-fn fail_line(rt: &impl Eprint, answer: Applied, why: &io::Error) {
+fn fail_line(rt: &impl Eprint, answer: Result<Applied, Stop>, why: &io::Error) {
     match answer {
-        Applied::Done {
-            accepted: _,
-            rejected: _,
-            warned: _,
-            neither: _,
-            rows: _,
-        } => {
+        Ok(_) => {
             let in_place = "master.bin and rejects.bin are in place, but the line can't be printed";
             files::fail(rt, in_place, why);
         }
-        Applied::Refused(_) => files::fail(rt, "the line can't be printed", why),
+        Err(_) => files::fail(rt, "the line can't be printed", why),
     }
 }
 
 // Prints the line of an answer to a batch.
-fn print_line(rt: &(impl Print + Eprint), batch: &[u8], answer: Applied) {
+fn print_line(rt: &(impl Print + Eprint), batch: &[u8], answer: Result<Applied, Stop>) {
     let mut text = [0u8; 160];
     let n = line::put_line(&mut text, batch, answer);
     if let Err(e) = rt.write_all(first(&text, n)) {
@@ -61,13 +52,13 @@ fn print_line(rt: &(impl Print + Eprint), batch: &[u8], answer: Applied) {
 fn run_over(
     rt: &(impl Files + Print + Eprint),
     master: &mut [u8; 40001],
-    m: Input,
+    m: Option<usize>,
     batch: &[u8],
-    b: Input,
+    b: Option<usize>,
     locals: &[u8],
-    l: Input,
+    l: Option<usize>,
     year: &[u8],
-    y: Input,
+    y: Option<usize>,
 ) {
     let mut verdicts = [0u64; 100];
     let mut rejects = [0u8; 24745];

@@ -1,24 +1,22 @@
 // The run over the bytes of the four files.
 ghost use Rattle.std.specs.Prelude.{◌≡◌, ◌≤◌, length};
 ghost use Rattle.batch.specs.Apply.{applied_as};
+ghost use Rattle.apply_output.specs.Stop.{run_as};
 ghost use Rattle.apply_files.specs.Run.{length_in, lent_length, year_outcome, by_year, run_outcome};
 ghost use Rattle.apply_files.specs.Year.{year_in};
 
-use crate::limits::Input;
-use crate::year::Year;
 use crate::{limits, year};
+use answers::refusal::Refusal;
 use apply_output::parts::first;
+use apply_output::stop::Stop;
 use batch::apply;
 use batch::apply::Applied;
 
 // How many bytes a file has.
-pub fn length_of(file: Input) -> usize
+pub fn length_of(file: Option<usize>) -> usize
     ensures { result ≡ length_in file }
 {
-    match file {
-        Input::Missing => 0,
-        Input::Bytes(n) => n,
-    }
+    file.unwrap_or(0)
 }
 
 // How much of the master's buffer the call is lent: the 200 rows. A master.bin of no multiple of 200 bytes is lent alone: its length
@@ -42,7 +40,7 @@ fn with_year(
     year: u64,
     verdicts: &mut [u64],
     rejects: &mut [u8],
-) -> Applied
+) -> Result<Applied, Refusal>
     requires { (n ≤ 40000) × (40000 ≤ length master.old) }
     ensures { applied_as result master.new verdicts.new rejects.new
         ≡ year_outcome master.old n batch.now locals.now year verdicts.old rejects.old }
@@ -68,15 +66,15 @@ fn with_year_text(
     year: &[u8],
     verdicts: &mut [u64],
     rejects: &mut [u8],
-) -> Applied
+) -> Result<Applied, Refusal>
     requires { (n ≤ 40000) × (40000 ≤ length master.old) }
     ensures { applied_as result master.new verdicts.new rejects.new
         ≡ by_year (year_in year.now) master.old n batch.now locals.now
         verdicts.old rejects.old }
 {
     match year::year_of(year) {
-        Year::Wrong => Applied::Refused(1),
-        Year::Of(number) => with_year(master, n, batch, locals, number, verdicts, rejects),
+        None => Err(Refusal::WrongYear),
+        Some(number) => with_year(master, n, batch, locals, number, verdicts, rejects),
     }
 }
 
@@ -84,27 +82,27 @@ fn with_year_text(
 // is seen.
 pub fn outcome_of(
     master: &mut [u8; 40001],
-    m: Input,
+    m: Option<usize>,
     batch: &[u8],
-    b: Input,
+    b: Option<usize>,
     locals: &[u8],
-    l: Input,
+    l: Option<usize>,
     year: &[u8],
-    y: Input,
+    y: Option<usize>,
     verdicts: &mut [u64; 100],
     rejects: &mut [u8; 24745],
-) -> Applied
-    ensures { applied_as result master.new verdicts.new rejects.new
+) -> Result<Applied, Stop>
+    ensures { run_as result master.new verdicts.new rejects.new
         ≡ run_outcome m b l y master.old batch.now locals.now year.now
         verdicts.old rejects.old }
 {
     if limits::are_refused(m, b, l, y) {
-        return Applied::Refused(0);
+        return Err(Stop::Files);
     }
     let batch_bytes = first(batch, length_of(b));
     let locals_bytes = first(locals, length_of(l));
     let year_bytes = first(year, length_of(y));
-    with_year_text(
+    Ok(with_year_text(
         master,
         length_of(m),
         batch_bytes,
@@ -112,5 +110,5 @@ pub fn outcome_of(
         year_bytes,
         verdicts,
         rejects,
-    )
+    )?)
 }

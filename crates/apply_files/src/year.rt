@@ -5,13 +5,6 @@ ghost use Rattle.apply_files.specs.Year.{is_ascii_digit, ascii_number_onto, year
 
 use text::characters::is_within;
 
-// What year.txt holds: the number of four ASCII digits, or anything else.
-#[derive(Clone, Copy)]
-pub enum Year {
-    Of(u64),
-    Wrong,
-}
-
 // What an ASCII digit stands for.
 fn digit(b: u8) -> u64
     ensures { (result ≡ b - 0x30) × (result < 256) }
@@ -37,20 +30,20 @@ fn number_of(a: u8, b: u8, c: u8, d: u8) -> u64
     ((digit(a) * 10 + digit(b)) * 10 + digit(c)) * 10 + digit(d)
 }
 
-// The year in the bytes of year.txt.
-pub fn year_of(text: &[u8]) -> Year
+// The year in the bytes of year.txt, where these are four ASCII digits.
+pub fn year_of(text: &[u8]) -> Option<u64>
     ensures { year_of result ≡ year_in text.now }
 {
     if text.len() != 4 {
-        return Year::Wrong;
+        return None;
     }
     let a = text[0];
     let b = text[1];
     let c = text[2];
     let d = text[3];
     if are_digits(a, b, c, d) {
-        Year::Of(number_of(a, b, c, d))
+        Some(number_of(a, b, c, d))
     } else {
-        Year::Wrong
+        None
     }
 }

@@ -2,3 +2,4 @@ pub mod Ascii
 pub mod Decimal
 pub mod Line
 pub mod NewFiles
+pub mod Stop

@@ -3,7 +3,7 @@ use Rattle.std.specs.Prelude.{ℕ, ◌+◌, ◌*◌, List, [], ◌∷◌, cond, 
 use Rattle.answers.specs.Answer.{Answer, refused, done}
 use Rattle.batch.specs.Apply.{ApplyResult, ApplyBuffers, ApplyOutcome}
 use Rattle.apply_output.specs.declared.new_files.NewFiles.{NewFiles}
-use Rattle.apply_output.specs.declared.new_files.NewFiles.TheVariants.{NoFile, Both}
+use Rattle.std.specs.Prelude.{Option, Some, None}
 
 -- how many records the reject file has: one for each verdict number that isn't zero, and the control record
 unfoldable pub record_count : List ℕ → ℕ
@@ -33,6 +33,6 @@ abbrev pub files_of : ℕ → ApplyOutcome → Files
 files_of details o = files_by o.answer details o.buffers
 
 -- what each answer stands for: none, or bytes at the front of the two buffers
-abbrev pub files_in : NewFiles → (master rejects : List ℕ) → Files
-files_in NoFile master rejects = no_file
-files_in (Both m r) master rejects = both_files (take m master) (take r rejects)
+abbrev pub files_in : Option NewFiles → (master rejects : List ℕ) → Files
+files_in None master rejects = no_file
+files_in (Some f) master rejects = both_files (take f.master master) (take f.rejects rejects)

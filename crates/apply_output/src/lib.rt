@@ -4,3 +4,4 @@
 pub mod line;
 pub mod new_files;
 pub mod parts;
+pub mod stop;

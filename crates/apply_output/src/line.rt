@@ -1,13 +1,14 @@
 // The printed line.
 ghost use Rattle.std.specs.Prelude.{◌≡◌, ◌++◌, ◌+◌, ◌≤◌, length};
 ghost use Rattle.text.specs.Blocks.{over};
-ghost use Rattle.batch.specs.Apply.{apply_answer};
 ghost use Rattle.apply_output.specs.Ascii.{ascii_letter};
 ghost use Rattle.apply_output.specs.Decimal.{decimal};
 ghost use Rattle.apply_output.specs.Line.{letters, count_items, done_line, refused_line, line_of, Appended};
+ghost use Rattle.apply_output.specs.Stop.{run_answer};
 ghost use Rattle.layout.specs.Batch.{submitting_state};
 
 use crate::parts::{detail_count, first};
+use crate::stop::Stop;
 use batch::apply::Applied;
 use codepage::tables;
 use text::fields;
@@ -33,10 +34,8 @@ fn put_letters(out: &mut [u8], state: &[u8])
     requires { length state.now ≤ length out.old }
     ensures { Appended out.old 0 (letters state.now) out.new (length state.now) }
 {
-    let mut i = 0;
-    while i < state.len() {
-        out[i] = ascii_letter(state[i]);
-        i += 1;
+    for (i, b) in state.iter().enumerate() {
+        out[i] = ascii_letter(*b);
     }
 }
 
@@ -111,27 +110,21 @@ fn put_refused(out: &mut [u8], n: u64) -> usize
 }
 
 // Writes the line of an answer to a batch over the front of out, keeps the bytes behind it, and answers its length.
-pub fn put_line(out: &mut [u8], batch: &[u8], answer: Applied) -> usize
+pub fn put_line(out: &mut [u8], batch: &[u8], answer: Result<Applied, Stop>) -> usize
     requires { 160 ≤ length out.old }
-    ensures out_after { out.new ≡ over (line_of (submitting_state batch.now) (apply_answer answer)) out.old }
-    ensures value { result ≡ length (line_of (submitting_state batch.now) (apply_answer answer)) }
+    ensures out_after { out.new ≡ over (line_of (submitting_state batch.now) (run_answer answer)) out.old }
+    ensures value { result ≡ length (line_of (submitting_state batch.now) (run_answer answer)) }
 {
     match answer {
-        Applied::Done {
-            accepted,
-            rejected,
-            warned,
-            neither,
-            rows,
-        } => put_done(
+        Ok(done) => put_done(
             out,
             state_of(batch),
-            accepted,
-            rejected,
-            warned,
-            neither,
-            rows as u64,
+            done.accepted,
+            done.rejected,
+            done.warned,
+            done.neither,
+            done.rows as u64,
         ),
-        Applied::Refused(n) => put_refused(out, n),
+        Err(stop) => put_refused(out, stop.number()),
     }
 }

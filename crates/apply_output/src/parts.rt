@@ -2,24 +2,11 @@
 ghost use Rattle.std.specs.Prelude.{◌≡◌, ◌*◌, ◌<◌, take};
 ghost use Rattle.layout.specs.Batch.{detail_count};
 
-// The first n bytes of s, or all of it where there are fewer.
-pub fn first(s: &[u8], n: usize) -> &[u8]
+// The first n items of s, or all of it where there are fewer.
+pub fn first<T>(s: &[T], n: usize) -> &[T]
     ensures { result.now ≡ take n s.now }
 {
-    if s.len() < n {
-        return s;
-    }
-    &s[0..n]
-}
-
-// The first n numbers of s, or all of it where there are fewer.
-pub fn first_numbers(s: &[u64], n: usize) -> &[u64]
-    ensures { result.now ≡ take n s.now }
-{
-    if s.len() < n {
-        return s;
-    }
-    &s[0..n]
+    &s[..s.len().min(n)]
 }
 
 // How many bytes the first n blocks of a width have, or all of s where there are fewer.
@@ -37,9 +24,5 @@ pub fn blocks_length(s: &[u8], n: usize, width: usize) -> usize
 pub fn detail_count(batch: &[u8]) -> usize
     ensures { result ≡ detail_count batch.now }
 {
-    let records = batch.len() / 245;
-    if records == 0 {
-        return 0;
-    }
-    records - 1
+    (batch.len() / 245).saturating_sub(1)
 }

@@ -8,8 +8,12 @@ use lib.Dec.{eqb, leb, ltb}
 use lib.ListN.{length, drop, take-append-drop}
 use lib.Seq.{length-take-le}
 use borrow.Author.Tests.{eq-eqb, ne_eqb, lt-ltb, le-ltb, le-leb, leb-true, leb-false}
-use Rattle.answers.specs.Answer.{refuse_if, done, Run}
+use Rattle.answers.specs.Refusal.{refusal_number_of}
+use Rattle.answers.specs.declared.refusal.Refusal.{Refusal}
 use Rattle.answers.proofs.AnswerLaws.{outcome_refused, outcome_done}
+use Rattle.answers.proofs.RefusalLaws.{number_above_zero}
+use Rattle.std.specs.Prelude.{Err}
+use Rattle.answers.specs.Answer.{refuse_if, refused, done, Run}
 use Rattle.text.specs.Blocks.{joined, over, spliced}
 use Rattle.casemaster.specs.Master.{rows_of}
 use Rattle.text.proofs.BlocksLaws.{length-blocks, holds_over}
@@ -21,7 +25,6 @@ use Rattle.batch.specs.Journaling.{result_of, ran_as}
 use Rattle.batch.specs.Progress.{Worked}
 use Rattle.rejectfile.specs.declared.counts.Tally.{Tally}
 use Rattle.batch.specs.declared.apply.RunResult.{RunResult}
-use Rattle.batch.specs.declared.apply.Applied.TheVariants.{Refused}
 use Rattle.batchfile.specs.Refusals.{batch_refusal}
 use Rattle.batchfile.proofs.RefusalsLaws.{batch-behind}
 use Rattle.casemaster.proofs.RefusalsLaws.{master_passed, master_refused}
@@ -148,7 +151,7 @@ ran c q m n v rj k t rj' r w lv lr ls er ea =
     λ j. record { result = e1 j; buffers = record { master = e2 j; verdicts = e3 j; rejects = e4 j } }
 
 module _ (c : Call) (n : ℕ) (e : n ≡ apply_refusal c) where
-  pub apply_refused : (n ≡ 0 → ⊥) → IsOutcome c (applied_as (Refused n) c.master c.verdicts c.rejects)
+  pub apply_refused : (n ≡ 0 → ⊥) → IsOutcome c (record { answer = refused n; buffers = buffers_lent c })
   unfolding apply_outcome
   apply_refused h = record { is = outcome_refused _ (buffers_lent c) (apply_run c) n e h }
 
@@ -156,3 +159,6 @@ module _ (c : Call) (n : ℕ) (e : n ≡ apply_refusal c) where
       → IsOutcome c (record { answer = done run.result; buffers = run.buffers })
   unfolding apply_outcome
   apply_done z run h = record { is = rw h (outcome_done _ (buffers_lent c) (apply_run c) (sym e ∙ z)) }
+
+pub apply_err : (c : Call) (r : Refusal) → refusal_number_of r ≡ apply_refusal c → IsOutcome c (applied_as (Err r) c.master c.verdicts c.rejects)
+apply_err c r e = apply_refused c (refusal_number_of r) e (number_above_zero r)

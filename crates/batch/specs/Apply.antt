@@ -1,6 +1,8 @@
 -- Document 01, "Applying a batch": the outcome of the call, down to every byte lent. Assumes nothing.
-use Rattle.std.specs.Prelude.{ℕ, ◌+◌, ◌≡◌, List, ◌++◌, length}
+use Rattle.std.specs.Prelude.{ℕ, ◌+◌, ◌≡◌, List, ◌++◌, length, Result}
 use Rattle.answers.specs.Answer.{Answer, refused, done, Outcome, Run, outcome_by}
+use Rattle.answers.specs.Refusal.{answer_in}
+use Rattle.answers.specs.declared.refusal.Refusal.{Refusal}
 use Rattle.text.specs.Blocks.{joined, over}
 use Rattle.casemaster.specs.Master.{rows_of}
 use Rattle.onecase.specs.Verdict.{Judgement}
@@ -8,7 +10,6 @@ use Rattle.turns.specs.Turns.{final_rows, verdicts_on}
 use Rattle.rejectfile.specs.Rejects.{numbers, reject_records}
 use Rattle.rejectfile.specs.Counts.{Counts, counts_of, control_record}
 use Rattle.batch.specs.declared.apply.Applied.{Applied}
-use Rattle.batch.specs.declared.apply.Applied.TheVariants.{Done, Refused}
 use Rattle.layout.specs.Batch.{details_of, submitting_state}
 use Rattle.batch.specs.Call.{Call, call_settings}
 use Rattle.batch.specs.Refusals.{apply_refusal}
@@ -31,12 +32,12 @@ abbrev pub ApplyOutcome : Type 0
 ApplyOutcome = Outcome ApplyResult ApplyBuffers
 
 -- what each answer of the call stands for
-abbrev pub apply_answer : Applied → Answer ApplyResult
-apply_answer (Done a r w n rows) = done (record { accepted = a; rejected = r; warned = w; neither = n; rows = rows })
-apply_answer (Refused n) = refused n
+abbrev pub apply_answer : Result Applied Refusal → Answer ApplyResult
+apply_answer r =
+    answer_in (λ (a : Applied). record { accepted = a.accepted; rejected = a.rejected; warned = a.warned; neither = a.neither; rows = a.rows }) r
 
 -- the outcome, from what is answered
-abbrev pub applied_as : Applied → List ℕ → List ℕ → List ℕ → ApplyOutcome
+abbrev pub applied_as : Result Applied Refusal → List ℕ → List ℕ → List ℕ → ApplyOutcome
 applied_as answer master verdicts rejects =
     record { answer = apply_answer answer; buffers = record { master = master; verdicts = verdicts; rejects = rejects } }
 

@@ -11,22 +11,22 @@ ghost use Rattle.batch.specs.Apply.{result_in, applied_as, IsOutcome};
 ghost use Rattle.batch.specs.Journaling.{result_of, RunJournaled};
 
 use crate::{refusals, work};
+use answers::refusal::Refusal;
+use judging::setting::Setting;
+use layout::locals::LocalCodes;
 use layout::{chart_a2, records};
 use rejectfile::counts;
 use rejectfile::verdicts::Progress;
 use text::fields;
 
-// The answer of the call: the counts of a run that is carried out, or the number of the refusal.
+// The counts of a run that is carried out.
 #[derive(Clone, Copy)]
-pub enum Applied {
-    Done {
-        accepted: u64,
-        rejected: u64,
-        warned: u64,
-        neither: u64,
-        rows: usize,
-    },
-    Refused(u64),
+pub struct Applied {
+    pub accepted: u64,
+    pub rejected: u64,
+    pub warned: u64,
+    pub neither: u64,
+    pub rows: usize,
 }
 
 // The result of a run that is carried out, and the journal's length.
@@ -82,14 +82,17 @@ pub fn run(
     let d = batch.len() / 245 - 1;
     let control = records::record_at(batch, d);
     let state = fields::field(&control, chart_a2::STATE);
-    let s = work::work(
-        m, n, batch, state, year, locals, verdicts, rejects, journal, wanted,
-    );
+    let setting = Setting {
+        state,
+        year,
+        locals: LocalCodes::new(locals),
+    };
+    let s = work::work(m, n, batch, setting, verdicts, rejects, journal, wanted);
     let p = s.progress;
     finish(p, state, rejects, d, s.written)
 }
 
-// Applies a batch to a master with `rows` rows.
+// Applies a batch to a master with `rows` rows, and answers the counts.
 pub fn apply(
     master: &mut [u8],
     rows: usize,
@@ -98,15 +101,12 @@ pub fn apply(
     year: u64,
     verdicts: &mut [u64],
     rejects: &mut [u8],
-) -> Applied
+) -> Result<Applied, Refusal>
     ensures { IsOutcome
         (call_of master.old rows batch.now locals.now year verdicts.old rejects.old)
         (applied_as result master.new verdicts.new rejects.new) }
 {
-    let number = refusals::first_refusal(master, rows, batch, locals, year, verdicts, rejects);
-    if number != 0 {
-        return Applied::Refused(number);
-    }
+    refusals::first_refusal(master, rows, batch, locals, year, verdicts, rejects)?;
     let mut journal = [0u8; 0];
     let r = run(
         master,
@@ -119,11 +119,11 @@ pub fn apply(
         &mut journal,
         false,
     );
-    Applied::Done {
+    Ok(Applied {
         accepted: r.accepted,
         rejected: r.rejected,
         warned: r.warned,
         neither: r.neither,
         rows: r.rows,
-    }
+    })
 }

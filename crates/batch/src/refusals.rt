@@ -1,29 +1,35 @@
 // The refusals of `apply`, in the order of the paper.
 ghost use Rattle.std.specs.Prelude.{◌≡◌, true, ◌&&◌, ℕ, ◌+◌, ◌*◌, ◌/◌, ◌≤◌, leb, length};
 ghost use Rattle.answers.specs.Answer.{refuse_if};
+ghost use Rattle.answers.specs.Refusal.{number_in};
 ghost use Rattle.layout.specs.Limits.{max_rows};
 ghost use Rattle.layout.specs.Batch.{detail_count};
 ghost use Rattle.casemaster.specs.Master.{rows_of, are_sound_rows};
 ghost use Rattle.batch.specs.Call.{call_of};
 ghost use Rattle.batch.specs.Refusals.{refusal1, refusal2, refusal9, space_refusal, apply_refusal};
 
+use answers::refusal::Refusal;
 use batchfile::refusals::batch_refusal;
 use casemaster::refusals::master_refusal;
 use layout::limits::MAX_ROWS;
 use layout::locals;
 use turns::adds;
 
-// The number of the first of refusals 1 and 2 that holds, or 0.
-fn opening_refusal(year: u64, locals: &[u8]) -> u64
-    ensures { result ≡ refuse_if (refusal1 year) 1 (refuse_if (refusal2 locals.now) 2 0) }
+// The first of refusals 1 and 2 that holds.
+fn opening_refusal(year: u64, locals: &[u8]) -> Result<(), Refusal>
+    ensures { number_in result ≡ refuse_if (refusal1 year) 1 (refuse_if (refusal2 locals.now) 2 0) }
 {
     if year < 1900 {
-        return 1;
+        return Err(Refusal::WrongYear);
     }
     if 9999 < year {
-        return 1;
+        return Err(Refusal::WrongYear);
     }
-    if locals::is_local_list(locals) { 0 } else { 2 }
+    if locals::is_local_list(locals) {
+        Ok(())
+    } else {
+        Err(Refusal::WrongLocals)
+    }
 }
 
 // How many rows a master can have, by its space and by the limit.
@@ -45,7 +51,7 @@ fn lacks_room(m: &[u8], n: usize, batch: &[u8], d: usize) -> bool
     !adds::fit(m, n, batch, d, count, most)
 }
 
-// The number of the first of refusals 9, 10 and 11 that holds, or 0.
+// The first of refusals 9, 10 and 11 that holds.
 fn space_refusal(
     m: &[u8],
     n: usize,
@@ -54,26 +60,26 @@ fn space_refusal(
     year: u64,
     verdicts: &[u64],
     rejects: &[u8],
-) -> u64
+) -> Result<(), Refusal>
     requires { (n * 200 ≤ length m.now) × (are_sound_rows (rows_of n m.now) ≡ true)
         × (detail_count batch.now * 245 + 245 ≤ length batch.now) }
-    ensures { result
+    ensures { number_in result
         ≡ space_refusal (call_of m.now n batch.now locals.now year verdicts.now rejects.now) }
 {
     let d = batch.len() / 245 - 1;
     if lacks_room(m, n, batch, d) {
-        return 9;
+        return Err(Refusal::NoRoom);
     }
     if verdicts.len() < d {
-        return 10;
+        return Err(Refusal::ShortVerdicts);
     }
     if rejects.len() < 245 * (d + 1) {
-        return 11;
+        return Err(Refusal::ShortOutput);
     }
-    0
+    Ok(())
 }
 
-// The number of the first refusal that holds, or 0.
+// The first refusal that holds.
 pub fn first_refusal(
     m: &[u8],
     n: usize,
@@ -82,21 +88,12 @@ pub fn first_refusal(
     year: u64,
     verdicts: &[u64],
     rejects: &[u8],
-) -> u64
-    ensures { result
+) -> Result<(), Refusal>
+    ensures { number_in result
         ≡ apply_refusal (call_of m.now n batch.now locals.now year verdicts.now rejects.now) }
 {
-    let opening = opening_refusal(year, locals);
-    if opening != 0 {
-        return opening;
-    }
-    let rows = master_refusal(m, n);
-    if rows != 0 {
-        return rows;
-    }
-    let totals = batch_refusal(batch);
-    if totals != 0 {
-        return totals;
-    }
+    opening_refusal(year, locals)?;
+    master_refusal(m, n)?;
+    batch_refusal(batch)?;
     space_refusal(m, n, batch, locals, year, verdicts, rejects)
 }

@@ -15,6 +15,7 @@ use batchfile::stated;
 use casemaster::master;
 use journal::writing;
 use journalwalk::walk;
+use judging::setting::Setting;
 use keyorder::order;
 use keywalk::counting;
 use keywork::{batch_order, worked};
@@ -43,22 +44,14 @@ pub struct JournaledWork {
 }
 
 // The details put in the order of their keys, and the rows that they add counted.
-fn arrange(
-    m: &[u8],
-    n: usize,
-    batch: &[u8],
-    state: &[u8],
-    year: u64,
-    list: &[u8],
-    numbers: &mut [u64],
-) -> Arranged
-    requires { ArrangeReady m.now n batch.now state.now numbers.old }
-    ensures { DetailsArranged (fixed_of state.now year list.now batch.now result.own n)
+fn arrange(m: &[u8], n: usize, batch: &[u8], setting: Setting, numbers: &mut [u64]) -> Arranged
+    requires { ArrangeReady m.now n batch.now setting.state.now numbers.old }
+    ensures { DetailsArranged (fixed_of setting.entry.state.now setting.entry.year setting.entry.locals.list.now batch.now result.own n)
         m.now numbers.old numbers.new result.new }
 {
     let d = batch.len() / 245 - 1;
-    let own = order::order_details(batch, d, state, year, list, numbers);
-    let new = counting::new_rows(m, n, state, numbers, own);
+    let own = order::order_details(batch, d, setting, numbers);
+    let new = counting::new_rows(m, n, setting.state, numbers, own);
     Arranged { own, new }
 }
 
@@ -81,14 +74,12 @@ fn move_rows(
     numbers: &mut [u64],
     own: usize,
     new: usize,
-    state: &[u8],
-    year: u64,
-    list: &[u8],
+    setting: Setting,
     journal: &mut [u8],
     wanted: bool,
 ) -> Moved
-    requires { MoveReady (fixed_of state.now year list.now batch.now own (n + new)) m.old n numbers.old new wanted journal.old }
-    ensures { RowsMoved (fixed_of state.now year list.now batch.now own result.rows)
+    requires { MoveReady (fixed_of setting.state.now setting.year setting.locals.list.now batch.now own (n + new)) m.old n numbers.old new wanted journal.old }
+    ensures { RowsMoved (fixed_of setting.entry.state.now setting.entry.year setting.entry.locals.list.now batch.now own result.rows)
         m.old n numbers.old wanted journal.old
         m.new numbers.new journal.new result.written }
 {
@@ -96,7 +87,7 @@ fn move_rows(
     master::shift_rows(m, n, new);
     let at = start_journal(journal, n, rows, wanted);
     let written = walk::walk_keys(
-        m, new, rows, batch, numbers, own, state, year, list, journal, at, wanted,
+        m, new, rows, batch, numbers, own, setting, journal, at, wanted,
     );
     Moved { rows, written }
 }
@@ -107,17 +98,15 @@ fn note_verdicts(
     batch: &[u8],
     numbers: &mut [u64],
     own: usize,
-    state: &[u8],
-    year: u64,
-    list: &[u8],
+    setting: Setting,
     rejects: &mut [u8],
 ) -> Progress
-    requires { NoteReady (fixed_of state.now year list.now batch.now own rows) numbers.old rejects.old }
-    ensures { VerdictsNoted (fixed_of state.now year list.now batch.now own rows)
+    requires { NoteReady (fixed_of setting.state.now setting.year setting.locals.list.now batch.now own rows) numbers.old rejects.old }
+    ensures { VerdictsNoted (fixed_of setting.entry.state.now setting.entry.year setting.entry.locals.list.now batch.now own rows)
         numbers.old rejects.old numbers.new rejects.new result }
 {
     let d = batch.len() / 245 - 1;
-    worked::work_alone(batch, numbers, own, d, state, year, list);
+    worked::work_alone(batch, numbers, own, d, setting);
     batch_order::put_back(numbers, d);
     let counts = stated::case_counts(batch);
     verdicts::write_verdicts(
@@ -136,27 +125,23 @@ pub fn work(
     m: &mut [u8],
     n: usize,
     batch: &[u8],
-    state: &[u8],
-    year: u64,
-    list: &[u8],
+    setting: Setting,
     verdicts: &mut [u64],
     rejects: &mut [u8],
     journal: &mut [u8],
     wanted: bool,
 ) -> JournaledWork
-    requires rejects_value { (apply_refusal (call_of m.old n batch.now list.now year verdicts.old rejects.old) ≡ 0)
-        × (state.now ≡ submitting_state batch.now) }
+    requires rejects_value { (apply_refusal (call_of m.old n batch.now setting.locals.list.now setting.year verdicts.old rejects.old) ≡ 0)
+        × (setting.state.now ≡ submitting_state batch.now) }
     requires batch_in_bounds { wanted ≡ true → journal_space (detail_count batch.now) ≤ length journal.old }
     ensures { WorkJournaled
-        (call_of m.old n batch.now list.now year verdicts.old rejects.old)
+        (call_of m.old n batch.now setting.entry.locals.list.now setting.entry.year verdicts.old rejects.old)
         wanted journal.old m.new verdicts.new rejects.new result.progress journal.new result.written }
 {
-    let a = arrange(m, n, batch, state, year, list, verdicts);
+    let a = arrange(m, n, batch, setting, verdicts);
     let own = a.own;
-    let moved = move_rows(
-        m, n, batch, verdicts, own, a.new, state, year, list, journal, wanted,
-    );
-    let progress = note_verdicts(moved.rows, batch, verdicts, own, state, year, list, rejects);
+    let moved = move_rows(m, n, batch, verdicts, own, a.new, setting, journal, wanted);
+    let progress = note_verdicts(moved.rows, batch, verdicts, own, setting, rejects);
     JournaledWork {
         progress,
         written: moved.written,

@@ -4,6 +4,7 @@ ghost use Rattle.text.specs.Blocks.{blocks};
 ghost use Rattle.batchfile.specs.Totals.{has_ctl, has_state, has_totals, amount_in};
 ghost use Rattle.batchfile.specs.TotalsParts.{count_in, has_amount, FitsOneMore, IsAdded, AreTotals, counts_agree, amounts_agree};
 
+use layout::record::TransactionType::{Add, Modify};
 use layout::records::RECORD_WIDTH;
 use layout::{chart_a1, chart_a2, key, record, states};
 use text::fields;
@@ -49,11 +50,7 @@ fn count_in(case_type: u8, rec: &[u8]) -> u64
     requires { length rec.now ≡ 245 }
     ensures { result ≡ count_in case_type rec.now }
 {
-    if rec[chart_a1::CASE_TYPE_AT] == case_type {
-        1
-    } else {
-        0
-    }
+    (rec[chart_a1::CASE_TYPE_AT] == case_type) as u64
 }
 
 // Whether a detail is of a type whose amount counts: A or M.
@@ -61,8 +58,7 @@ fn has_amount(rec: &[u8]) -> bool
     requires { length rec.now ≡ 245 }
     ensures { result ≡ has_amount rec.now }
 {
-    let t = rec[chart_a1::TYPE_AT];
-    (t == record::ADD) | (t == record::MODIFY)
+    record::is_type(rec, Add) | record::is_type(rec, Modify)
 }
 
 // The amount of a detail of a case type where it counts and is eight digits, else 0.
@@ -104,12 +100,8 @@ pub fn totals_of(batch: &[u8], n: usize) -> Totals
         tanf_amount: 0,
         non_tanf_amount: 0,
     };
-    let mut i: usize = 0;
-    while i < n {
-        let at = i * RECORD_WIDTH;
-        let end = at + RECORD_WIDTH;
-        t = with_detail(t, &batch[at..end]);
-        i += 1;
+    for rec in batch[..n * RECORD_WIDTH].chunks_exact(RECORD_WIDTH) {
+        t = with_detail(t, rec);
     }
     t
 }

@@ -1,10 +1,10 @@
 -- Laws of a search by halving for the place of a key among rows in rising order. Assumes nothing.
 use mathlib.Core.Path.{◌≡◌, refl, sym, ap, ◌∙◌}
-use mathlib.Core.Logic.{⊎_elim}
+use mathlib.Core.Logic.{◌⊎◌, inr, ⊎_elim}
 use mathlib.Core.Bool.{Bool, true, false}
 use mathlib.Core.List.{List, [], ◌∷◌, ◌++◌}
 use mathlib.Core.Option.{none, some}
-use Prim.Native.Nat.{ℕ, zero, suc, ◌+◌, ◌*◌, ◌≤◌, ◌<◌, suc-le-suc}
+use Prim.Native.Nat.{ℕ, zero, suc, ◌+◌, ◌-◌, ◌*◌, ◌≤◌, ◌<◌, suc-le-suc}
 use native.Mathlib.Nat.{not-suc-le-zero, le_of_suc-le-suc, zero-lt-suc, eq-or-lt_of_le, zero-add}
 use native.Mathlib.Omega.{arith}
 use lib.Dec.{ltb}
@@ -12,13 +12,14 @@ use lib.ListN.{length, take, drop, get_or}
 use lib.Seq.{take-take, drop-drop}
 use borrow.Author.Count.{below_more}
 use borrow.Author.Tests.{ltb-true, ltb-false}
-use Rattle.text.specs.declared.byte_order.Order.{Order}
-use Rattle.text.specs.declared.byte_order.Order.TheVariants.{Less, Equal, Greater}
+use Rattle.std.specs.List.Sorted.{IsPartitionedBy, IsPartitionPoint}
+use Rattle.std.specs.declared.cmp.Ordering.{Ordering}
+use Rattle.std.specs.declared.cmp.Ordering.TheVariants.{Less, Equal, Greater}
 use Rattle.text.specs.Fields.{same_bytes}
 use Rattle.casemaster.specs.Row.{row_key}
-use Rattle.casemaster.specs.Master.{rows_of, keys_of}
+use Rattle.casemaster.specs.Master.{rows_of, keys_of, row_in}
 use Rattle.casemaster.specs.Rows.{place_with, with_row}
-use Rattle.casemaster.specs.Search.{IsGap, KeysRise, inserted}
+use Rattle.casemaster.specs.Search.{IsGap, KeysRise, Between, AreBelow, is_below_at, inserted}
 use Rattle.text.proofs.BlocksLaws.{blocks_get, length-blocks}
 use Rattle.casemaster.proofs.SearchLaws.{with_below, with_above, rows_head, rows_tail, place_found_lem}
 use Rattle.text.specs.ByteOrder.{order_in, less, equal, greater, order_of, is_less, is_equal, rising}
@@ -102,12 +103,12 @@ found_gap key rows p l b a =
 
 -- ---- a turn of the search: o is the order of the key of row p of n, as code cuts it out
 
-module _ (n : ℕ) (m key : List ℕ) (r : rising (keys_of (rows_of n m)) ≡ true) (p : ℕ) (l : p < n) (o : Order)
+module _ (n : ℕ) (m key : List ℕ) (r : rising (keys_of (rows_of n m)) ≡ true) (p : ℕ) (l : p < n) (o : Ordering)
     (e : order_in o ≡ order_of (take 12 (drop (p * 200) m)) key) where
   inside : p < length (rows_of n m)
   inside = rw (length-blocks 200 n m) l
 
-  here : (x : Order) → o ≡ x → order_of (row_key (get_or (rows_of n m) p [])) key ≡ order_in x
+  here : (x : Ordering) → o ≡ x → order_of (row_key (get_or (rows_of n m) p [])) key ≡ order_in x
   here x h = rw (blocks_get 200 n m p l) (rw (take-take 12 200 (drop (p * 200) m) (omega arith)) (sym e ∙ ap order_in h))
 
   pub turn_less : o ≡ Less → KeysBelow key (rows_of n m) (p + 1)
@@ -149,6 +150,41 @@ module _ (m : List ℕ) (from count : ℕ) where
       let inside : j < length rows = rw (length-blocks 200 count (drop (from * 200) m)) (omega arith) in
       let bj : is_less (order_of (row_key (get_or rows j [])) key) ≡ true = rw (key_cut j (omega arith)) b in
       rw (key_cut i (omega arith)) at (below_earlier key rows i j r h inside bj)
+
+-- rows between those that are known to be below and the first that isn't, of which the first count are below: list holds them
+module _ (m : List ℕ) (from end : ℕ) (key : List ℕ) (low high : ℕ) (b : Between m from end key low high) (list : List (List ℕ))
+    (rows : (k : ℕ) (d : List ℕ) → from + low + k < from + high → get_or list k d ≡ row_in m (from + low + k)) where
+  below_in : (k : ℕ) (d : List ℕ) → low + k < high → is_less (order_of (take 12 (get_or list k d)) key) ≡ is_below_at m (from + (low + k)) key
+  below_in k d l =
+      let e : from + low + k ≡ from + (low + k) = omega arith in
+      rw (rows k d (omega arith), e, take-take 12 200 (drop ((from + (low + k)) * 200) m) (omega arith))
+
+  pub parted : length list ≡ from + high - (from + low) → KeysRise m from end → IsPartitionedBy (λ y. is_less (order_of (take 12 y) key)) list
+  parted w r i j d h l t =
+      let p : low + j < high = omega (arith, b.order) in
+      rw (below_in i d (omega arith))
+      (r key (low + i) (low + j) (omega arith) (omega (arith, b.within)) (sym (below_in j d p) ∙ t))
+
+  pub are_below : length list ≡ from + high - (from + low) → (count : ℕ) → count ≤ length list
+      → IsPartitionPoint (λ y. is_less (order_of (take 12 y) key) ≡ true) (λ y. is_less (order_of (take 12 y) key) ≡ false) list count
+      → AreBelow m from end key (low + count)
+  are_below w count h t =
+      record {
+        within = omega (arith, b.within, b.order);
+        below = λ j k. go j k (ltb j low) refl;
+        stops = ⊎_elim last (λ k. inr (sym (below_in count [] (omega (arith, b.order))) ∙ t.1 count [] (omega arith) k)) (eq-or-lt_of_le h);
+      }
+    where
+      go : (j : ℕ) → j < low + count → (q : Bool) → ltb j low ≡ q → is_below_at m (from + j) key ≡ true
+      go j k true e = b.below j (ltb-true j low e)
+      go j k false e =
+          let i : ℕ = j - low in
+          let z : low + i ≡ j = omega (arith, ltb-false j low e) in
+          let s : i < count = omega (arith, ltb-false j low e) in
+          rw z at (sym (below_in i [] (omega (arith, b.order))) ∙ t.0 i [] (omega arith) s)
+
+      last : count ≡ length list → (from + (low + count) ≡ end) ⊎ (is_below_at m (from + (low + count)) key ≡ false)
+      last e = let z : low + count ≡ high = omega (arith, b.order) in rw z b.stops
 
 -- where all rise, those behind some do
 pub rows_behind : (front rows : List (List ℕ)) → rising (keys_of (front ++ rows)) ≡ true → rising (keys_of rows) ≡ true

@@ -1,19 +1,22 @@
 -- Laws of one pass over a master's rows: the two numbers of a row's key, wherever they are read; a row beside the one before it; and what
 -- is known of all rows once the pass stands at one. Assumes nothing.
-use Prim.Native.Nat.{ℕ, ◌+◌, ◌-◌, ◌*◌, ◌/◌, ◌<◌}
+use Prim.Native.Nat.{ℕ, zero, suc, ◌+◌, ◌-◌, ◌*◌, ◌/◌, ◌≤◌, ◌<◌}
 use mathlib.Core.Path.{◌≡◌, refl, sym, ap, ◌∙◌}
-use mathlib.Core.List.{List}
+use mathlib.Core.List.{List, [], ◌∷◌}
 use mathlib.Core.Bool.{Bool, true, false, ◌&&◌}
 use native.Mathlib.Omega.{arith}
 use lib.Dec.{lit≤}
-use lib.ListN.{length, take, drop}
+use lib.ListN.{length, get_or, take, drop, length-drop}
 use lib.Seq.{take-take, drop-drop, length-take-le}
+use Rattle.std.proofs.lemmas.List.{get_or_default, get_or-take, get_or-drop}
+use Rattle.std.specs.Simd.{first_chunks}
+use Rattle.text.specs.Blocks.{blocks}
 use Rattle.text.specs.Fields.{every}
 use Rattle.text.specs.ByteOrder.{order_of, is_less, rising}
 use Rattle.text.specs.ByteNumbers.{AreBytes, bytes_number}
 use Rattle.text.proofs.FieldsLaws.{and_left, part_of_front}
-use Rattle.text.proofs.ByteNumberLaws.{bytes_take, bytes_drop}
-use Rattle.text.proofs.BlocksLaws.{every_block_step, every_block_end}
+use Rattle.text.proofs.ByteNumberLaws.{bytes_take}
+use Rattle.text.proofs.BlocksLaws.{blocks_get, blocks-next, length-blocks, every_block_end}
 use Rattle.text.proofs.ByteOrderLaws.{Says, pass_on, pass_stop, pass_end}
 use Rattle.layout.specs.StateCodes.{is_state_code}
 use Rattle.layout.specs.Key.{is_sound_key}
@@ -22,7 +25,34 @@ use Rattle.layout.proofs.KeyNumberLaws.{key_state}
 use Rattle.casemaster.specs.declared.row.Form.{Form}
 use Rattle.casemaster.specs.Forms.{is_end_sound_in, is_sound_in}
 use Rattle.casemaster.specs.Row.{row_key, are_fields_sound}
-use Rattle.casemaster.specs.Master.{rows_of, keys_of}
+use Rattle.casemaster.specs.Master.{rows_of, keys_of, row_in}
+
+-- ---- rows as arrays of the master
+
+chunks : (n : ℕ) (m : List ℕ) → first_chunks 200 n m ≡ rows_of n m
+unfolding blocks
+chunks zero m = refl
+chunks (suc n) m = ap (λ (z : List (List ℕ)). take 200 m ∷ z) (chunks n (drop 200 m))
+
+-- the array at a place is the row
+pub chunk_at : (m : List ℕ) (p : ℕ) (d : List ℕ) → p * 200 + 200 ≤ length m → get_or (first_chunks 200 (length m / 200) m) p d ≡ row_in m p
+chunk_at m p d h =
+    let n = length m / 200 in
+    rw (chunks n m) (get_or_default (rows_of n m) p d [] (rw (length-blocks 200 n m) (omega arith)) ∙ blocks_get 200 n m p (omega arith))
+
+-- so is one of a part of them
+module _ (m : List ℕ) (all : List (List ℕ)) (e : all ≡ first_chunks 200 (length m / 200) m) (a b : ℕ) (h : b * 200 ≤ length m) where
+  pub chunk_in : (k : ℕ) (d : List ℕ) → a + k < b → get_or (take (b - a) (drop a all)) k d ≡ row_in m (a + k)
+  chunk_in k d l =
+      get_or-take (b - a) (drop a all) k d (omega arith)
+      ∙ get_or-drop a all k d
+      ∙ ap (λ (z : List (List ℕ)). get_or z (a + k) d) e
+      ∙ chunk_at m (a + k) d (omega arith)
+
+  pub length-chunks : length (take (b - a) (drop a all)) ≡ b - a
+  length-chunks =
+      let w : length all ≡ length m / 200 = ap length e ∙ ap length (chunks (length m / 200) m) ∙ length-blocks 200 (length m / 200) m in
+      length-take-le (b - a) (drop a all) (rw (length-drop a all) (omega arith))
 
 -- ---- the two numbers of a key
 
@@ -33,18 +63,6 @@ key_front row = sym (take-take 8 12 row (lit≤ tt))
 pub key_back : (row : List ℕ) → take 4 (drop 8 row) ≡ take 4 (drop 8 (row_key row))
 key_back row = sym (part_of_front 4 8 12 row (lit≤ tt))
 
--- the row at i, as code cuts it out
-abbrev pub cut_row : ℕ → List ℕ → List ℕ
-cut_row i m = take (i * 200 + 200 - i * 200) (drop (i * 200) m)
-
--- of a row, read in the master
-pub cut_front : (i : ℕ) (m : List ℕ) → take 8 (drop (i * 200) m) ≡ take 8 (cut_row i m)
-cut_front i m = sym (take-take 8 (i * 200 + 200 - i * 200) (drop (i * 200) m) (omega arith))
-
-pub cut_back : (i : ℕ) (m : List ℕ) → take 4 (drop (i * 200 + 8) m) ≡ take 4 (drop 8 (cut_row i m))
-cut_back i m =
-    ap (take 4) (sym (drop-drop 8 (i * 200) m)) ∙ sym (part_of_front 4 8 (i * 200 + 200 - i * 200) (drop (i * 200) m) (omega arith))
-
 -- twelve bytes read in the master
 pub twelve_front : (k : ℕ) (m : List ℕ) → take 8 (drop k m) ≡ take 8 (take 12 (drop k m))
 twelve_front k m = sym (take-take 8 12 (drop k m) (lit≤ tt))
@@ -52,16 +70,21 @@ twelve_front k m = sym (take-take 8 12 (drop k m) (lit≤ tt))
 pub twelve_back : (k : ℕ) (m : List ℕ) → take 4 (drop (k + 8) m) ≡ take 4 (drop 8 (take 12 (drop k m)))
 twelve_back k m = ap (take 4) (sym (drop-drop 8 k m)) ∙ sym (part_of_front 4 8 12 (drop k m) (lit≤ tt))
 
+-- the same, read in the row
+pub cut_front : (k : ℕ) (m : List ℕ) → take 8 (take 200 (drop k m)) ≡ take 8 (take 12 (drop k m))
+cut_front k m = take-take 8 200 (drop k m) (lit≤ tt) ∙ twelve_front k m
+
+pub cut_back : (k : ℕ) (m : List ℕ) → take 4 (drop 8 (take 200 (drop k m))) ≡ take 4 (drop 8 (take 12 (drop k m)))
+cut_back k m = part_of_front 4 8 200 (drop k m) (lit≤ tt) ∙ sym (part_of_front 4 8 12 (drop k m) (lit≤ tt))
+
 -- the number of a sound row's state is a state's
-pub row_state_lem : (form : Form) (i : ℕ) (m : List ℕ) → length (cut_row i m) ≡ 200 → AreBytes m → is_sound_in form (cut_row i m) ≡ true
-    → is_state_code (bytes_number (take 8 (drop (i * 200) m)) / 0x1000000000000) ≡ true
+pub row_state_lem : (form : Form) (row : List ℕ) → length row ≡ 200 → AreBytes row → is_sound_in form row ≡ true
+    → is_state_code (bytes_number (take 8 row) / 0x1000000000000) ≡ true
 unfolding is_sound_in
-row_state_lem form i m w b t =
-    let row = cut_row i m in
+row_state_lem form row w b t =
     let k = and_left (is_sound_key (row_key row)) (are_fields_sound row && is_end_sound_in form row) t in
-    let a = bytes_take 12 row (bytes_take (i * 200 + 200 - i * 200) (drop (i * 200) m) (bytes_drop (i * 200) m b)) in
-    let e = cut_front i m ∙ key_front row in
-    rw e (sym (key_state (row_key row) (length-take-le 12 row (omega arith)) a) ∙ sound_state (row_key row) k)
+    rw (key_front row)
+    (sym (key_state (row_key row) (length-take-le 12 row (omega arith)) (bytes_take 12 row b)) ∙ sound_state (row_key row) k)
 
 -- ---- a row beside the next
 
@@ -81,22 +104,21 @@ says i m b e =
 
 module _ (f : List ℕ → Bool) (n : ℕ) (m : List ℕ) (i : ℕ) (l : i < n) where
   -- the row at i fails
-  pub row_fails : f (cut_row i m) ≡ false → (every f (drop i (rows_of n m)) && rising (drop i (keys_of (rows_of n m)))) ≡ false
-  row_fails t = rw (every_block_step 200 f n m i (f (cut_row i m)) l refl, t)
+  pub row_fails : f (row_in m i) ≡ false → every f (drop i (rows_of n m)) ≡ false
+  row_fails t = rw (blocks-next 200 n m i l, t)
 
   -- it passes
-  pub row-passes : f (cut_row i m) ≡ true → every f (drop (i + 1) (rows_of n m)) ≡ every f (drop i (rows_of n m))
-  row-passes t = sym (every_block_step 200 f n m i (f (cut_row i m)) l refl ∙ rw t)
+  pub row-passes : f (row_in m i) ≡ true → every f (drop (i + 1) (rows_of n m)) ≡ every f (drop i (rows_of n m))
+  row-passes t = rw (blocks-next 200 n m i l, t)
 
-  -- it passes and is the last
-  pub last-passes : f (cut_row i m) ≡ true → i + 1 ≡ n → (every f (drop i (rows_of n m)) && rising (drop i (keys_of (rows_of n m)))) ≡ true
-  unfolding keys_of
-  last-passes t e =
-      let p = row-passes t in
-      let q = every_block_end 200 f n m (i + 1) (omega arith) in
-      let r = pass_end 12 200 n m (i + 1) (omega arith) in
-      let z : i + 1 - 1 ≡ i = omega arith in
-      rw (← p, q, ← z) r
+-- no row is left behind the last
+pub all_passed : (f : List ℕ → Bool) (n : ℕ) (m : List ℕ) (i : ℕ) → n ≤ i + 1
+    → (every f (drop (i + 1) (rows_of n m)) && rising (drop i (keys_of (rows_of n m)))) ≡ true
+unfolding keys_of
+all_passed f n m i h =
+    let z : i + 1 - 1 ≡ i = omega arith in
+    let r = pass_end 12 200 n m (i + 1) h in
+    rw (every_block_end 200 f n m (i + 1) h) (rw z at r)
 
 module _ (n : ℕ) (m : List ℕ) (i : ℕ) (l : i + 1 < n) (b : Bool) (e : IsBelowNext i m b) where
   -- its key is not below that of the next

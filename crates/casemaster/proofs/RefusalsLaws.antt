@@ -1,7 +1,7 @@
 -- Laws of the refusals 3 and 4: what stands behind them counts exactly where neither holds, what is then known of the rows, and a master of
 -- one row. Assumes nothing.
 use Prim.Native.Nat.{ℕ, ◌/◌, ◌%◌, ◌≤◌}
-use mathlib.Core.Path.{◌≡◌, refl, subst}
+use mathlib.Core.Path.{◌≡◌, refl, sym, ◌∙◌, subst}
 use mathlib.Core.List.{List}
 use mathlib.Core.Bool.{Bool, true, false, not, cond, ◌&&◌, ◌||◌}
 use native.Mathlib.Omega.{arith}
@@ -11,6 +11,9 @@ use lib.Dec.{eqb, ltb}
 use lib.ListN.{length, take}
 use lib.Seq.{take-length}
 use Rattle.answers.specs.Answer.{refuse_if}
+use Rattle.answers.specs.Refusal.{refusal_number_of}
+use Rattle.answers.specs.declared.refusal.Refusal.{Refusal}
+use Rattle.answers.proofs.RefusalLaws.{number_above_zero}
 use Rattle.text.specs.Blocks.{blocks}
 use Rattle.text.specs.ByteOrder.{below_first, rising}
 use Rattle.layout.specs.Limits.{max_rows}
@@ -37,6 +40,11 @@ module _ (limit : ℕ) (master : List ℕ) (rows : ℕ) where
       go true b h = refl
       go false true h = refl
       go false false h = absurd (h refl)
+
+  -- an error that tells of a master, as the first refusal of a call that begins with it
+  pub master_err : (r : Refusal) → refusal_number_of r ≡ master_refusal limit master rows 0 → (behind : ℕ)
+      → refusal_number_of r ≡ master_refusal limit master rows behind
+  master_err r e behind = e ∙ sym (master_refused (λ z. number_above_zero r (e ∙ z)) behind)
 
 -- what is known of a master that neither refuses, whatever 4 is over
 module _ (limit : ℕ) (master : List ℕ) (rows : ℕ) (four : Bool) (e : refuse_if (refusal3 limit master rows) 3 (refuse_if four 4 0) ≡ 0) where

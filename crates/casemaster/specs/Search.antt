@@ -1,21 +1,15 @@
 -- For the contracts of inner functions; no rule of the papers stands here.
 -- What a search for a key among rows answers, and rows put in, pulled down and moved up. Assumes nothing.
-use Rattle.std.specs.Prelude.{ℕ, ◌+◌, ◌-◌, ◌*◌, ◌≤◌, ◌<◌, ◌≡◌, Bool, true, false, ◌⊎◌, List, [], ◌∷◌, ◌++◌, length, take, drop}
+use Rattle.std.specs.Prelude.{ℕ, ◌+◌, ◌*◌, ◌≤◌, ◌<◌, ◌≡◌, Bool, true, false, ◌⊎◌, List, [], ◌∷◌, ◌++◌, length, take, drop, Result, Ok, Err}
 use Rattle.std.proofs.Math.Option.{none, some}
 use Rattle.casemaster.specs.Row.{row_key}
 use Rattle.casemaster.specs.Master.{rows_of}
 use Rattle.casemaster.specs.Rows.{place_with, with_row}
-use Rattle.casemaster.specs.declared.search.Place.{Place}
-use Rattle.casemaster.specs.declared.search.Place.TheVariants.{At, Gap}
 use Rattle.text.specs.ByteOrder.{order_of, is_less}
 
 -- a row put in at place p, those from p on one place up
 abbrev pub inserted : ℕ → List ℕ → List (List ℕ) → List (List ℕ)
 inserted p row rows = take p rows ++ row ∷ drop p rows
-
--- the bytes from a up to e moved g places up; those below a + g and from e + g on are kept
-unfoldable pub shifted : List ℕ → ℕ → ℕ → ℕ → List ℕ
-shifted bytes a e g = take (a + g) bytes ++ (take (e - a) (drop a bytes) ++ drop (e + g) bytes)
 
 -- no row has the key, and p is where a row of that key goes
 pub record IsGap (p : ℕ) (key : List ℕ) (rows : List (List ℕ)) : Type 0 where
@@ -24,9 +18,9 @@ pub record IsGap (p : ℕ) (key : List ℕ) (rows : List (List ℕ)) : Type 0 wh
   pub goes : (row : List ℕ) → row_key row ≡ key → with_row row rows ≡ inserted p row rows
 
 -- the answer: the place of the key's row, or the gap where it would go
-abbrev pub IsPlace : Place → List ℕ → List (List ℕ) → Type 0
-IsPlace (At p) key rows = place_with key rows ≡ some p
-IsPlace (Gap p) key rows = IsGap p key rows
+abbrev pub IsPlace : Result ℕ ℕ → List ℕ → List (List ℕ) → Type 0
+IsPlace (Ok p) key rows = place_with key rows ≡ some p
+IsPlace (Err p) key rows = IsGap p key rows
 
 -- the key of the row at place p is below a key
 abbrev pub is_below_at : List ℕ → ℕ → List ℕ → Bool

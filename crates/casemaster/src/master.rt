@@ -1,6 +1,5 @@
 // A master: rows one behind the other, and a tail that is kept.
 ghost use Rattle.std.specs.Prelude.{◌≡◌, ◌+◌, ◌*◌, ◌≤◌, length, take, drop};
-ghost use Rattle.text.specs.Blocks.{spliced};
 ghost use Rattle.casemaster.specs.Forms.{are_sound_in};
 ghost use Rattle.casemaster.specs.Master.{rows_of};
 ghost use Rattle.casemaster.specs.Search.{Pulled, RowPut, Raised};
@@ -17,11 +16,8 @@ pub fn row_at(m: &[u8], p: usize) -> [u8; 200]
     requires { p * 200 + 200 ≤ length m.now }
     ensures { result ≡ take 200 (drop (p * 200) m.now) }
 {
-    let at = p * ROW_WIDTH;
-    let end = at + ROW_WIDTH;
-    let mut r = [0u8; 200];
-    fields::copy_in(&mut r, 0, &m[at..end]);
-    r
+    let (rows, _) = m.as_chunks::<ROW_WIDTH>();
+    rows[p]
 }
 
 // Writes a row at place p; the rows before it and what stands behind it are kept.
@@ -32,15 +28,6 @@ pub fn put_row(m: &mut [u8], p: usize, row: [u8; 200])
     fields::copy_in(m, p * ROW_WIDTH, &row);
 }
 
-// Copies the row at place `from` over the one at place `to`.
-fn copy_row(m: &mut [u8], from: usize, to: usize)
-    requires { (from * 200 + 200 ≤ length m.old) × (to * 200 + 200 ≤ length m.old) }
-    ensures { m.new ≡ spliced m.old (to * 200) (take 200 (drop (from * 200) m.old)) }
-{
-    let row = row_at(m, from);
-    fields::copy_in(m, to * ROW_WIDTH, &row);
-}
-
 // Copies `count` rows from place `from` on down to place `to` on.
 pub fn pull_rows(m: &mut [u8], from: usize, to: usize, count: usize)
     requires { (to ≤ from) × ((from + count) * 200 ≤ length m.old) }
@@ -49,14 +36,10 @@ pub fn pull_rows(m: &mut [u8], from: usize, to: usize, count: usize)
     if from == to {
         return;
     }
-    let mut i = 0;
-    while i < count {
-        copy_row(m, from + i, to + i);
-        i += 1;
-    }
+    m.copy_within(from * ROW_WIDTH..(from + count) * ROW_WIDTH, to * ROW_WIDTH);
 }
 
-// Moves the first n rows `by` places up, the last first.
+// Moves the first n rows `by` places up.
 pub fn shift_rows(m: &mut [u8], n: usize, by: usize)
     requires { (n + by) * 200 ≤ length m.old }
     ensures { Raised m.old n by m.new }
@@ -64,11 +47,7 @@ pub fn shift_rows(m: &mut [u8], n: usize, by: usize)
     if by == 0 {
         return;
     }
-    let mut i = n;
-    while 0 < i {
-        i -= 1;
-        copy_row(m, i, i + by);
-    }
+    m.copy_within(0..n * ROW_WIDTH, by * ROW_WIDTH);
 }
 
 // Whether the first n rows are sound and in strictly rising order of key, in one pass. The two numbers of a row's key are read when it is
@@ -80,27 +59,24 @@ pub fn are_sound_rows(m: &[u8], n: usize, form: Form) -> bool
     if n < 1 {
         return true;
     }
-    let mut known = states::FIRST_CODE;
-    let mut front = words::eight_number(m, 0);
-    let mut back = words::four_number(m, 8);
-    let mut i: usize = 0;
-    loop {
-        let at = i * ROW_WIDTH;
-        let end = at + ROW_WIDTH;
-        if !row::is_sound_row_in(&m[at..end], known, front, back, form) {
-            return false;
-        }
-        i += 1;
-        if i == n {
-            return true;
-        }
-        let next_front = words::eight_number(m, end);
-        let next_back = words::four_number(m, end + 8);
+    let (rows, _) = m.as_chunks::<ROW_WIDTH>();
+    let mut front = words::eight_number(&rows[0], 0);
+    let mut back = words::four_number(&rows[0], 8);
+    if !row::is_sound_row_in(&rows[0], states::FIRST_CODE, front, back, form) {
+        return false;
+    }
+    for next in &rows[1..n] {
+        let next_front = words::eight_number(next, 0);
+        let next_back = words::four_number(next, 8);
         if !byte_order::is_twelve_below_in(front, back, next_front, next_back) {
             return false;
         }
-        known = key::state_in(front);
+        let known = key::state_in(front);
+        if !row::is_sound_row_in(next, known, next_front, next_back, form) {
+            return false;
+        }
         front = next_front;
         back = next_back;
     }
+    true
 }

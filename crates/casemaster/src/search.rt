@@ -5,18 +5,11 @@ ghost use Rattle.casemaster.specs.Search.{IsPlace, KeysRise, Between, AreBelow};
 ghost use Rattle.text.specs.ByteOrder.{order_in, order_of, is_less, rising};
 
 use crate::master::ROW_WIDTH;
+use std::cmp::Ordering;
 use text::byte_order;
-use text::byte_order::Order;
-
-// Where a key's row is, or where it would go.
-#[derive(Clone, Copy)]
-pub enum Place {
-    At(usize),
-    Gap(usize),
-}
 
 // The order of the key of the row at place p against a key.
-fn order_at(m: &[u8], p: usize, key: &[u8]) -> Order
+fn order_at(m: &[u8], p: usize, key: &[u8]) -> Ordering
     requires { (p * 200 + 12 ≤ length m.now) × (length key.now ≡ 12) }
     ensures { order_in result ≡ order_of (take 12 (drop (p * 200) m.now)) key.now }
 {
@@ -25,8 +18,8 @@ fn order_at(m: &[u8], p: usize, key: &[u8]) -> Order
     byte_order::order_of(&m[at..end], key)
 }
 
-// The place of a key among the first n rows, by halving.
-pub fn place_of(m: &[u8], n: usize, key: &[u8]) -> Place
+// Where a key's row is among the first n rows, or else where it would go, by halving.
+pub fn place_of(m: &[u8], n: usize, key: &[u8]) -> Result<usize, usize>
     requires { (n * 200 ≤ length m.now) × (length key.now ≡ 12) × (rising (keys_of (rows_of n m.now)) ≡ true) }
     ensures { IsPlace result key.now (rows_of n m.now) }
 {
@@ -35,18 +28,18 @@ pub fn place_of(m: &[u8], n: usize, key: &[u8]) -> Place
     while lo < hi {
         let mid = lo + (hi - lo) / 2;
         match order_at(m, mid, key) {
-            Order::Less => {
+            Ordering::Less => {
                 lo = mid + 1;
             }
-            Order::Equal => {
-                return Place::At(mid);
+            Ordering::Equal => {
+                return Ok(mid);
             }
-            Order::Greater => {
+            Ordering::Greater => {
                 hi = mid;
             }
         }
     }
-    Place::Gap(lo)
+    Err(lo)
 }
 
 // Whether the key of the row at place p is below a key.
@@ -90,15 +83,7 @@ pub fn rows_below(m: &[u8], from: usize, end: usize, key: &[u8]) -> usize
     ensures { AreBelow m.now from end key.now result }
 {
     let reached = reach_by_doubling(m, from, end, key);
-    let mut lo = reached.low;
-    let mut hi = reached.high;
-    while lo < hi {
-        let mid = lo + (hi - lo) / 2;
-        if is_row_below(m, from + mid, key) {
-            lo = mid + 1;
-        } else {
-            hi = mid;
-        }
-    }
-    lo
+    let (rows, _) = m.as_chunks::<ROW_WIDTH>();
+    let left = &rows[from + reached.low..from + reached.high];
+    reached.low + left.partition_point(|row| byte_order::is_below(&row[..12], key))
 }

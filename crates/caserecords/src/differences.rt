@@ -4,7 +4,7 @@ ghost use Rattle.caserecords.specs.Differences.{is_other, is_other_case_id, is_o
 
 use casemaster::row;
 use exclusionsets::exclusions;
-use layout::locals;
+use layout::locals::LocalCodes;
 use text::fields;
 use text::fields::Columns;
 
@@ -75,7 +75,7 @@ fn is_other_elsewhere(row: &[u8], wanted: &[u8]) -> bool
 fn is_zero_or_listed(code: &[u8], list: &[u8]) -> bool
     ensures { result ≡ is_zero_or_listed list.now code.now }
 {
-    fields::same(code, b"\xF0\xF0\xF0") | locals::listed(code, list, false)
+    fields::same(code, b"\xF0\xF0\xF0") | LocalCodes::unread(list).contains(code)
 }
 
 // Whether something that differs can't be changed by C, L, R and M.

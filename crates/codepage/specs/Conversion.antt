@@ -4,8 +4,9 @@ use Rattle.std.specs.Prelude.{ℕ, suc, ◌≡◌, List, [], ◌∷◌, Bool, tr
 use Rattle.std.proofs.Math.Option.{Option, none, some}
 use Rattle.answers.specs.Answer.{refuse_if, Answer, refused, done, NoResult, Outcome, Run, outcome_by}
 use Rattle.text.specs.Blocks.{over}
-use Rattle.codepage.specs.declared.conversion.Converted.{Converted}
-use Rattle.codepage.specs.declared.conversion.Converted.TheVariants.{Done, NoCounterpart, TooShort}
+use Rattle.codepage.specs.declared.conversion.ConversionError.{ConversionError}
+use Rattle.codepage.specs.declared.conversion.ConversionError.TheVariants.{NoCounterpart, TooShort}
+use Rattle.std.specs.Prelude as library
 
 -- the place, counted from 0, of the first byte without a counterpart, or none: of a byte and what the bytes behind it have
 abbrev pub place_behind : Option ℕ → Option ℕ → Option ℕ
@@ -53,19 +54,24 @@ conversion_outcome code input out =
     record { outcome = outcome_by (conversion_refusal code input out) out (conversion_run code input out); place = place_without code input }
 
 -- what each answer of the calls stands for, by the paper's numbers
-abbrev pub conversion_answer : Converted → Answer NoResult
-conversion_answer Done = done tt
-conversion_answer (NoCounterpart p) = refused 16
-conversion_answer TooShort = refused 17
+abbrev pub conversion_answer : library.Result (Unit {0}) ConversionError → Answer NoResult
+conversion_answer (library.Ok nothing) = done tt
+conversion_answer (library.Err (NoCounterpart p)) = refused 16
+conversion_answer (library.Err TooShort) = refused 17
 
-abbrev pub place_told : Converted → Option ℕ
-place_told Done = none
-place_told (NoCounterpart p) = some p
-place_told TooShort = none
+abbrev pub place_told : library.Result (Unit {0}) ConversionError → Option ℕ
+place_told (library.Ok nothing) = none
+place_told (library.Err (NoCounterpart p)) = some p
+place_told (library.Err TooShort) = none
 
 -- the answer of a call and the output that it leaves
-abbrev pub converted_as : Converted → List ℕ → ConversionOutcome
+abbrev pub converted_as : library.Result (Unit {0}) ConversionError → List ℕ → ConversionOutcome
 converted_as answer out = record { outcome = record { answer = conversion_answer answer; buffers = out }; place = place_told answer }
+
+-- a place that was looked for
+abbrev pub place_found : library.Option ℕ → Option ℕ
+place_found library.None = none
+place_found (library.Some place) = some place
 
 -- what a call leaves: the promise of `to_ebcdic` and `to_ascii`, and what is assumed of two calls in ThereAndBack
 pub record IsConversion (code : ℕ → Option ℕ) (input out : List ℕ) (o : ConversionOutcome) : Type 0 where

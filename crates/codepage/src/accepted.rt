@@ -39,10 +39,8 @@ pub fn all_have_ebcdic(input: &[u8]) -> bool
     ensures { result ≡ every_has_counterpart ebcdic_of input.now }
 {
     let mut ok = true;
-    let mut i = 0;
-    while i < input.len() {
-        ok = ok & has_ebcdic(input[i]);
-        i += 1;
+    for b in input {
+        ok &= has_ebcdic(*b);
     }
     ok
 }
@@ -52,10 +50,8 @@ pub fn all_have_ascii(input: &[u8]) -> bool
     ensures { result ≡ every_has_counterpart ascii_of input.now }
 {
     let mut ok = true;
-    let mut i = 0;
-    while i < input.len() {
-        ok = ok & has_ascii(input[i]);
-        i += 1;
+    for b in input {
+        ok &= has_ascii(*b);
     }
     ok
 }

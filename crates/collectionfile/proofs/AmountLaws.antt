@@ -4,7 +4,7 @@ use mathlib.Core.Path.{◌≡◌, refl, ap, ◌∙◌}
 use mathlib.Core.Logic.{◌⊎◌, inl, inr}
 use mathlib.Core.List.{List}
 use mathlib.Core.Bool.{Bool, true, false, not, ◌&&◌}
-use mathlib.Core.Option.{Option, none, some}
+use mathlib.Core.Option.{none, some}
 use native.Mathlib.Omega.{arith}
 use borrow.Author.Tests.{eq-eqb, ltb-false}
 use lib.Dec.{ltb, lit≤}
@@ -13,7 +13,9 @@ use Rattle.text.specs.Fields.{columns, all_digits, number}
 use Rattle.text.proofs.FieldsLaws.{and_right, length-columns}
 use Rattle.text.specs.Options.{is_none, or_zero}
 use Rattle.collectionfile.specs.Line.{is_last_digit, is_amount, amount, amount_cents, collection_in, adjustment_in, collected, adjusted, is_right}
-use Rattle.collectionfile.specs.Parts.{AreAmounts}
+use Rattle.collectionfile.specs.Parts.{cents_in, AreAmounts}
+use Rattle.collectionfile.specs.declared.cents.Cents.{Cents}
+use Rattle.std.specs.Prelude.{Option as Read, Some, None, is_some, unwrap_or}
 use Rattle.collectionfile.specs.declared.line.Amounts.{Amounts}
 
 -- ---- an amount field
@@ -37,13 +39,24 @@ module _ (f : List ℕ) (l : length f ≡ 11) where
 
 -- ---- the amounts of a line
 
-pub amounts_are : (line : List ℕ) (a : Amounts) (p q : Option ℕ) (b d : Bool) → p ≡ collection_in line → q ≡ adjustment_in line
-    → b ≡ is_none p → d ≡ is_none q → a.collection.0 ≡ or_zero p → a.adjustment.0 ≡ or_zero q
-    → a.right ≡ (not b && (not d && not (ltb 0 a.collection.0 && ltb 0 a.adjustment.0))) → AreAmounts line a
+-- an amount that was read
+was_read : (p : Read Cents) → is_some p ≡ not (is_none (cents_in p))
+was_read None = refl
+was_read (Some cents) = refl
+
+as_read : (p : Read Cents) (zero : Cents) → zero.0 ≡ 0 → (unwrap_or p zero).0 ≡ or_zero (cents_in p)
+as_read None zero z = z
+as_read (Some cents) zero z = refl
+
+pub amounts_are : (line : List ℕ) (a : Amounts) (p q : Read Cents) (zero : Cents) → zero.0 ≡ 0 → cents_in p ≡ collection_in line
+    → cents_in q ≡ adjustment_in line → a.collection ≡ unwrap_or p zero → a.adjustment ≡ unwrap_or q zero
+    → a.right ≡ (is_some p && (is_some q && not (ltb 0 a.collection.0 && ltb 0 a.adjustment.0))) → AreAmounts line a
 unfolding collected adjusted is_right
-amounts_are line a p q b d ep eq eb ed ex ey r =
+amounts_are line a p q zero z ep eq x y r =
+    let ex : a.collection.0 ≡ or_zero (cents_in p) = ap (λ (v : Cents). v.0) x ∙ as_read p zero z in
+    let ey : a.adjustment.0 ≡ or_zero (cents_in q) = ap (λ (v : Cents). v.0) y ∙ as_read q zero z in
     record {
-      right_is = r ∙ rw (eb, ed, ex, ey, ep, eq);
+      right_is = r ∙ rw (was_read p, was_read q, ex, ey, ep, eq);
       collection_is = ex ∙ ap or_zero ep;
       adjustment_is = ey ∙ ap or_zero eq;
     }

@@ -1,16 +1,26 @@
 -- Laws of the totals of the last record. Assumes nothing.
-use Prim.Native.Nat.{ℕ, ◌+◌, ◌-◌, ◌*◌, ◌≤◌, ◌<◌}
-use mathlib.Core.Path.{◌≡◌, sym}
+use Prim.Native.Nat.{ℕ, ◌+◌, ◌*◌, ◌≤◌, ◌<◌}
+use mathlib.Core.Path.{◌≡◌, refl, sym, ◌∙◌}
 use mathlib.Core.List.{List}
-use mathlib.Core.Bool.{true, false, cond}
+use mathlib.Core.Bool.{Bool, true, false, cond}
 use native.Mathlib.Omega.{arith}
 use borrow.Author.Tests.{eq-eqb}
-use lib.Dec.{eqb, ltb}
+use lib.Dec.{eqb, ltb, lit≤}
 use lib.ListN.{length, take, drop, drop_of_length-le}
 use Rattle.text.specs.Blocks.{blocks}
 use Rattle.text.specs.Fields.{are_digits, all_digits, number}
-use Rattle.text.proofs.BlocksLaws.{length-blocks, blocks-next, part_width}
+use Rattle.text.proofs.BlocksLaws.{length-blocks, blocks-next}
+use Rattle.std.specs.Int.{from_bool}
 use Rattle.collectionfile.specs.File.{lines_above, is_total}
+
+-- what a test adds
+one_if : (b : Bool) → from_bool b ≡ cond b 1 0
+one_if true = refl
+one_if false = refl
+
+pub one_at_most : (b : Bool) → from_bool b ≤ 1
+one_at_most true = lit≤ tt
+one_at_most false = lit≤ tt
 
 -- the number found among the lines before i, and those from it on
 module _ (of : List ℕ → ℕ) (count : ℕ) (file : List ℕ) where
@@ -21,10 +31,10 @@ module _ (of : List ℕ → ℕ) (count : ℕ) (file : List ℕ) where
 
   -- one more line counted
   pub count_step : (i have r x t : ℕ) → i < count → have + lines_above of (drop i (blocks 240 count file)) ≡ t
-      → x ≡ of (take (i * 240 + 240 - i * 240) (drop (i * 240) file)) → r ≡ cond (ltb 0 x) 1 0
+      → x ≡ of (take 240 (drop (i * 240) file)) → r ≡ from_bool (ltb 0 x)
       → have + r + lines_above of (drop (i + 1) (blocks 240 count file)) ≡ t
   count_step i have r x t l h e f =
-      let g : cond (ltb 0 (of (take 240 (drop (i * 240) file)))) 1 0 ≡ r = rw (← part_width 240 file (i * 240), ← e) (sym f) in
+      let g : cond (ltb 0 (of (take 240 (drop (i * 240) file)))) 1 0 ≡ r = rw (← e) (sym (f ∙ one_if (ltb 0 x))) in
       omega (arith, h, count_next i l, g)
 
   pub count_end : (i : ℕ) → count ≤ i → lines_above of (drop i (blocks 240 count file)) ≡ 0

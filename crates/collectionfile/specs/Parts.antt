@@ -1,6 +1,6 @@
 -- For the contracts of inner functions; no rule of the papers stands here.
 -- What the code's answers stand for. Assumes nothing.
-use Rattle.std.specs.Prelude.{ℕ, ◌*◌, ◌≡◌, List, Bool, ◌&&◌, take, drop}
+use Rattle.std.specs.Prelude.{ℕ, ◌*◌, ◌≡◌, List, Bool, ◌&&◌, take, drop, Option as Read, Some, None}
 use Rattle.std.proofs.Math.Option.{Option, none, some}
 use Rattle.text.specs.Blocks.{blocks}
 use Rattle.text.specs.Fields.{same_bytes}
@@ -8,14 +8,13 @@ use Rattle.collectionfile.specs.Chart05.{last_control, last_adjustments, last_co
 use Rattle.collectionfile.specs.Line.{collected, adjusted, is_right}
 use Rattle.collectionfile.specs.File.{lines_above, is_total, total_text}
 use Rattle.collectionfile.specs.declared.file.Totals.{Totals}
-use Rattle.collectionfile.specs.declared.amount.Amount.{Amount}
-use Rattle.collectionfile.specs.declared.amount.Amount.TheVariants.{Good, Bad}
+use Rattle.collectionfile.specs.declared.cents.Cents.{Cents}
 use Rattle.collectionfile.specs.declared.line.Amounts.{Amounts}
 
 -- the cents of an amount that was read, none if it is bad
-abbrev pub cents_in : Amount → Option ℕ
-cents_in (Good cents) = some cents.0
-cents_in Bad = none
+abbrev pub cents_in : Read Cents → Option ℕ
+cents_in None = none
+cents_in (Some cents) = some cents.0
 
 -- both amounts of a line, and whether it is right
 pub record AreAmounts (line : List ℕ) (a : Amounts) : Type 0 where

@@ -1,5 +1,6 @@
 // The collection file: lines and a last record, and its refusals 22, 23 and 24.
-ghost use Rattle.std.specs.Prelude.{◌≡◌, cond, ◌+◌, ◌*◌, ◌≤◌, ltb, length};
+ghost use Rattle.std.specs.Prelude.{◌≡◌, ◌+◌, ◌*◌, ◌≤◌, length};
+ghost use Rattle.answers.specs.Refusal.{number_in};
 ghost use Rattle.text.specs.Blocks.{blocks};
 ghost use Rattle.layout.specs.Limits.{max_rows};
 ghost use Rattle.collectionfile.specs.File.{is_total, file_refusal};
@@ -7,6 +8,7 @@ ghost use Rattle.collectionfile.specs.Parts.{AreLineTotals, is_last_right};
 
 use crate::line::LINE_WIDTH;
 use crate::{chart_05, line};
+use answers::refusal::Refusal;
 use layout::limits::MAX_RECORDS;
 use text::fields;
 
@@ -17,13 +19,6 @@ pub struct Totals {
     pub collections: u64,
 }
 
-// One for an amount above zero, else none.
-fn one_above(cents: u64) -> u64
-    ensures { (result ≡ cond (ltb 0 cents) 1 0) × (result ≤ 1) }
-{
-    if 0 < cents { 1 } else { 0 }
-}
-
 // The totals of the first `count` lines.
 fn count_totals(file: &[u8], count: usize) -> Totals
     requires { count * 240 ≤ length file.now }
@@ -31,14 +26,10 @@ fn count_totals(file: &[u8], count: usize) -> Totals
 {
     let mut adjustments: u64 = 0;
     let mut collections: u64 = 0;
-    let mut i: usize = 0;
-    while i < count {
-        let at = i * LINE_WIDTH;
-        let end = at + LINE_WIDTH;
-        let a = line::read_amounts(&file[at..end]);
-        adjustments += one_above(a.adjustment.0);
-        collections += one_above(a.collection.0);
-        i += 1;
+    for line in file[..count * LINE_WIDTH].chunks_exact(LINE_WIDTH) {
+        let a = line::read_amounts(line);
+        adjustments += u64::from(0 < a.adjustment.0);
+        collections += u64::from(0 < a.collection.0);
     }
     Totals {
         adjustments,
@@ -75,25 +66,25 @@ fn is_last_right(file: &[u8], count: usize) -> bool
     text & (adjustments & collections)
 }
 
-// The number of the first of refusals 22, 23 and 24 that holds, or 0; the list has space for `room` numbers.
-pub fn file_refusal(file: &[u8], room: usize) -> u64
-    ensures { result ≡ file_refusal max_rows file.now room }
+// The first of refusals 22, 23 and 24 that holds; the list has space for `room` numbers.
+pub fn file_refusal(file: &[u8], room: usize) -> Result<(), Refusal>
+    ensures { number_in result ≡ file_refusal max_rows file.now room }
 {
     if file.len() == 0 {
-        return 22;
+        return Err(Refusal::WrongFile);
     }
     if file.len() % LINE_WIDTH != 0 {
-        return 22;
+        return Err(Refusal::WrongFile);
     }
     if MAX_RECORDS < file.len() / LINE_WIDTH {
-        return 22;
+        return Err(Refusal::WrongFile);
     }
     let count = file.len() / LINE_WIDTH - 1;
     if !is_last_right(file, count) {
-        return 23;
+        return Err(Refusal::WrongTotal);
     }
     if room < count {
-        return 24;
+        return Err(Refusal::ShortLines);
     }
-    0
+    Ok(())
 }

@@ -37,10 +37,10 @@ pub fn read_amounts(line: &[u8]) -> Amounts
 {
     let a = amount::read_amount(fields::field(line, chart_04::COLLECTION));
     let b = amount::read_amount(fields::field(line, chart_04::ADJUSTMENT));
-    let collection = amount::cents_or_zero(a);
-    let adjustment = amount::cents_or_zero(b);
+    let collection = a.unwrap_or(Cents(0));
+    let adjustment = b.unwrap_or(Cents(0));
     let both = (0 < collection.0) & (0 < adjustment.0);
-    let right = !amount::is_bad(a) & (!amount::is_bad(b) & !both);
+    let right = a.is_some() & (b.is_some() & !both);
     Amounts {
         right,
         collection,

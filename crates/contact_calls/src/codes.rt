@@ -1,16 +1,16 @@
 // The codes of a state: what is answered, and the twelve bytes of the output. Nines stand where nothing was written.
 use crate::four;
 use crate::four::least;
+use answers::refusal::Refusal;
 use contacttable::codes;
-use contacttable::codes::Codes;
 use std::io;
 use vector_text::ebcdic::{read, write};
 use vector_text::print;
 
-fn show_answer(rt: &impl Print, answer: Codes) -> io::Result<()> {
+fn show_answer(rt: &impl Print, answer: Result<usize, Refusal>) -> io::Result<()> {
     match answer {
-        Codes::Done(number) => print!(rt; ": codes {number}"),
-        Codes::Refused(number) => print!(rt; ": refused {number}"),
+        Ok(number) => print!(rt; ": codes {number}"),
+        Err(refusal) => print!(rt; ": refused {}", refusal.number()),
     }
 }
 

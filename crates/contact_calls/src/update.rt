@@ -2,15 +2,16 @@
 // written.
 use crate::four;
 use crate::four::least;
+use answers::refusal::Refusal;
 use contactupdate::update;
 use contactupdate::update::Updated;
 use std::io;
 use vector_text::print;
 
-fn show_answer(rt: &impl Print, answer: Updated) -> io::Result<()> {
+fn show_answer(rt: &impl Print, answer: Result<Updated, Refusal>) -> io::Result<()> {
     match answer {
-        Updated::Done(records, listed) => print!(rt; ": records {records}, listed {listed};"),
-        Updated::Refused(number) => print!(rt; ": refused {number};"),
+        Ok(done) => print!(rt; ": records {}, listed {};", done.records, done.listed),
+        Err(refusal) => print!(rt; ": refused {};", refusal.number()),
     }
 }
 

@@ -1,18 +1,21 @@
--- Laws of a text contained, an extension and the runs of letters, from one index to the next. Assumes nothing.
-use mathlib.Core.Path.{◌≡◌, refl, sym, ap, ◌∙◌}
+-- Laws of a text contained, an extension and the runs of letters. Assumes nothing.
+use mathlib.Core.Path.{◌≡◌, refl, sym, ap, subst, ◌∙◌}
 use mathlib.Core.Bool.{Bool, true, false, not, ◌&&◌, ◌||◌, cond, and-true, or-true, or-false, or_assoc}
-use mathlib.Core.List.{List, [], ◌∷◌, ◌++◌}
-use Prim.Native.Nat.{ℕ, zero, suc, ◌+◌, ◌-◌, ◌≤◌, ◌<◌}
-use native.Mathlib.Numerals.{add-one}
+use mathlib.Core.List.{List, [], ◌∷◌, ◌++◌, append-nil}
+use Prim.Native.Nat.{ℕ, zero, suc, ◌+◌, ◌≤◌, ◌<◌}
 use native.Mathlib.Omega.{arith}
-use borrow.Author.Tests.{ne_eqb}
-use lib.ListN.{length, get_or, take, drop, take-append-drop, drop_of_length-le}
-use lib.Dec.{eqb}
-use lib.Seq.{drop-cons, take_all, take-append_seam, append_snoc}
+use lib.ListN.{length, get_or, take, drop, take-append-drop}
+use lib.Dec.{eqb, eqb-suc-zero, leb}
+use lib.Seq.{take_all, take-append_seam, append_snoc}
+use Rattle.std.specs.List.{fold, list_any, onto_first, position_or_len, slice_split}
+use Rattle.std.specs.Slice.Iter.{windows_steps, windows_rest, windows_size}
+use Rattle.std.specs.declared.slice.Windows.{Windows}
+use Rattle.std.proofs.lemmas.Bool.{le-leb, leb-false, leb-true, lt-leb}
+use Rattle.std.proofs.lemmas.Iterator.{YieldsList}
+use Rattle.std.proofs.lemmas.Iterator.Splits.{YieldsList-from_shown_while}
 use Rattle.text.specs.Characters.{is_digit, is_letter}
 use Rattle.text.specs.Fields.{same_bytes, is_one_of, is_blank, unless_empty}
 use Rattle.text.proofs.FieldsLaws.{and_left, and_right}
-use Rattle.text.proofs.PartsLaws.{part_more}
 use Rattle.text.proofs.SameLaws.{same_lengths, same_self, same_eq}
 use Rattle.contactrecord.specs.Wording.{starts_with, contains, runs_from, has_run}
 use Rattle.contactrecord.specs.Contact.{is_extension}
@@ -29,35 +32,55 @@ unfolding starts_with same_bytes
 starts_none [] s h = refl
 starts_none (x ∷ text) s h = absurd (omega arith)
 
--- another first byte
-pub starts_other : (text s : List ℕ) → (length text ≡ 0 → ⊥) → (get_or s 0 0 ≡ get_or text 0 0 → ⊥) → starts_with text s ≡ false
-unfolding starts_with same_bytes
-starts_other [] s h k = absurd (h refl)
-starts_other (x ∷ text) [] h k = refl
-starts_other (x ∷ text) (y ∷ s) h k = rw (ne_eqb y x k)
-
-module _ (text s : List ℕ) (i : ℕ) where
-  pub contains_pass : i < length s → starts_with text (drop i s) ≡ true → contains text (drop i s) ≡ true
-  unfolding contains
-  contains_pass h t = let t' = (rw (drop-cons s i 0 h) at t) in rw (drop-cons s i 0 h, t')
-
-  pub contains_fail : i < length s → starts_with text (drop i s) ≡ false → contains text (drop i s) ≡ contains text (drop (i + 1) s)
-  unfolding contains
-  contains_fail h t = let t' = (rw (drop-cons s i 0 h) at t) in rw (drop-cons s i 0 h, t', add-one i)
-
-  contains-next : i < length s → contains text (drop i s) ≡ (starts_with text (drop i s) || contains text (drop (i + 1) s))
-  unfolding contains
-  contains-next h = rw (drop-cons s i 0 h, add-one i)
-
-  pub contains_end : length s ≤ i → contains text (drop i s) ≡ false
-  unfolding contains
-  contains_end h = rw (drop_of_length-le s h)
-
 -- a text longer than the bytes
 pub contains_short : (text s : List ℕ) → length s < length text → contains text s ≡ false
 unfolding contains
 contains_short text [] h = refl
 contains_short text (b ∷ s) h = rw (starts_short text (b ∷ s) h) (contains_short text s (omega arith))
+
+-- the parts of n bytes that begin at each place
+abbrev pub windows_in : ℕ → List ℕ → List (List ℕ)
+windows_in n [] = []
+windows_in n (b ∷ s) = cond (leb n (length (b ∷ s))) (take n (b ∷ s) ∷ windows_in n s) []
+
+windows_none : (n : ℕ) (s : List ℕ) → length s < n → length (windows_in n s) ≡ 0
+windows_none n [] h = refl
+windows_none n (b ∷ s) h = rw (lt-leb n (length (b ∷ s)) h)
+
+windows_more : (n : ℕ) (s : List ℕ) → 0 < n → n ≤ length s → windows_in n s ≡ take n s ∷ windows_in n (drop 1 s)
+windows_more n [] some h = absurd (omega arith)
+windows_more n (b ∷ s) some h = rw (le-leb n (length (b ∷ s)) h)
+
+-- what the library's windows of n bytes yield
+pub windows_yielded : (w : Windows ℕ) (n : ℕ) (s : List ℕ) → 0 < n → windows_size w ≡ n → windows_rest w ≡ s
+    → YieldsList (windows_steps {A = ℕ}) (λ x. x.now) w (windows_in n s)
+windows_yielded w n s some e f =
+    subst (λ (r : List ℕ). YieldsList (windows_steps {A = ℕ}) (λ x. x.now) w (windows_in n r)) f
+    (YieldsList-from_shown_while windows_steps (λ x. x.now) (λ t. windows_in n (windows_rest t)) (λ t. windows_size t ≡ n)
+    (λ t u h k. windows_none n (windows_rest t) (omega (arith, k.1.0)))
+    (λ t x u h k. (
+      k.0 ∙ h,
+      windows_more n (windows_rest t) some (omega (arith, k.1.0))
+          ∙ (λ i. sym (k.1.1 ∙ ap (λ m. take m (windows_rest t)) h) i ∷ windows_in n (sym k.1.2 i)),
+    ))
+    w e)
+
+-- a text, which isn't empty, is contained where one of the windows as long is the text
+pub contains_any : (text s : List ℕ) → 0 < length text → list_any (λ w. same_bytes w text) (windows_in (length text) s) ≡ contains text s
+unfolding contains starts_with
+contains_any text [] n = refl
+contains_any text (b ∷ s) n = go (leb (length text) (length (b ∷ s))) refl (contains_any text s n)
+  where
+    go : (t : Bool) → leb (length text) (length (b ∷ s)) ≡ t → list_any (λ w. same_bytes w text) (windows_in (length text) s) ≡ contains text s
+        → list_any (λ w. same_bytes w text) (cond t (take (length text) (b ∷ s) ∷ windows_in (length text) s) []) ≡ contains text (b ∷ s)
+    go true e h = rw h
+    go false e h = sym (contains_short text (b ∷ s) (leb-false (length text) (length (b ∷ s)) e))
+
+-- a text of no bytes
+pub contains_none : (text s : List ℕ) → length text ≡ 0 → contains text s ≡ not (eqb (length s) 0)
+unfolding contains
+contains_none text [] e = refl
+contains_none text (b ∷ s) e = rw (starts_none text (b ∷ s) e, eqb-suc-zero (length s))
 
 -- a text contained behind other bytes
 pub contains-behind : (text a s : List ℕ) → contains text s ≡ true → contains text (a ++ s) ≡ true
@@ -71,52 +94,53 @@ unfolding contains starts_with
 contains-front [] s h = absurd (omega arith)
 contains-front (b ∷ text) s h = rw (take-append_seam (b ∷ text) s, same_self (b ∷ text))
 
--- the three bytes of a word at the place i, each looked at by itself
-abbrev pub three_at : List ℕ → List ℕ → ℕ → Bool
-three_at word s i =
-    eqb (get_or s i 0) (get_or word 0 0) && (eqb (get_or s (i + 1) 0) (get_or word 1 0) && eqb (get_or s (i + 2) 0) (get_or word 2 0))
+-- the three bytes of a word, each looked at by itself
+abbrev pub are_three : List ℕ → List ℕ → Bool
+are_three word s = eqb (get_or s 0 0) (get_or word 0 0) && (eqb (get_or s 1 0) (get_or word 1 0) && eqb (get_or s 2 0) (get_or word 2 0))
 
-starts_three : (word s : List ℕ) (i : ℕ) → length word ≡ 3 → i + 2 < length s → starts_with word (drop i s) ≡ three_at word s i
+starts_three : (word s : List ℕ) → length word ≡ 3 → 3 ≤ length s → starts_with word s ≡ are_three word (take 3 s)
 unfolding starts_with same_bytes
-starts_three [] s i n h = absurd (omega (arith, n))
-starts_three (x ∷ []) s i n h = absurd (omega (arith, n))
-starts_three (x ∷ y ∷ []) s i n h = absurd (omega (arith, n))
-starts_three (x ∷ y ∷ z ∷ []) s i n h =
-    let e : i + 2 ≡ suc (suc i) = omega arith in
-    let l : i < length s = omega arith in
-    let k : suc i < length s = omega arith in
-    let j : suc (suc i) < length s = omega arith in
-    rw (drop-cons s i 0 l, drop-cons s (suc i) 0 k, drop-cons s (suc (suc i)) 0 j, add-one i, e)
-    (ap (λ (b : Bool). eqb (get_or s i 0) x && (eqb (get_or s (suc i) 0) y && b)) (and-true (eqb (get_or s (suc (suc i)) 0) z)))
-starts_three (x ∷ y ∷ z ∷ t ∷ word) s i n h = absurd (omega (arith, n))
+starts_three [] s n h = absurd (omega (arith, n))
+starts_three (a ∷ []) s n h = absurd (omega (arith, n))
+starts_three (a ∷ b ∷ []) s n h = absurd (omega (arith, n))
+starts_three (a ∷ b ∷ c ∷ d ∷ word) s n h = absurd (omega (arith, n))
+starts_three (a ∷ b ∷ c ∷ []) [] n h = absurd (omega arith)
+starts_three (a ∷ b ∷ c ∷ []) (x ∷ []) n h = absurd (omega arith)
+starts_three (a ∷ b ∷ c ∷ []) (x ∷ y ∷ []) n h = absurd (omega arith)
+starts_three (a ∷ b ∷ c ∷ []) (x ∷ y ∷ z ∷ s) n h = ap (λ (t : Bool). eqb x a && (eqb y b && t)) (and-true (eqb z c))
 
--- seen before the place i, or contained from there on
-pub three_next : (word s : List ℕ) (i : ℕ) (seen : Bool) → length word ≡ 3 → i + 2 < length s
-    → (seen || contains word (drop i s)) ≡ (seen || three_at word s i || contains word (drop (i + 1) s))
-three_next word s i seen n h =
-    let l : i < length s = omega arith in
-    rw (contains-next word s i l, starts_three word s i n h)
-    (sym (or_assoc seen (three_at word s i) (contains word (drop (i + 1) s))))
+-- seen before, or contained
+pub three_seen : (word s : List ℕ) (seen : Bool) → length word ≡ 3 → fold (λ t w. t || are_three word w) seen (windows_in 3 s) ≡ (seen || contains word s)
+unfolding contains
+three_seen word [] seen n = sym (or-false seen)
+three_seen word (b ∷ s) seen n = go (leb 3 (length (b ∷ s))) refl (three_seen word s (seen || are_three word (take 3 (b ∷ s))) n)
+  where
+    go : (t : Bool) → leb 3 (length (b ∷ s)) ≡ t
+        → fold (λ t w. t || are_three word w) (seen || are_three word (take 3 (b ∷ s))) (windows_in 3 s) ≡ (seen || are_three word (take 3 (b ∷ s)) || contains word s)
+        → fold (λ t w. t || are_three word w) seen (cond t (take 3 (b ∷ s) ∷ windows_in 3 s) []) ≡ (seen || contains word (b ∷ s))
+    go true e h =
+        h
+        ∙ or_assoc seen (are_three word (take 3 (b ∷ s))) (contains word s)
+        ∙ ap (λ (t : Bool). seen || (t || contains word s)) (sym (starts_three word (b ∷ s) n (leb-true 3 (length (b ∷ s)) e)))
+    go false e h = rw (contains_short word (b ∷ s) (let l = leb-false 3 (length (b ∷ s)) e in omega (arith, n))) (sym (or-false seen))
 
 -- ---- an extension
 
-module _ (s : List ℕ) (i : ℕ) where
-  pub extension_pass : i < length s → is_digit (get_or s i 0) ≡ true → is_extension (drop i s) ≡ is_extension (drop (i + 1) s)
-  unfolding is_extension
-  extension_pass h t = rw (drop-cons s i 0 h, t, add-one i)
-
-  pub extension_stop : i < length s → is_digit (get_or s i 0) ≡ false → is_extension (drop i s) ≡ is_blank (drop i s)
-  unfolding is_extension
-  extension_stop h t = rw (drop-cons s i 0 h, t)
-
-  pub extension_end : length s ≤ i → is_extension (drop i s) ≡ true
-  unfolding is_extension
-  extension_end h = rw (drop_of_length-le s h)
+-- spaces from the first byte on that is no digit
+pub extension_is : (s : List ℕ) → is_extension s ≡ is_blank (drop (position_or_len (λ b. not (is_digit b)) s) s)
+unfolding is_extension is_blank
+extension_is [] = refl
+extension_is (b ∷ s) = go (is_digit b) (extension_is s)
+  where
+    go : (d : Bool) → is_extension s ≡ is_blank (drop (position_or_len (λ b. not (is_digit b)) s) s)
+        → cond d (is_extension s) (is_blank (b ∷ s)) ≡ is_blank (drop (cond (not (not d)) (1 + position_or_len (λ b. not (is_digit b)) s) 0) (b ∷ s))
+    go true h =
+        let n = position_or_len (λ b. not (is_digit b)) s in
+        let e : suc n ≡ 1 + n = omega arith in
+        h ∙ ap (λ (k : ℕ). is_blank (drop k (b ∷ s))) e
+    go false h = refl
 
 -- ---- runs of letters
-
-abbrev pub part : ℕ → ℕ → List ℕ → List ℕ
-part a e s = take (e - a) (drop a s)
 
 one_unless : (word run : List ℕ) (rest : List (List ℕ)) → 0 < length word
     → is_one_of word (unless_empty run rest) ≡ (same_bytes word run || is_one_of word rest)
@@ -124,30 +148,44 @@ unfolding is_one_of
 one_unless word [] rest h = rw (same_lengths word [] (λ e. omega arith))
 one_unless word (b ∷ run) rest h = refl
 
-module _ (word s : List ℕ) (a i : ℕ) where
-  pub run_letter : a ≤ i → i < length s → is_letter (get_or s i 0) ≡ true
-      → is_one_of word (runs_from (part a i s) (drop i s)) ≡ is_one_of word (runs_from (part a (i + 1) s) (drop (i + 1) s))
-  unfolding runs_from
-  run_letter h l t = rw (drop-cons s i 0 l, t, add-one i, ← longer)
-    where
-      longer : part a (suc i) s ≡ part a i s ++ get_or s i 0 ∷ []
-      longer = rw (← add-one i) (sym (part_more s a i h l))
+-- a run read before, in front of the first of some parts
+onto : List ℕ → List (List ℕ) → List (List ℕ)
+onto run [] = run ∷ []
+onto run (part ∷ parts) = (run ++ part) ∷ parts
 
-  pub run_other : 0 < length word → i < length s → is_letter (get_or s i 0) ≡ false
-      → is_one_of word (runs_from (part a i s) (drop i s))
-      ≡ (same_bytes word (part a i s) || is_one_of word (runs_from (part (i + 1) (i + 1) s) (drop (i + 1) s)))
-  unfolding runs_from
-  run_other n l t =
-      let z : i + 1 - (i + 1) ≡ 0 = omega arith in
-      rw (drop-cons s i 0 l, t, z, add-one i) (one_unless word (part a i s) (runs_from [] (drop (suc i) s)) n)
+onto_longer : (run : List ℕ) (b : ℕ) (parts : List (List ℕ)) → onto (run ++ b ∷ []) parts ≡ onto run (onto_first b parts)
+unfolding onto
+onto_longer run b [] = refl
+onto_longer run b (part ∷ parts) = ap (λ (r : List ℕ). r ∷ parts) (append_snoc run b part)
 
-  pub run_end : 0 < length word → length s ≤ i → is_one_of word (runs_from (part a i s) (drop i s)) ≡ same_bytes word (part a i s)
-  unfolding runs_from is_one_of
-  run_end n l = rw (drop_of_length-le s l) (one_unless word (part a i s) [] n ∙ or_none (same_bytes word (part a i s)))
-    where
-      or_none : (b : Bool) → (b || false) ≡ b
-      or_none true = refl
-      or_none false = refl
+onto_none : (word : List ℕ) (parts : List (List ℕ)) → 0 < length word → list_any (same_bytes word) (onto [] parts) ≡ list_any (same_bytes word) parts
+unfolding onto
+onto_none word [] n = rw (same_lengths word [] (λ e. omega arith))
+onto_none word (part ∷ parts) n = refl
+
+-- the parts between the bytes that are no letters
+abbrev pub letter_parts : List ℕ → List (List ℕ)
+letter_parts s = slice_split (λ b. not (is_letter b)) s
+
+-- the word is one of the runs where it is one of those parts
+split_runs : (word run s : List ℕ) → 0 < length word
+    → is_one_of word (runs_from run s) ≡ list_any (same_bytes word) (onto run (letter_parts s))
+unfolding runs_from onto is_one_of
+split_runs word run [] n = one_unless word run [] n ∙ rw (append-nil run)
+split_runs word run (b ∷ bs) n = go (is_letter b) (split_runs word (run ++ b ∷ []) bs n) (split_runs word [] bs n)
+  where
+    go : (l : Bool) → is_one_of word (runs_from (run ++ b ∷ []) bs) ≡ list_any (same_bytes word) (onto (run ++ b ∷ []) (letter_parts bs))
+        → is_one_of word (runs_from [] bs) ≡ list_any (same_bytes word) (onto [] (letter_parts bs))
+        → is_one_of word (cond l (runs_from (run ++ b ∷ []) bs) (unless_empty run (runs_from [] bs)))
+        ≡ list_any (same_bytes word) (onto run (cond (not l) ([] ∷ (letter_parts bs)) (onto_first b (letter_parts bs))))
+    go true longer next = longer ∙ ap (list_any (same_bytes word)) (onto_longer run b (letter_parts bs))
+    go false longer next =
+        one_unless word run (runs_from [] bs) n
+        ∙ rw (append-nil run) (ap (λ (t : Bool). same_bytes word run || t) (next ∙ onto_none word (letter_parts bs) n))
+
+pub has_run-split : (word s : List ℕ) → 0 < length word → list_any (same_bytes word) (letter_parts s) ≡ has_run word s
+unfolding has_run
+has_run-split word s n = sym (split_runs word [] s n ∙ onto_none word (letter_parts s) n)
 
 -- a run that is the word, and the bytes behind it
 contains_run : (word run s : List ℕ) → 0 < length word → same_bytes word run ≡ true → contains word (run ++ s) ≡ true
@@ -179,28 +217,6 @@ not_contained word s n f = go (is_one_of word (runs_from [] s)) refl
     go : (b : Bool) → is_one_of word (runs_from [] s) ≡ b → b ≡ false
     go true e = sym (run_contained word [] s n e) ∙ f
     go false e = refl
-
--- the run's start behind the byte at i
-pub start_within : (b : Bool) (a i : ℕ) → a ≤ i → cond b a (i + 1) ≤ i + 1
-start_within true a i h = omega arith
-start_within false a i h = omega arith
-
-module _ (word s : List ℕ) (a i : ℕ) (n : 0 < length word) (h : a ≤ i) (l : i < length s) where
-  -- the word is the run that ends here
-  pub run_found : (b e : Bool) → b ≡ is_letter (get_or s i 0) → e ≡ same_bytes word (part a i s) → (e && not b) ≡ true
-      → is_one_of word (runs_from (part a i s) (drop i s)) ≡ true
-  run_found true true t u v = cc
-  run_found true false t u v = cc
-  run_found false true t u v = run_other word s a i n l (sym t) ∙ (rw (← u))
-  run_found false false t u v = cc
-
-  -- it isn't
-  pub run_next : (b e : Bool) → b ≡ is_letter (get_or s i 0) → e ≡ same_bytes word (part a i s) → (e && not b) ≡ false
-      → is_one_of word (runs_from (part a i s) (drop i s))
-      ≡ is_one_of word (runs_from (part (cond b a (i + 1)) (i + 1) s) (drop (i + 1) s))
-  run_next true e t u v = run_letter word s a i h l (sym t)
-  run_next false true t u v = cc
-  run_next false false t u v = run_other word s a i n l (sym t) ∙ (rw (← u))
 
 -- ---- a text contained in a part
 

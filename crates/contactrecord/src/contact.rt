@@ -44,14 +44,10 @@ fn is_telephone(s: &[u8]) -> bool
 fn is_extension(s: &[u8]) -> bool
     ensures { result ≡ is_extension s.now }
 {
-    let mut i: usize = 0;
-    while i < s.len() {
-        if !characters::is_digit(s[i]) {
-            return fields::is_blank(&s[i..]);
-        }
-        i += 1;
+    match s.iter().position(|b| !characters::is_digit(*b)) {
+        Some(digits) => fields::is_blank(&s[digits..]),
+        None => true,
     }
-    true
 }
 
 // Whether the telephone numbers and extensions are right.

@@ -2,19 +2,24 @@
 use mathlib.Core.Path.{◌≡◌, refl, sym, ap, ◌∙◌}
 use mathlib.Core.Bool.{Bool, true, false, cond}
 use mathlib.Core.List.{List, [], ◌∷◌, ◌++◌, append_assoc, append-nil}
-use Prim.Native.Nat.{ℕ, ◌+◌, ◌*◌, ◌≤◌, ◌<◌}
+use Prim.Native.Nat.{ℕ, suc, ◌+◌, ◌*◌, ◌≤◌, ◌<◌}
 use native.Mathlib.Omega.{arith}
 use lib.ListN.{length, take, drop, length-append, length-take, length-drop, take-append-drop}
 use lib.Seq.{drop-drop, length-take-le}
 use borrow.Author.Tests.{le-ltb, lt-ltb}
+use Rattle.std.specs.List.{filter}
+use Rattle.answers.specs.Refusal.{refusal_number_of}
+use Rattle.answers.specs.declared.refusal.Refusal.{Refusal}
+use Rattle.answers.specs.declared.refusal.Refusal.TheVariants.{WrongState, WrongContacts, ShortContacts}
+use Rattle.answers.proofs.AnswerLaws.{outcome_done}
+use Rattle.answers.proofs.RefusalLaws.{outcome_err}
+use Rattle.std.specs.Prelude.{Ok, Err}
 use Rattle.text.specs.Blocks.{joined, spliced, over}
 use Rattle.layout.specs.States.{is_state}
 use Rattle.text.proofs.SplicedLaws.{length-spliced, take_through, drop-spliced}
 use Rattle.contactrecord.specs.ChartA3.{contact_code}
 use Rattle.contacttable.specs.Table.{contacts_of, is_wrong_table}
 use Rattle.contacttable.specs.Codes.{is_local_of, local_codes, codes_refusal, codes_as, codes_run, codes_outcome}
-use Rattle.answers.proofs.AnswerLaws.{outcome_refused, outcome_done}
-use Rattle.contacttable.specs.declared.codes.Codes.TheVariants.{Done, Refused}
 use Rattle.contacttable.proofs.TableLaws.{contact_at, contacts_next, contacts_end}
 use Rattle.text.proofs.WidthLaws.{joined-append}
 
@@ -23,13 +28,6 @@ use Rattle.text.proofs.WidthLaws.{joined-append}
 pub one_code : (state rec : List ℕ) → local_codes state (rec ∷ []) ≡ cond (is_local_of state rec) (contact_code rec ∷ []) []
 unfolding local_codes
 one_code state rec = append-nil (cond (is_local_of state rec) (contact_code rec ∷ []) [])
-
-pub one_length : (state rec : List ℕ) → length (local_codes state (rec ∷ [])) ≡ cond (is_local_of state rec) 1 0
-one_length state rec = rw (one_code state rec) (go (is_local_of state rec))
-  where
-    go : (b : Bool) → length (cond b (contact_code rec ∷ []) []) ≡ cond b 1 0
-    go true = refl
-    go false = refl
 
 one_wide : (state rec : List ℕ) → length rec ≡ 220 → length (joined (local_codes state (rec ∷ []))) ≡ length (local_codes state (rec ∷ [])) * 3
 unfolding joined
@@ -50,11 +48,17 @@ module _ (state : List ℕ) (n : ℕ) (m : List ℕ) (i : ℕ) where
   unfolding local_codes
   codes_end h = rw (contacts_end n m i h)
 
-  pub count_step : i < n
-      → length (local_codes state (drop i (contacts_of n m))) ≡ cond (is_local_of state (contact_at m i)) 1 0 + length (local_codes state (drop (i + 1) (contacts_of n m)))
-  count_step h =
-      ap length (codes-next h) ∙ length-append (local_codes state (contact_at m i ∷ [])) (local_codes state (drop (i + 1) (contacts_of n m)))
-      ∙ ap (λ (z : ℕ). z + length (local_codes state (drop (i + 1) (contacts_of n m)))) (one_length state (contact_at m i))
+-- as many codes as records of the state with one
+pub count_local : (state : List ℕ) (table : List (List ℕ)) → length (filter (is_local_of state) table) ≡ length (local_codes state table)
+unfolding local_codes
+count_local state [] = refl
+count_local state (rec ∷ table) = go (is_local_of state rec) (count_local state table)
+  where
+    go : (b : Bool) → length (filter (is_local_of state) table) ≡ length (local_codes state table)
+        → length (cond b (rec ∷ filter (is_local_of state) table) (filter (is_local_of state) table))
+        ≡ length (cond b (contact_code rec ∷ []) [] ++ local_codes state table)
+    go true h = ap suc h
+    go false h = h
 
 -- ---- codes written
 
@@ -117,29 +121,28 @@ codes_done state n m before after k i g h space =
 -- ---- the outcome
 
 module _ (table : List ℕ) (count : ℕ) (state out : List ℕ) where
-  codes_refused : (code : ℕ) → codes_refusal table count state out ≡ code → (code ≡ 0 → ⊥) → codes_as (Refused code) out ≡ codes_outcome table count state out
+  codes_refused : (r : Refusal) → codes_refusal table count state out ≡ refusal_number_of r → codes_as (Err r) out ≡ codes_outcome table count state out
   unfolding codes_outcome
-  codes_refused code e h = outcome_refused _ out (codes_run table count state out) code (sym e) h
+  codes_refused r e = outcome_err _ out (codes_run table count state out) r (sym e)
 
-  pub codes_18 : is_wrong_table table count ≡ true → codes_as (Refused 18) out ≡ codes_outcome table count state out
+  pub codes_18 : is_wrong_table table count ≡ true → codes_as (Err WrongContacts) out ≡ codes_outcome table count state out
   unfolding codes_refusal
-  codes_18 t = codes_refused 18 (rw t) (λ z. omega arith)
+  codes_18 t = codes_refused WrongContacts (rw t)
 
   module _ (t : is_wrong_table table count ≡ false) where
-    pub codes_12 : is_state state ≡ false → codes_as (Refused 12) out ≡ codes_outcome table count state out
+    pub codes_12 : is_state state ≡ false → codes_as (Err WrongState) out ≡ codes_outcome table count state out
     unfolding codes_refusal
-    codes_12 s = codes_refused 12 (rw (t, s)) (λ z. omega arith)
+    codes_12 s = codes_refused WrongState (rw (t, s))
 
     module _ (s : is_state state ≡ true) where
       pub codes_19 : length out < length (local_codes state (contacts_of count table)) * 3
-          → codes_as (Refused 19) out ≡ codes_outcome table count state out
+          → codes_as (Err ShortContacts) out ≡ codes_outcome table count state out
       unfolding codes_refusal
-      codes_19 l =
-          codes_refused 19 (rw (t, s, lt-ltb (length out) (length (local_codes state (contacts_of count table)) * 3) l)) (λ z. omega arith)
+      codes_19 l = codes_refused ShortContacts (rw (t, s, lt-ltb (length out) (length (local_codes state (contacts_of count table)) * 3) l))
 
       pub codes_carried : length (local_codes state (contacts_of count table)) * 3 ≤ length out → (n : ℕ) (after : List ℕ)
           → n ≡ length (local_codes state (contacts_of count table)) → after ≡ over (joined (local_codes state (contacts_of count table))) out
-          → codes_as (Done n) after ≡ codes_outcome table count state out
+          → codes_as (Ok n) after ≡ codes_outcome table count state out
       unfolding codes_outcome codes_refusal
       codes_carried l n after en ea =
           rw (en, ea)

@@ -2,28 +2,28 @@
 use mathlib.Core.Path.{◌≡◌}
 use mathlib.Core.Bool.{true, false, not, ◌||◌}
 use mathlib.Core.List.{List, [], ◌∷◌, map}
-use Prim.Native.Nat.{ℕ, ◌+◌, ◌-◌, ◌*◌, ◌/◌, ◌%◌, ◌≤◌, ◌<◌}
+use Prim.Native.Nat.{ℕ, ◌+◌, ◌*◌, ◌/◌, ◌%◌, ◌≤◌, ◌<◌}
 use native.Mathlib.Omega.{arith}
 use lib.Dec.{eqb, ltb}
 use lib.ListN.{length, take, drop, length-take, length-drop, drop_of_length-le}
 use borrow.Author.Tests.{eqb-true, ltb-false, not-false, not-true}
 use Rattle.text.specs.Fields.{every}
 use Rattle.text.specs.ByteOrder.{rising}
-use Rattle.text.proofs.BlocksLaws.{blocks-next, length-blocks, part_width}
+use Rattle.text.proofs.BlocksLaws.{blocks-next, length-blocks}
 use Rattle.text.proofs.BoolLaws.{or_left, or_right}
 use Rattle.text.proofs.FieldsLaws.{and_left, and_right, every_drop}
 use Rattle.contactrecord.specs.ChartA3.{contact_key}
 use Rattle.contactrecord.specs.Contact.{is_faulty}
 use Rattle.contacttable.specs.Table.{contacts_of, is_table, is_wrong_table}
 
--- ---- the record at i of n, as code cuts it out
+-- ---- the record at i of n
 
 abbrev pub contact_at : List ℕ → ℕ → List ℕ
-contact_at bytes i = take (i * 220 + 220 - i * 220) (drop (i * 220) bytes)
+contact_at bytes i = take 220 (drop (i * 220) bytes)
 
 module _ (n : ℕ) (bytes : List ℕ) (i : ℕ) where
   pub contacts_next : i < n → drop i (contacts_of n bytes) ≡ contact_at bytes i ∷ drop (i + 1) (contacts_of n bytes)
-  contacts_next h = rw (part_width 220 bytes (i * 220)) (blocks-next 220 n bytes i h)
+  contacts_next = blocks-next 220 n bytes i
 
   pub contacts_end : n ≤ i → drop i (contacts_of n bytes) ≡ []
   contacts_end h = drop_of_length-le (contacts_of n bytes) {i = i} (rw (length-blocks 220 n bytes) h)

@@ -1,14 +1,14 @@
 -- Document 02, item 4: the codes of one state but 000, three bytes each and rising, or a refusal. Assumes nothing.
-use Rattle.std.specs.Prelude.{ℕ, ◌*◌, List, [], ◌∷◌, ◌++◌, Bool, not, cond, ◌&&◌, length, ltb}
+use Rattle.std.specs.Prelude.{ℕ, ◌*◌, List, [], ◌∷◌, ◌++◌, Bool, not, cond, ◌&&◌, length, ltb, Result}
 use Rattle.text.specs.Fields.{same_bytes}
 use Rattle.text.specs.Blocks.{joined, over}
 use Rattle.layout.specs.States.{is_state}
 use Rattle.layout.specs.Locals.{zero_local_code}
-use Rattle.answers.specs.Answer.{refuse_if, Answer, refused, done, Outcome, Run, outcome_by}
+use Rattle.answers.specs.Answer.{refuse_if, Answer, Outcome, Run, outcome_by}
+use Rattle.answers.specs.Refusal.{answer_in}
+use Rattle.answers.specs.declared.refusal.Refusal.{Refusal}
 use Rattle.contactrecord.specs.ChartA3.{contact_state, contact_code}
 use Rattle.contacttable.specs.Table.{contacts_of, is_wrong_table}
-use Rattle.contacttable.specs.declared.codes.Codes.{Codes}
-use Rattle.contacttable.specs.declared.codes.Codes.TheVariants.{Done, Refused}
 
 -- a record of the state with a code other than 000, which is the state's own
 unfoldable pub is_local_of : List ℕ → List ℕ → Bool
@@ -27,15 +27,14 @@ codes_refusal table count state out =
     (refuse_if (ltb (length out) (length (local_codes state (contacts_of count table)) * 3)) 19 0))
 
 -- the answer counts the codes, or is a refusal's number
-abbrev pub codes_answer : Codes → Answer ℕ
-codes_answer (Done n) = done n
-codes_answer (Refused n) = refused n
+abbrev pub codes_answer : Result ℕ Refusal → Answer ℕ
+codes_answer r = answer_in (λ n. n) r
 
 abbrev pub CodesOutcome : Type 0
 CodesOutcome = Outcome ℕ (List ℕ)
 
 -- the answer of the call and the output that it leaves
-abbrev pub codes_as : Codes → List ℕ → CodesOutcome
+abbrev pub codes_as : Result ℕ Refusal → List ℕ → CodesOutcome
 codes_as answer out = record { answer = codes_answer answer; buffers = out }
 
 -- bytes behind the codes are kept

@@ -5,17 +5,11 @@ ghost use Rattle.contacttable.specs.Table.{contacts_of};
 ghost use Rattle.contacttable.specs.Codes.{is_local_of, local_codes, codes_as, codes_outcome};
 
 use crate::table;
+use answers::refusal::Refusal;
 use contactrecord::chart_a3;
 use contactrecord::chart_a3::CONTACT_WIDTH;
 use layout::states;
-use text::{counting, fields};
-
-// The answer of the call: how many codes there are, or the number of the refusal.
-#[derive(Clone, Copy)]
-pub enum Codes {
-    Done(usize),
-    Refused(u64),
-}
+use text::fields;
 
 // Whether a record is of the state, with a code other than 000.
 fn is_local_of(rec: &[u8], state: &[u8]) -> bool
@@ -32,15 +26,10 @@ fn count_codes(m: &[u8], n: usize, state: &[u8]) -> usize
     requires { n * 220 ≤ length m.now }
     ensures { result ≡ length (local_codes state.now (contacts_of n m.now)) }
 {
-    let mut k: usize = 0;
-    let mut i: usize = 0;
-    while i < n {
-        let at = i * CONTACT_WIDTH;
-        let end = at + CONTACT_WIDTH;
-        k += counting::one_if(is_local_of(&m[at..end], state));
-        i += 1;
-    }
-    k
+    m[..n * CONTACT_WIDTH]
+        .chunks_exact(CONTACT_WIDTH)
+        .filter(|rec| is_local_of(rec, state))
+        .count()
 }
 
 // Writes the code of a record behind k codes where it is wanted, and returns how many there are.
@@ -62,29 +51,25 @@ fn put_codes(out: &mut [u8], m: &[u8], n: usize, state: &[u8])
     ensures { out.new ≡ over (joined (local_codes state.now (contacts_of n m.now))) out.old }
 {
     let mut k: usize = 0;
-    let mut i: usize = 0;
-    while i < n {
-        let at = i * CONTACT_WIDTH;
-        let end = at + CONTACT_WIDTH;
-        k = put_code(out, k, &m[at..end], state);
-        i += 1;
+    for rec in m[..n * CONTACT_WIDTH].chunks_exact(CONTACT_WIDTH) {
+        k = put_code(out, k, rec, state);
     }
 }
 
-// Writes the codes of one state but 000, three bytes each and rising, or refuses.
-pub fn codes_of(table: &[u8], count: usize, state: &[u8], out: &mut [u8]) -> Codes
+// Writes the codes of one state but 000, three bytes each and rising, and answers how many there are, or refuses.
+pub fn codes_of(table: &[u8], count: usize, state: &[u8], out: &mut [u8]) -> Result<usize, Refusal>
     ensures { codes_as result out.new ≡ codes_outcome table.now count state.now out.old }
 {
     if table::is_wrong_table(table, count) {
-        return Codes::Refused(18);
+        return Err(Refusal::WrongContacts);
     }
     if !states::is_state(state) {
-        return Codes::Refused(12);
+        return Err(Refusal::WrongState);
     }
     let n = count_codes(table, count, state);
     if out.len() / 3 < n {
-        return Codes::Refused(19);
+        return Err(Refusal::ShortContacts);
     }
     put_codes(out, table, count, state);
-    Codes::Done(n)
+    Ok(n)
 }

@@ -13,16 +13,9 @@ fn are_good(m: &[u8], n: usize) -> bool
     requires { n * 220 ≤ length m.now }
     ensures { result ≡ every (λ rec. not (is_faulty rec)) (contacts_of n m.now) }
 {
-    let mut i: usize = 0;
-    while i < n {
-        let at = i * CONTACT_WIDTH;
-        let end = at + CONTACT_WIDTH;
-        if contact::is_faulty(&m[at..end]) {
-            return false;
-        }
-        i += 1;
-    }
-    true
+    m[..n * CONTACT_WIDTH]
+        .chunks_exact(CONTACT_WIDTH)
+        .all(|rec| !contact::is_faulty(rec))
 }
 
 // Whether the first n records are a table: none faulty, strictly rising by state and code.
@@ -30,10 +23,7 @@ fn is_table(m: &[u8], n: usize) -> bool
     requires { n * 220 ≤ length m.now }
     ensures { result ≡ is_table (contacts_of n m.now) }
 {
-    if are_good(m, n) {
-        return byte_order::is_rising(m, n, CONTACT_WIDTH, 5);
-    }
-    false
+    are_good(m, n) && byte_order::is_rising(m, n, CONTACT_WIDTH, 5)
 }
 
 // Whether refusal 18 holds of a table of `count` records.

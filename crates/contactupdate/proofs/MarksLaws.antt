@@ -3,19 +3,20 @@
 use Rattle.text.specs.Options.{one_or_none}
 use Rattle.contacttable.proofs.TableLaws.{contact_at, contacts_next, contacts_end}
 use mathlib.Core.Path.{◌≡◌, refl, sym, ◌∙◌}
-use mathlib.Core.Bool.{true, cond}
+use mathlib.Core.Bool.{Bool, true, false, not, ◌||◌, cond}
 use mathlib.Core.List.{List, [], ◌∷◌}
 use mathlib.Core.Option.{Option, none, some}
-use Prim.Native.Nat.{ℕ, suc, ◌+◌, ◌-◌, ◌≤◌, ◌<◌}
+use Prim.Native.Nat.{ℕ, zero, suc, ◌+◌, ◌-◌, ◌≤◌, ◌<◌}
 use native.Mathlib.Omega.{arith}
 use lib.Dec.{eqb}
 use lib.ListN.{length, get_or, set, drop, length-set}
 use lib.Seq.{get_or-set_same, get_or-set_other}
 use borrow.Author.Tests.{eq-eqb, ne_eqb}
+use Rattle.std.specs.List.{filter}
 use Rattle.contactrecord.specs.Contact.{is_contact_key}
 use Rattle.contacttable.specs.Table.{contacts_of, is_table}
 use Rattle.contactupdate.specs.KeyNumbers.{key_number, held_in}
-use Rattle.contactupdate.specs.Marks.{keys_marked, lacking_in, Flagged}
+use Rattle.contactupdate.specs.Marks.{keys_marked, is_lacking, lacking_in, Flagged}
 use Rattle.contactupdate.proofs.KeyNumberLaws.{key_number_below}
 use Rattle.contactupdate.proofs.SpreadLaws.{Risen, risen_table}
 use Rattle.text.proofs.ByteOrderLaws.{Heads, lower, upper, same, heads}
@@ -32,15 +33,18 @@ module _ (n : ℕ) (bytes : List ℕ) (i : ℕ) (held : List ℕ) where
   unfolding keys_marked
   marked_end h = rw (contacts_end n bytes i h)
 
-  pub lacking-next : i < n → lacking_in held (drop i (contacts_of n bytes))
-      ≡ cond (is_contact_key (contact_at bytes i)) (1 - get_or held (key_number (contact_at bytes i)) 0) 1
-      + lacking_in held (drop (i + 1) (contacts_of n bytes))
-  unfolding lacking_in
-  lacking-next h = rw (contacts_next n bytes i h)
-
-  pub lacking_end : n ≤ i → lacking_in held (drop i (contacts_of n bytes)) ≡ 0
-  unfolding lacking_in
-  lacking_end h = rw (contacts_end n bytes i h)
+-- the records whose key isn't marked, counted
+pub count_lacks : (held : List ℕ) → ((j : ℕ) → get_or held j 0 ≤ 1) → (file : List (List ℕ)) → length (filter (is_lacking held) file) ≡ lacking_in held file
+unfolding lacking_in
+count_lacks held h [] = refl
+count_lacks held h (rec ∷ file) = go (is_contact_key rec) (get_or held (key_number rec) 0) (h (key_number rec)) (count_lacks held h file)
+  where
+    go : (key : Bool) (mark : ℕ) → mark ≤ 1 → length (filter (is_lacking held) file) ≡ lacking_in held file
+        → length (cond (not key || eqb mark 0) (rec ∷ filter (is_lacking held) file) (filter (is_lacking held) file)) ≡ cond key (1 - mark) 1 + lacking_in held file
+    go false mark l e = omega (arith, e)
+    go true zero l e = omega (arith, e)
+    go true (suc zero) l e = omega (arith, e)
+    go true (suc (suc mark)) l e = absurd (omega arith)
 
 -- ---- marks
 

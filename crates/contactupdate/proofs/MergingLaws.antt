@@ -4,23 +4,24 @@ use Rattle.text.specs.Options.{one_or_none}
 use Rattle.text.proofs.WidthLaws.{joined-append}
 use Rattle.text.specs.Blocks.{over, blocks, joined, spliced}
 use borrow.Author.Tests.{eq-eqb, ne_eqb, eqb-false}
-use native.Mathlib.Numerals.{add-one}
 use mathlib.Core.Path.{◌≡◌, refl, sym, ap, ◌∙◌}
 use mathlib.Core.Bool.{Bool, true, false, cond}
 use mathlib.Core.List.{List, [], ◌∷◌, ◌++◌, append_assoc, append-nil}
 use mathlib.Core.Option.{Option, none, some}
 use Prim.Native.Nat.{ℕ, zero, suc, ◌+◌, ◌-◌, ◌*◌, ◌/◌, ◌≤◌, ◌<◌}
 use native.Mathlib.Omega.{arith}
-use lib.Dec.{eqb}
-use lib.ListN.{length, get_or, take, drop, length-append, length-take, length-drop}
-use lib.Seq.{take_at, drop_at, take-take, length-take-le, get_or_at}
+use lib.Dec.{eqb, eqb-suc-zero}
+use mir.Val.{bool_byte}
+use Rattle.std.specs.List.{filter, zip}
+use lib.ListN.{length, get_or, take, drop, length-append, length-take, length-drop, drop_of_length-le}
+use lib.Seq.{drop-cons, take_at, drop_at, take-take, length-take-le, get_or_at}
 use Rattle.text.proofs.BlocksLaws.{length-blocks, blocks_get, blocks_prefix, take-blocks}
 use Rattle.text.proofs.SplicedLaws.{length-spliced, take-spliced}
 use Rattle.contacttable.specs.Table.{contacts_of}
 use Rattle.contactupdate.specs.Update.{records_of}
 use Rattle.contactupdate.specs.KeyNumbers.{Held, spread, held_in}
 use Rattle.contactupdate.specs.Noting.{held_after}
-use Rattle.contactupdate.specs.Merging.{present_of, present_from, chosen, Ready, held_finally}
+use Rattle.contactupdate.specs.Merging.{is_present, present_of, present_from, chosen, Ready, held_finally}
 
 -- ---- what a key gets
 
@@ -32,6 +33,18 @@ module _ (held last : ℕ) where
   pub present_held : last ≡ 0 → present_of held last ≡ held
   unfolding present_of
   present_held h = rw (eq-eqb last 0 h)
+
+-- the code's test as a number
+pub present_bit : (held last : ℕ) (b : Bool) → b ≡ is_present held last → held ≤ 1 → bool_byte b ≡ present_of held last
+unfolding present_of
+present_bit held last b e l = rw e (go held last l)
+  where
+    go : (held last : ℕ) → held ≤ 1 → bool_byte (is_present held last) ≡ cond (eqb last 0) held 1
+    go zero zero l = refl
+    go zero (suc last) l = rw (eqb-suc-zero last)
+    go (suc zero) zero l = refl
+    go (suc zero) (suc last) l = rw (eqb-suc-zero last)
+    go (suc (suc held)) last l = absurd (omega arith)
 
 module _ (file table : List ℕ) (held last o : ℕ) where
   pub chosen-file : (last ≡ 0 → ⊥) → chosen file table held last o ≡ take 220 (drop ((last - 1) * 220) file)
@@ -49,14 +62,27 @@ module _ (file table : List ℕ) (held last o : ℕ) where
 -- ---- how many keys have a record
 
 module _ (held lasts : List ℕ) where
-  pub present_next : (n k : ℕ) → k < n
-      → present_from k (n - k) held lasts ≡ present_of (get_or held k 0) (get_or lasts k 0) + present_from (k + 1) (n - (k + 1)) held lasts
-  unfolding present_from
-  present_next n k h = let e : n - k ≡ suc (n - (k + 1)) = omega arith in rw (e, add-one k)
-
-  pub present_end : (n k : ℕ) → n ≤ k → present_from k (n - k) held lasts ≡ 0
-  unfolding present_from
-  present_end n k h = let e : n - k ≡ 0 = omega arith in rw e
+  -- the keys from k on that have a record, counted
+  pub present_zip : (d k : ℕ) → k + d ≡ length held → length held ≡ length lasts → ((j : ℕ) → get_or held j 0 ≤ 1)
+      → length (filter (λ (p : ℕ × ℕ). is_present p.0 p.1) (zip (drop k held) (drop k lasts))) ≡ present_from k d held lasts
+  unfolding present_from present_of
+  present_zip zero k e w h = rw (drop_of_length-le held {i = k} (omega arith))
+  present_zip (suc d) k e w h =
+      let i : k < length held = omega arith in
+      let j : k < length lasts = omega arith in
+      rw (drop-cons held k 0 i, drop-cons lasts k 0 j)
+      (go (get_or held k 0) (get_or lasts k 0) (h k) (present_zip d (suc k) (omega arith) w h))
+    where
+      go : (mark last : ℕ) → mark ≤ 1
+          → length (filter (λ (p : ℕ × ℕ). is_present p.0 p.1) (zip (drop (suc k) held) (drop (suc k) lasts))) ≡ present_from (suc k) d held lasts
+          → length (cond (is_present mark last) ((mark, last) ∷ filter (λ (p : ℕ × ℕ). is_present p.0 p.1) (zip (drop (suc k) held) (drop (suc k) lasts)))
+          (filter (λ (p : ℕ × ℕ). is_present p.0 p.1) (zip (drop (suc k) held) (drop (suc k) lasts))))
+          ≡ cond (eqb last 0) mark 1 + present_from (suc k) d held lasts
+      go zero zero l r = omega (arith, r)
+      go zero (suc last) l r = rw (eqb-suc-zero last) (omega (arith, r))
+      go (suc zero) zero l r = omega (arith, r)
+      go (suc zero) (suc last) l r = rw (eqb-suc-zero last) (omega (arith, r))
+      go (suc (suc mark)) last l r = absurd (omega arith)
 
 -- ---- what is spread, from its end
 

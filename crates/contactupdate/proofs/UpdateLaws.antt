@@ -7,17 +7,21 @@ use native.Mathlib.Omega.{arith}
 use lib.Dec.{eqb, ltb}
 use lib.ListN.{length, replicate, length-replicate}
 use borrow.Author.Tests.{le-ltb, lt-ltb, ltb-false}
+use Rattle.answers.specs.Refusal.{refusal_number_of}
+use Rattle.answers.specs.declared.refusal.Refusal.{Refusal}
+use Rattle.answers.specs.declared.refusal.Refusal.TheVariants.{WrongContacts, ShortContacts}
+use Rattle.answers.proofs.AnswerLaws.{outcome_done}
+use Rattle.answers.proofs.RefusalLaws.{outcome_err}
+use Rattle.std.specs.Prelude.{Ok, Err}
 use Rattle.text.specs.Blocks.{joined, over}
 use Rattle.text.proofs.BoolLaws.{or_right}
 use Rattle.layout.specs.Limits.{max_rows}
 use Rattle.contacttable.specs.Table.{contacts_of, is_wrong_table}
 use Rattle.contacttable.proofs.TableLaws.{right_table}
 use Rattle.contactupdate.specs.Update.{faulty_from, is_wrong_file, records_of, lacking, refusal19, update_refusal, updated_as, new_table, update_run, update_outcome}
-use Rattle.answers.proofs.AnswerLaws.{outcome_refused, outcome_done}
 use Rattle.contactupdate.specs.Marks.{keys_marked, lacking_in, Flagged}
 use Rattle.contactupdate.specs.Merging.{Passed}
 use Rattle.contactupdate.specs.declared.update.Updated.{Updated}
-use Rattle.contactupdate.specs.declared.update.Updated.TheVariants.{Done, Refused}
 use Rattle.text.proofs.ZerosLaws.{zeros_get}
 use Rattle.contactupdate.proofs.MarksLaws.{flagged}
 use Rattle.contactupdate.proofs.LackingLaws.{lacking_is}
@@ -35,25 +39,25 @@ file_few limit file f =
     ltb-false limit (length file / 220) (or_right (not (eqb (length file % 220) 0)) (ltb limit (length file / 220)) f)
 
 module _ (limit : ℕ) (table : List ℕ) (count : ℕ) (file faulty : List ℕ) where
-  update_refused : (code : ℕ) → update_refusal limit table count file faulty ≡ code → (code ≡ 0 → ⊥)
-      → updated_as (Refused code) table faulty ≡ update_outcome limit table count file faulty
+  update_refused : (r : Refusal) → update_refusal limit table count file faulty ≡ refusal_number_of r
+      → updated_as (Err r) table faulty ≡ update_outcome limit table count file faulty
   unfolding update_outcome
-  update_refused code e h = outcome_refused _ (record { table = table; faulty = faulty }) (update_run table count file faulty) code (sym e) h
+  update_refused r e = outcome_err _ (record { table = table; faulty = faulty }) (update_run table count file faulty) r (sym e)
 
-  pub outcome_file : is_wrong_file limit file ≡ true → updated_as (Refused 18) table faulty ≡ update_outcome limit table count file faulty
+  pub outcome_file : is_wrong_file limit file ≡ true → updated_as (Err WrongContacts) table faulty ≡ update_outcome limit table count file faulty
   unfolding update_refusal
-  outcome_file f = update_refused 18 (rw f) (λ z. omega arith)
+  outcome_file f = update_refused WrongContacts (rw f)
 
-  pub outcome_table : is_wrong_table table count ≡ true → updated_as (Refused 18) table faulty ≡ update_outcome limit table count file faulty
+  pub outcome_table : is_wrong_table table count ≡ true → updated_as (Err WrongContacts) table faulty ≡ update_outcome limit table count file faulty
   unfolding update_refusal
-  outcome_table t = update_refused 18 (rw (t, or-true (is_wrong_file limit file))) (λ z. omega arith)
+  outcome_table t = update_refused WrongContacts (rw (t, or-true (is_wrong_file limit file)))
 
   module _ (f : is_wrong_file limit file ≡ false) (t : is_wrong_table table count ≡ false) where
-    outcome_19 : refusal19 table count file faulty ≡ true → updated_as (Refused 19) table faulty ≡ update_outcome limit table count file faulty
+    outcome_19 : refusal19 table count file faulty ≡ true → updated_as (Err ShortContacts) table faulty ≡ update_outcome limit table count file faulty
     unfolding update_refusal
-    outcome_19 s = update_refused 19 (rw (f, t, s)) (λ z. omega arith)
+    outcome_19 s = update_refused ShortContacts (rw (f, t, s))
 
-    pub outcome_list : length faulty < length file / 220 → updated_as (Refused 19) table faulty ≡ update_outcome limit table count file faulty
+    pub outcome_list : length faulty < length file / 220 → updated_as (Err ShortContacts) table faulty ≡ update_outcome limit table count file faulty
     unfolding refusal19
     outcome_list h =
         outcome_19
@@ -65,7 +69,7 @@ module _ (limit : ℕ) (table : List ℕ) (count : ℕ) (file faulty : List ℕ)
       lacks = lacking_is (contacts_of count table) held (right_table table count t).table g (records_of file)
 
       pub outcome_space : length table / 220 - count < lacking_in held (records_of file)
-          → updated_as (Refused 19) table faulty ≡ update_outcome limit table count file faulty
+          → updated_as (Err ShortContacts) table faulty ≡ update_outcome limit table count file faulty
       unfolding refusal19
       outcome_space h =
           outcome_19
@@ -84,13 +88,13 @@ module _ (limit : ℕ) (table : List ℕ) (count : ℕ) (file faulty : List ℕ)
             }
 
         pub update_done : (r : Updated) (after numbers : List ℕ)
-            → r ≡ Done (length (new_table table count file)) (length (faulty_from 1 (records_of file)))
+            → r.records ≡ length (new_table table count file) → r.listed ≡ length (faulty_from 1 (records_of file))
             → after ≡ over (joined (new_table table count file)) table → numbers ≡ over (faulty_from 1 (records_of file)) faulty
-            → updated_as r after numbers ≡ update_outcome limit table count file faulty
+            → updated_as (Ok r) after numbers ≡ update_outcome limit table count file faulty
         unfolding update_outcome update_refusal refusal19
-        update_done r after numbers er ea en =
+        update_done r after numbers er el ea en =
             let q = (right_table table count t).few in
             let p = le-ltb (length table / 220) (count + lacking (contacts_of count table) (records_of file)) (omega (arith, lacks)) in
-            rw (er, ea, en)
+            rw (er, el, ea, en)
             (outcome_done (update_refusal limit table count file faulty) (record { table = table; faulty = faulty }) (update_run table count file faulty)
             (rw (f, t, p, le-ltb (length faulty) (length file / 220) l)))

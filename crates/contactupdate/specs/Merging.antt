@@ -1,6 +1,6 @@
 -- For the contracts of inner functions; no rule of the papers stands here.
 -- What a key has afterwards, by its mark and the number noted for it, and what is known when the table is merged. Assumes nothing.
-use Rattle.std.specs.Prelude.{ℕ, zero, suc, ◌+◌, ◌-◌, ◌*◌, ◌/◌, ◌≤◌, ◌<◌, ◌≡◌, List, [], true, cond, length, get_or, take, drop, eqb}
+use Rattle.std.specs.Prelude.{ℕ, zero, suc, ◌+◌, ◌-◌, ◌*◌, ◌/◌, ◌≤◌, ◌<◌, ◌≡◌, List, [], Bool, true, not, cond, ◌||◌, length, get_or, take, drop, eqb}
 use Rattle.text.specs.Options.{one_or_none}
 use Rattle.layout.specs.Limits.{max_rows}
 use Rattle.contacttable.specs.Table.{contacts_of, is_table}
@@ -9,7 +9,11 @@ use Rattle.contactupdate.specs.KeyNumbers.{Held, spread, held_in}
 use Rattle.contactupdate.specs.Marks.{lacking_in, Flagged}
 use Rattle.contactupdate.specs.Noting.{held_after}
 
--- 1 where a key has a record afterwards
+-- a key has a record afterwards
+abbrev pub is_present : ℕ → ℕ → Bool
+is_present held last = not (eqb held 0) || not (eqb last 0)
+
+-- 1 where it has, the mark being 0 or 1
 unfoldable pub present_of : ℕ → ℕ → ℕ
 present_of held last = cond (eqb last 0) held 1
 

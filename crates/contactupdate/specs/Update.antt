@@ -1,14 +1,15 @@
 -- Document 02, item 4: a contact file read into a table, each record in turn, or a refusal. Assumes nothing.
-use Rattle.std.specs.Prelude.{ℕ, ◌+◌, ◌/◌, ◌%◌, List, [], ◌∷◌, map, Bool, not, cond, ◌||◌, length, eqb, ltb}
+use Rattle.std.specs.Prelude.{ℕ, ◌+◌, ◌/◌, ◌%◌, List, [], ◌∷◌, map, Bool, not, cond, ◌||◌, length, eqb, ltb, Result}
 use Rattle.text.specs.Fields.{is_one_of}
 use Rattle.text.specs.Blocks.{joined, over}
 use Rattle.text.specs.ByteOrder.{with_block}
-use Rattle.answers.specs.Answer.{refuse_if, Answer, refused, done, Outcome, Run, outcome_by}
+use Rattle.answers.specs.Answer.{refuse_if, Answer, Outcome, Run, outcome_by}
+use Rattle.answers.specs.Refusal.{answer_in}
+use Rattle.answers.specs.declared.refusal.Refusal.{Refusal}
 use Rattle.contactrecord.specs.ChartA3.{contact_width, contact_key}
 use Rattle.contactrecord.specs.Contact.{is_faulty}
 use Rattle.contacttable.specs.Table.{contacts_of, is_wrong_table}
 use Rattle.contactupdate.specs.declared.update.Updated.{Updated}
-use Rattle.contactupdate.specs.declared.update.Updated.TheVariants.{Done, Refused}
 
 -- a record replaces whole the one of its state and code, its first five bytes, or else is added
 unfoldable pub with_contact : List ℕ → List (List ℕ) → List (List ℕ)
@@ -54,9 +55,8 @@ pub record UpdateResult : Type 0 where
   pub listed : ℕ
 
 -- what each answer of the call stands for
-abbrev pub update_answer : Updated → Answer UpdateResult
-update_answer (Done n f) = done (record { records = n; listed = f })
-update_answer (Refused n) = refused n
+abbrev pub update_answer : Result Updated Refusal → Answer UpdateResult
+update_answer r = answer_in (λ (u : Updated). record { records = u.records; listed = u.listed }) r
 
 -- the buffers that can be written: the table, and the list of faulty records' numbers
 pub record UpdateBuffers : Type 0 where
@@ -67,7 +67,7 @@ abbrev pub UpdateOutcome : Type 0
 UpdateOutcome = Outcome UpdateResult UpdateBuffers
 
 -- the answer of the call and the buffers that it leaves
-abbrev pub updated_as : Updated → List ℕ → List ℕ → UpdateOutcome
+abbrev pub updated_as : Result Updated Refusal → List ℕ → List ℕ → UpdateOutcome
 updated_as answer table faulty = record { answer = update_answer answer; buffers = record { table = table; faulty = faulty } }
 
 -- the table's records once the file is read

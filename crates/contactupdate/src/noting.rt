@@ -41,13 +41,12 @@ pub fn note_file(file: &[u8], n: usize, lasts: &mut [u32], faulty: &mut [u32]) -
         × (faulty.new ≡ over (faulty_from 1 (contacts_of n file.now)) faulty.old) }
 {
     let mut listed: usize = 0;
-    let mut i: usize = 0;
-    while i < n {
-        let at = i * CONTACT_WIDTH;
-        let end = at + CONTACT_WIDTH;
+    for (i, rec) in file[..n * CONTACT_WIDTH]
+        .chunks_exact(CONTACT_WIDTH)
+        .enumerate()
+    {
         let number = (i + 1) as u32;
-        listed = note_record(&file[at..end], number, lasts, faulty, listed);
-        i += 1;
+        listed = note_record(rec, number, lasts, faulty, listed);
     }
     listed
 }

@@ -3,18 +3,18 @@ use mathlib.Core.Path.{◌≡◌, refl, sym, ap, ◌∙◌}
 use mathlib.Core.Bool.{Bool, true, false, cond, ◌&&◌, or-true, false≢true}
 use mathlib.Core.List.{List, [], ◌∷◌, ◌++◌, append-nil, append_assoc}
 use mathlib.Core.Option.{none}
-use Prim.Native.Nat.{ℕ, zero, suc, ◌+◌, ◌-◌, ◌*◌, ◌/◌, ◌%◌, ◌≤◌, ◌<◌}
+use Prim.Native.Nat.{ℕ, zero, suc, ◌+◌, ◌*◌, ◌/◌, ◌%◌, ◌≤◌, ◌<◌}
 use native.Mathlib.Nat.{not-suc-le-zero, le_of_suc-le-suc}
 use native.Mathlib.Numerals.{add-one}
 use native.Mathlib.Omega.{arith}
-use borrow.Author.Tests.{ltb-true, ltb-false, leb-true, eqb-true, lt-ltb, le-leb, ne_eqb}
+use borrow.Author.Tests.{ltb-true, ltb-false, leb-true, eqb-true, lt-ltb, le-ltb, le-leb, ne_eqb}
 use lib.Bits.{bit_or}
 use lib.Dec.{eqb, leb, ltb}
-use lib.ListN.{length, get_or, take, drop, length-append, length-take, length-drop, drop_of_length-le}
-use lib.Seq.{drop-cons, drop-drop, take-add, get_or-drop}
+use lib.ListN.{length, get_or, take, drop, length-append, length-take, length-drop, drop_of_length-le, take-append-drop}
+use lib.Seq.{drop-cons, drop-drop, get_or-drop}
 use Rattle.text.specs.Characters.{A, comma, space, is_byte, within}
 use Rattle.text.specs.Fields.{every, is_blank, same_bytes, spaces, unless_empty}
-use Rattle.exclusionsets.specs.WordNumbers.{three_number, word_number}
+use Rattle.exclusionsets.specs.Words.{can_end}
 use Rattle.exclusionsets.specs.Exclusions.{exclusion_names, is_separator, words_from, place_among, bits_named, read_onto, names_shown, exclusion_columns}
 use Rattle.text.proofs.FieldsLaws.{and_left, and_right}
 use Rattle.text.proofs.SameLaws.{eq_same, same_eq}
@@ -87,13 +87,8 @@ unfolding words_from
 words_before word [] t h = blank-behind word t h
 words_before word (b ∷ s) t h = rw (words_before [] s t h, words_before (word ++ b ∷ []) s t h)
 
--- the words up to e are those up to a where what is between is blank
-pub words_shorter : (s : List ℕ) (a e : ℕ) → a ≤ e → is_blank (take (e - a) (drop a s)) ≡ true
-    → words_from [] (take a s) ≡ words_from [] (take e s)
-words_shorter s a e h t =
-    let n : a + (e - a) ≡ e = omega arith in
-    let p : take e s ≡ take a s ++ take (e - a) (drop a s) = rw n at (take-add a (e - a) s) in
-    rw p (sym (words_before [] (take a s) (take (e - a) (drop a s)) t))
+pub words_front : (s : List ℕ) (n : ℕ) → is_blank (drop n s) ≡ true → words_from [] (take n s) ≡ words_from [] s
+words_front s n t = sym (words_before [] (take n s) (drop n s) t) ∙ ap (words_from []) (take-append-drop n s)
 
 -- ---- the first word and the three bytes that a name has
 
@@ -128,16 +123,6 @@ first_none s i t = go (ltb i (length s)) refl
     go : (q : Bool) → ltb i (length s) ≡ q → first_word (drop i s) ≡ []
     go true e = rw (drop-cons s i space (ltb-true i (length s) e), t)
     go false e = rw (drop_of_length-le s (ltb-false i (length s) e))
-
-three_at_lem : (s : List ℕ) (i : ℕ) → i + 3 ≤ length s → drop i s ≡ get_or s i 0 ∷ get_or s (i + 1) 0 ∷ get_or s (i + 2) 0 ∷ drop (i + 3) s
-three_at_lem s i h =
-    next i (i + 1) (omega arith) (omega arith)
-    ∙ ap (λ (z : List ℕ). get_or s i 0 ∷ z)
-    (next (i + 1) (i + 2) (omega arith) (omega arith)
-    ∙ ap (λ (z : List ℕ). get_or s (i + 1) 0 ∷ z) (next (i + 2) (i + 3) (omega arith) (omega arith)))
-  where
-    next : (j m : ℕ) → suc j ≡ m → j < length s → drop j s ≡ get_or s j 0 ∷ drop m s
-    next j m e l = rw (drop-cons s j 0 l, e)
 
 -- ---- the eight names
 
@@ -203,109 +188,102 @@ every_at f (x ∷ l) (suc n) h t = every_at f l n (le_of_suc-le-suc h) (and_righ
 name_is_three : (n : ℕ) → n < 8 → Three (get_or exclusion_names n [])
 name_is_three n h = three (get_or exclusion_names n []) (every_at is_three exclusion_names n (omega (arith, names_length)) names_three)
 
--- ---- a word and a name as numbers
+-- ---- the place of a word among the names
+
+same_other : (a b : List ℕ) → (a ≡ b → ⊥) → same_bytes a b ≡ false
+same_other a b h = go (same_bytes a b) refl
+  where
+    go : (t : Bool) → same_bytes a b ≡ t → same_bytes a b ≡ false
+    go true e = absurd (h (same_eq a b e))
+    go false e = e
+
+-- letters among the names, name by name
+module _ (word : List ℕ) (n : ℕ) (h : n < 8) where
+  pub place_here : word ≡ get_or exclusion_names n [] → place_among word (drop n exclusion_names) ≡ 0
+  place_here e =
+      let k : n < length exclusion_names = omega (arith, names_length) in
+      rw (drop-cons exclusion_names n [] k, eq_same word (get_or exclusion_names n []) e)
+
+  pub place_next : (word ≡ get_or exclusion_names n [] → ⊥)
+      → place_among word (drop n exclusion_names) ≡ suc (place_among word (drop (n + 1) exclusion_names))
+  place_next f =
+      let k : n < length exclusion_names = omega (arith, names_length) in
+      rw (drop-cons exclusion_names n [] k, same_other word (get_or exclusion_names n []) f, add-one n)
+
+-- the word at its place
+place_found : (word : List ℕ) (names : List (List ℕ)) → place_among word names < length names → word ≡ get_or names (place_among word names) []
+place_found word [] h = absurd (not-suc-le-zero h)
+place_found word (name ∷ names) h = go (same_bytes word name) refl h (place_found word names)
+  where
+    go : (t : Bool) → same_bytes word name ≡ t → cond t 0 (suc (place_among word names)) < suc (length names)
+        → (place_among word names < length names → word ≡ get_or names (place_among word names) [])
+        → word ≡ get_or (name ∷ names) (cond t 0 (suc (place_among word names))) []
+    go true e h r = same_eq word name e
+    go false e h r = r (le_of_suc-le-suc h)
+
+-- one of the eight words has three letters
+named_three : (word : List ℕ) → place_among word exclusion_names < 8 → Three word
+named_three word h =
+    let e = place_found word exclusion_names (omega (arith, names_length)) in
+    rw e (name_is_three (place_among word exclusion_names) h)
+
+-- ---- the word at a place of a field
 
 no_separator : (b : ℕ) → A ≤ b → is_separator b ≡ false
 unfolding is_separator
 no_separator b h = rw (ne_eqb b comma (λ e. omega arith), ne_eqb b space (λ e. omega arith))
 
-module _ (s : List ℕ) (i x y z : ℕ) where
-  -- a name's number at i: the first word is the name
-  number_word : ((k : ℕ) → get_or s k 0 < 256) → Letter x → Letter y → Letter z
-      → word_number s i ≡ three_number x y z → first_word (drop i s) ≡ x ∷ y ∷ z ∷ []
-  number_word bytes p q r e = go (leb (i + 3) (length s)) refl (is_separator (get_or s (i + 3) space)) refl e
-    where
-      go : (t : Bool) → leb (i + 3) (length s) ≡ t → (u : Bool) → is_separator (get_or s (i + 3) space) ≡ u
-          → cond (t && u) (three_number (get_or s i 0) (get_or s (i + 1) 0) (get_or s (i + 2) 0)) 0 ≡ three_number x y z
-          → first_word (drop i s) ≡ x ∷ y ∷ z ∷ []
-      go false f u g e = absurd (omega (arith, e, p.0))
-      go true f false g e = absurd (omega (arith, e, p.0))
-      go true f true g e =
-          let k = bytes i in
-          let l = bytes (i + 1) in
-          let m = bytes (i + 2) in
-          let a : get_or s i 0 ≡ x = omega (arith, e, k, l, m, p.1, q.1, r.1) in
-          let b : get_or s (i + 1) 0 ≡ y = omega (arith, e, a, l, m, q.1, r.1) in
-          let c : get_or s (i + 2) 0 ≡ z = omega (arith, e, a, b) in
-          rw (three_at_lem s i (leb-true (i + 3) (length s) f), a, b, c, no_separator x p.0, no_separator y q.0, no_separator z r.0, first_none s (i + 3) g)
+module _ (s : List ℕ) (i : ℕ) where
+  -- three letters behind which a word can end are the word
+  three_here : (w : List ℕ) → w ≡ take 3 (drop i s) → Three w → can_end s (i + 3) ≡ true → first_word (drop i s) ≡ w
+  three_here w r t e =
+      let g = and_right (leb (i + 3) (length s)) (is_separator (get_or s (i + 3) space)) e in
+      let d : drop i s ≡ t.x ∷ t.y ∷ t.z ∷ drop (i + 3) s = sym (take-append-drop 3 (drop i s)) ∙ rw (← r, t.bytes, drop-drop 3 i s) in
+      rw (d, no_separator t.x t.first.0, no_separator t.y t.second.0, no_separator t.z t.third.0, first_none s (i + 3) g) (sym t.bytes)
 
-  -- the first word is a name: its number is at i
-  word_number_lem : first_word (drop i s) ≡ x ∷ y ∷ z ∷ [] → word_number s i ≡ three_number x y z
-  word_number_lem e =
-      let n : length (first_word (drop i s)) ≡ 3 = ap length e in
-      let h : i + 3 ≤ length s = omega (arith, n, first_within (drop i s), length-drop i s) in
-      let t : is_separator (get_or s (i + 3) space) ≡ true = rw (n, get_or-drop i s 3 space) at (first_stop (drop i s)) in
-      let w : get_or s i 0 ∷ get_or s (i + 1) 0 ∷ get_or s (i + 2) 0 ∷ [] ≡ x ∷ y ∷ z ∷ [] =
-      sym (ap (take 3) (three_at_lem s i h)) ∙ (rw n at (first_taken (drop i s))) ∙ e in
-      rw (le-leb (i + 3) (length s) h, t) (ap (λ (l : List ℕ). three_number (get_or l 0 0) (get_or l 1 0) (get_or l 2 0)) w)
+  -- one of the eight words ends behind three bytes
+  named_ends : place_among (first_word (drop i s)) exclusion_names < 8 → (can_end s (i + 3) ≡ true) × (take 3 (drop i s) ≡ first_word (drop i s))
+  named_ends h =
+      let t = named_three (first_word (drop i s)) h in
+      let n : length (first_word (drop i s)) ≡ 3 = ap length t.bytes in
+      let k : i + 3 ≤ length s = omega (arith, n, first_within (drop i s), length-drop i s) in
+      let g : is_separator (get_or s (i + 3) space) ≡ true = rw (n, get_or-drop i s 3 space) at (first_stop (drop i s)) in
+      (rw (le-leb (i + 3) (length s) k) g, rw n at (first_taken (drop i s)))
 
--- the number of the name at place n
-abbrev pub number_of_name : ℕ → ℕ
-number_of_name n = three_number (get_or (get_or exclusion_names n []) 0 0) (get_or (get_or exclusion_names n []) 1 0) (get_or (get_or exclusion_names n []) 2 0)
+  -- so three bytes behind which a word can end are the word where they are one of the eight, and else the word is none of them
+  pub named_word : (w : List ℕ) → w ≡ take 3 (drop i s) → can_end s (i + 3) ≡ true → place_among w exclusion_names < 8 → first_word (drop i s) ≡ w
+  named_word w r e h = three_here w r (named_three w h) e
 
-number-of_name : (n : ℕ) (t : Three (get_or exclusion_names n [])) → number_of_name n ≡ three_number t.x t.y t.z
-number-of_name n t = ap (λ (l : List ℕ). three_number (get_or l 0 0) (get_or l 1 0) (get_or l 2 0)) t.bytes
+  pub other_word : (w : List ℕ) → w ≡ take 3 (drop i s) → (place_among w exclusion_names < 8 → ⊥)
+      → place_among (first_word (drop i s)) exclusion_names < 8 → ⊥
+  other_word w r f h = f (rw (r ∙ (named_ends h).1) h)
 
--- read from the table
-pub table_number : {table : List (List ℕ)} → table ≡ exclusion_names → (n : ℕ)
-    → three_number (get_or (get_or table n []) 0 0) (get_or (get_or table n []) 1 0) (get_or (get_or table n []) 2 0) ≡ number_of_name n
-table_number e n = rw e
+  -- no word of the eight where none can end behind three bytes
+  pub none_named : (can_end s (i + 3) ≡ true → ⊥) → place_among (first_word (drop i s)) exclusion_names < 8 → ⊥
+  none_named f h = f (named_ends h).0
 
--- the word at i is the name at place n where they have one number
-module _ (s : List ℕ) (i n : ℕ) (h : n < 8) where
-  pub number_here : ((k : ℕ) → get_or s k 0 < 256) → number_of_name n ≡ word_number s i
-      → same_bytes (first_word (drop i s)) (get_or exclusion_names n []) ≡ true
-  number_here bytes e =
-      let t = name_is_three n h in
-      eq_same (first_word (drop i s)) (get_or exclusion_names n [])
-      (number_word s i t.x t.y t.z bytes t.first t.second t.third (sym e ∙ number-of_name n t) ∙ sym t.bytes)
-
-  pub number_other : (number_of_name n ≡ word_number s i → ⊥) → same_bytes (first_word (drop i s)) (get_or exclusion_names n []) ≡ false
-  number_other f = go (same_bytes (first_word (drop i s)) (get_or exclusion_names n [])) refl
-    where
-      go : (u : Bool) → same_bytes (first_word (drop i s)) (get_or exclusion_names n []) ≡ u
-          → same_bytes (first_word (drop i s)) (get_or exclusion_names n []) ≡ false
-      go true e =
-          let t = name_is_three n h in
-          let w = same_eq (first_word (drop i s)) (get_or exclusion_names n []) e ∙ t.bytes in
-          absurd (f (number-of_name n t ∙ sym (word_number_lem s i t.x t.y t.z w)))
-      go false e = e
-
-  -- the words behind it start behind its separator
-  pub name_behind : same_bytes (first_word (drop i s)) (get_or exclusion_names n []) ≡ true
+  -- the words behind one of the eight start behind its separator
+  name_behind : place_among (first_word (drop i s)) exclusion_names < 8
       → words_from [] (drop (length (first_word (drop i s))) (drop i s)) ≡ words_from [] (drop (i + 4) s)
-  name_behind e =
-      let t = name_is_three n h in
-      let l : length (first_word (drop i s)) ≡ 3 = ap length (same_eq (first_word (drop i s)) (get_or exclusion_names n []) e ∙ t.bytes) in
+  name_behind h =
+      let t = named_three (first_word (drop i s)) h in
+      let l : length (first_word (drop i s)) ≡ 3 = ap length t.bytes in
       let k : is_separator (get_or s (i + 3) space) ≡ true = rw (l, get_or-drop i s 3 space) at (first_stop (drop i s)) in
       let m : i + 3 + 1 ≡ i + 4 = omega arith in
       rw (l, drop-drop 3 i s) (word_behind s (i + 3) k ∙ rw m)
 
--- ---- the place of a word among the names
+  -- ---- the words read onto a set
 
-module _ (word : List ℕ) (n : ℕ) (h : n < 8) where
-  pub place_here : same_bytes word (get_or exclusion_names n []) ≡ true → place_among word (drop n exclusion_names) ≡ 0
-  place_here t = let k : n < length exclusion_names = omega (arith, names_length) in rw (drop-cons exclusion_names n [] k, t)
-
-  pub place_next : same_bytes word (get_or exclusion_names n []) ≡ false
-      → place_among word (drop n exclusion_names) ≡ suc (place_among word (drop (n + 1) exclusion_names))
-  place_next t =
-      let k : n < length exclusion_names = omega (arith, names_length) in rw (drop-cons exclusion_names n [] k, t, add-one n)
-
-pub place_end : (word : List ℕ) (n : ℕ) → n ≡ 8 → place_among word (drop n exclusion_names) ≡ 0
-unfolding exclusion_names
-place_end word n e = rw e
-
--- ---- the words read onto a set
-
-module _ (set : ℕ) (word : List ℕ) (words : List (List ℕ)) (n : ℕ) (e : place_among word exclusion_names ≡ n) where
-  pub read_word : n < 8 → read_onto set (word ∷ words) ≡ read_onto (bit_or set (bits_named n)) words
+  pub read_word : (set : ℕ) → i < length s → is_separator (get_or s i 0) ≡ false → place_among (first_word (drop i s)) exclusion_names < 8
+      → read_onto set (words_from [] (drop i s))
+      ≡ read_onto (bit_or set (bits_named (place_among (first_word (drop i s)) exclusion_names))) (words_from [] (drop (i + 4) s))
   unfolding read_onto
-  read_word h = rw (e, lt-ltb n 8 h)
+  read_word set h e k = rw (word_here s i h e, lt-ltb (place_among (first_word (drop i s)) exclusion_names) 8 k, name_behind k)
 
-  pub read_fails : n ≡ 8 → read_onto set (word ∷ words) ≡ none
+  pub read_fails : (set : ℕ) → i < length s → is_separator (get_or s i 0) ≡ false → (place_among (first_word (drop i s)) exclusion_names < 8 → ⊥)
+      → read_onto set (words_from [] (drop i s)) ≡ none
   unfolding read_onto
-  read_fails h = rw (e, h)
+  read_fails set h e k = rw (word_here s i h e, le-ltb (place_among (first_word (drop i s)) exclusion_names) 8 (omega arith))
 
 -- ---- the columns of a set
 

@@ -1,11 +1,10 @@
 -- Document 01, error 16: the exclusion words, and the set that they name; document 02, item 7: what ADM puts into it. Assumes nothing.
 use Rattle.std.specs.Prelude.{ℕ, zero, suc, ◌+◌, ◌/◌, ◌%◌, ◌^◌, List, [], ◌∷◌, ◌++◌, Bool, cond, ◌||◌, eqb, ltb}
 use Rattle.std.proofs.Math.Option.{Option, none, some}
+use Rattle.std.specs.Prelude as library
 use Rattle.std.specs.Int.Bits.{bit_or}
 use Rattle.text.specs.Characters.{comma, space, A, C, D, E, F, I, K, L, M, N, P, R, S, letter_t, letter_v, X}
 use Rattle.text.specs.Fields.{same_bytes, spaces, unless_empty}
-use Rattle.exclusionsets.specs.declared.exclusions.Exclusions.{Exclusions}
-use Rattle.exclusionsets.specs.declared.exclusions.Exclusions.TheVariants.{Set, Failure}
 
 -- the set's bits, lowest first: ADM RET VEN SAL TAX PAS FIN DCK
 unfoldable pub exclusion_names : List (List ℕ)
@@ -43,9 +42,9 @@ unfoldable pub exclusions_of : List ℕ → Option ℕ
 exclusions_of s = read_onto 0 (words_from [] s)
 
 -- what the answer of the reading stands for
-abbrev pub set_read : Exclusions → Option ℕ
-set_read (Set set) = some set
-set_read Failure = none
+abbrev pub set_read : library.Option ℕ → Option ℕ
+set_read (library.Some set) = some set
+set_read library.None = none
 
 -- the names of Chart 0-6: each three letters where its bit is set and three spaces where not
 unfoldable pub names_shown : ℕ → List (List ℕ) → List ℕ

@@ -1,4 +1,4 @@
 pub mod Exclusions
 pub mod ExclusionText
-pub mod WordNumbers
+pub mod Words
 pub mod WordsWritten

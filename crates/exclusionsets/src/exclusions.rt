@@ -1,48 +1,63 @@
 // Error 16: exclusion words, and the set that they name.
-ghost use Rattle.std.specs.Prelude.{◌≡◌, cond, [], ℕ, ◌+◌, ◌<◌, ◌≤◌, length, get_or, take};
+ghost use Rattle.std.specs.Prelude.{◌≡◌, true, cond, [], ℕ, ◌+◌, ◌<◌, ◌≤◌, map, length, get_or, take, drop, SomeIff};
 ghost use Rattle.text.specs.Blocks.{spliced};
 ghost use Rattle.exclusionsets.specs.ExclusionText.{is_widened, exclusion_field};
 ghost use Rattle.exclusionsets.specs.WordsWritten.{word_at};
 ghost use Rattle.text.specs.Fields.{spaces};
 ghost use Rattle.exclusionsets.specs.Exclusions.{exclusion_names, is_separator, words_from, bits_named, exclusions_of, set_read, exclusion_columns};
-ghost use Rattle.exclusionsets.specs.WordNumbers.{three_number, can_end, word_number};
+ghost use Rattle.exclusionsets.specs.Words.{can_end, letters_of, bits_of};
 
 use text::fields;
 
-// What an exclusion field names: a set, ADM in bit 0, or failure at a word that is none of the eight.
+// One of the eight words: its letters, and what it puts into a set.
 #[derive(Clone, Copy)]
-pub enum Exclusions {
-    Set(u8),
-    Failure,
+struct Word {
+    letters: [u8; 3],
+    bits: u8,
 }
 
-// ADM RET VEN SAL TAX PAS FIN DCK.
-const NAMES: [[u8; 3]; 8] = [
-    [0xC1, 0xC4, 0xD4],
-    [0xD9, 0xC5, 0xE3],
-    [0xE5, 0xC5, 0xD5],
-    [0xE2, 0xC1, 0xD3],
-    [0xE3, 0xC1, 0xE7],
-    [0xD7, 0xC1, 0xE2],
-    [0xC6, 0xC9, 0xD5],
-    [0xC4, 0xC3, 0xD2],
+// ADM RET VEN SAL TAX PAS FIN DCK. Each puts in its own bit; ADM those of RET, VEN and SAL too.
+const WORDS: [Word; 8] = [
+    Word {
+        letters: [0xC1, 0xC4, 0xD4],
+        bits: 15,
+    },
+    Word {
+        letters: [0xD9, 0xC5, 0xE3],
+        bits: 2,
+    },
+    Word {
+        letters: [0xE5, 0xC5, 0xD5],
+        bits: 4,
+    },
+    Word {
+        letters: [0xE2, 0xC1, 0xD3],
+        bits: 8,
+    },
+    Word {
+        letters: [0xE3, 0xC1, 0xE7],
+        bits: 16,
+    },
+    Word {
+        letters: [0xD7, 0xC1, 0xE2],
+        bits: 32,
+    },
+    Word {
+        letters: [0xC6, 0xC9, 0xD5],
+        bits: 64,
+    },
+    Word {
+        letters: [0xC4, 0xC3, 0xD2],
+        bits: 128,
+    },
 ];
 
-// What each puts into the set: its own bit; ADM those of RET, VEN and SAL too.
-const BITS: [u8; 8] = [15, 2, 4, 8, 16, 32, 64, 128];
-
-// The names.
-fn names() -> [[u8; 3]; 8]
-    ensures { result ≡ exclusion_names }
+// The words.
+fn words() -> [Word; 8]
+    ensures letters { map letters_of result ≡ exclusion_names }
+    ensures bits { (n : ℕ) → n < 8 → get_or (map bits_of result) n 0 ≡ bits_named n }
 {
-    NAMES
-}
-
-// What each name puts into the set.
-fn name_bits() -> [u8; 8]
-    ensures { (n : ℕ) → n < 8 → get_or result n 0 ≡ bits_named n }
-{
-    BITS
+    WORDS
 }
 
 // Whether a byte parts words.
@@ -50,20 +65,6 @@ fn is_separator(b: u8) -> bool
     ensures { result ≡ is_separator b }
 {
     b == 0x6B || b == 0x40
-}
-
-// Three bytes as a number, the first the highest.
-fn number_of(a: u8, b: u8, c: u8) -> u32
-    ensures { result ≡ three_number a b c }
-{
-    ((a as u32) * 256 + (b as u32)) * 256 + (c as u32)
-}
-
-// A name as a number.
-fn name_number(name: [u8; 3]) -> u32
-    ensures { result ≡ three_number (get_or name 0 0) (get_or name 1 0) (get_or name 2 0) }
-{
-    number_of(name[0], name[1], name[2])
 }
 
 // Whether a word can end before the byte at `end`: a separator, or the field's end.
@@ -80,44 +81,40 @@ fn ends_word(s: &[u8], end: usize) -> bool
     is_separator(b)
 }
 
-// The three bytes from `at` on as a number where a word can end behind them; else 0, which is no name's number.
-fn word_number(s: &[u8], at: usize) -> u32
+// The three bytes from `at` on where a word can end behind them.
+fn three_at(s: &[u8], at: usize) -> Option<[u8; 3]>
     requires { at < length s.now }
-    ensures { result ≡ word_number s.now at }
+    ensures { SomeIff result (can_end s.now (at + 3) ≡ true) (take 3 (drop at s.now)) }
 {
-    if !ends_word(s, at + 3) {
-        return 0;
+    if ends_word(s, at + 3) {
+        Some([s[at], s[at + 1], s[at + 2]])
+    } else {
+        None
     }
-    number_of(s[at], s[at + 1], s[at + 2])
 }
 
-// An end of the field behind which there are only spaces, eight columns at a time.
-fn words_end(s: &[u8]) -> usize
-    ensures { (result ≤ length s.now) × (words_from [] (take result s.now) ≡ words_from [] s.now) }
+// A field without the spaces behind its words, eight columns at a time.
+fn without_eights(s: &[u8]) -> &[u8]
+    ensures { words_from [] result.now ≡ words_from [] s.now }
 {
-    let mut end = s.len();
-    while 8 <= end {
-        let start = end - 8;
-        if !fields::is_blank(&s[start..end]) {
-            return end;
+    let mut part = s;
+    while let Some((front, last)) = part.split_last_chunk::<8>() {
+        if !fields::is_blank(last) {
+            return part;
         }
-        end = start;
+        part = front;
     }
-    end
+    part
 }
 
-// The field without its last four columns where they are spaces.
+// A field without its last four columns where they are spaces.
 fn without_four(s: &[u8]) -> &[u8]
     ensures { words_from [] result.now ≡ words_from [] s.now }
 {
-    if s.len() < 4 {
-        return s;
+    match s.split_last_chunk::<4>() {
+        Some((front, last)) if fields::is_blank(last) => front,
+        _ => s,
     }
-    let end = s.len() - 4;
-    if fields::is_blank(&s[end..]) {
-        return &s[0..end];
-    }
-    s
 }
 
 // A field of forty columns without most of the spaces behind its words. The width is known here, so that a few comparisons do.
@@ -127,47 +124,39 @@ fn words_part(s: &[u8]) -> &[u8]
     if s.len() != 40 {
         return s;
     }
-    let end = words_end(s);
-    without_four(&s[0..end])
+    without_four(without_eights(s))
 }
 
-// Reads the exclusion words: their set, or failure at the first word that is none of the eight. A name and the separator behind it
+// Reads the exclusion words: their set, or none at the first word that is none of the eight. A name and the separator behind it
 // are four columns.
-fn read_words(s: &[u8]) -> Exclusions
+fn read_words(s: &[u8]) -> Option<u8>
     ensures { set_read result ≡ exclusions_of s.now }
 {
-    let table = names();
-    let bits = name_bits();
-    let mut set: u8 = 0;
-    let mut at: usize = 0;
+    let table = words();
+    let mut set = 0;
+    let mut at = 0;
     'words: loop {
         if s.len() <= at {
-            break 'words Exclusions::Set(set);
+            break 'words Some(set);
         }
-        let b = s[at];
-        if is_separator(b) {
+        if is_separator(s[at]) {
             at += 1;
             continue 'words;
         }
-        let word = word_number(s, at);
-        let mut n: usize = 0;
-        'names: loop {
-            if n == 8 {
-                break 'words Exclusions::Failure;
-            }
-            let name = name_number(table[n]);
-            if name == word {
-                set = set | bits[n];
+        let letters = three_at(s, at)?;
+        'names: for word in &table {
+            if word.letters == letters {
+                set |= word.bits;
                 at += 4;
                 continue 'words;
             }
-            n += 1;
         }
+        break 'words None;
     }
 }
 
-// Reads an exclusion field: the set of its words, or failure.
-pub fn read_exclusions(s: &[u8]) -> Exclusions
+// Reads an exclusion field: the set of its words, ADM in bit 0, or none at a word that is none of the eight.
+pub fn read_exclusions(s: &[u8]) -> Option<u8>
     ensures { set_read result ≡ exclusions_of s.now }
 {
     read_words(words_part(s))
@@ -191,14 +180,11 @@ pub fn exclusion_columns(set: u8) -> [u8; 24]
     if set == 0 {
         return out;
     }
-    let table = names();
     let mut left = set;
-    let mut n: usize = 0;
-    while n < 8 {
-        let name = name_columns(table[n], left % 2 == 1);
+    for (n, word) in words().iter().enumerate() {
+        let name = name_columns(word.letters, left % 2 == 1);
         fields::copy_in(&mut out, n * 3, &name);
-        left = left / 2;
-        n += 1;
+        left /= 2;
     }
     out
 }
@@ -232,14 +218,11 @@ pub fn exclusion_field(set: u8) -> [u8; 40]
     ensures { result ≡ exclusion_field set }
 {
     let mut out = [0x40u8; 40];
-    let table = names();
     let mut left = set;
-    let mut at: usize = 0;
-    let mut n: usize = 0;
-    while n < 8 {
-        at = put_word(&mut out, at, left % 2 == 1, table[n]);
-        left = left / 2;
-        n += 1;
+    let mut at = 0;
+    for word in &words() {
+        at = put_word(&mut out, at, left % 2 == 1, word.letters);
+        left /= 2;
     }
     out
 }

@@ -8,19 +8,19 @@ ghost use Rattle.codepage.specs.Conversion.{conversion_answer, place_told};
 ghost use Rattle.fantanolive.specs.CodepageCalls.{conversion_left};
 
 use codepage::conversion;
-use codepage::conversion::Converted;
+use codepage::conversion::ConversionError;
 
 // The number of an answer; with 16 the place is written.
-fn told(answer: Converted, place: &mut u64) -> u64
+fn told(answer: Result<(), ConversionError>, place: &mut u64) -> u64
     ensures { (result ≡ refusal_number (conversion_answer answer)) × (place.new ≡ get_or (place_told answer) place.old) }
 {
     match answer {
-        Converted::Done => 0,
-        Converted::NoCounterpart(p) => {
+        Ok(()) => 0,
+        Err(ConversionError::NoCounterpart(p)) => {
             *place = p as u64;
             16
         }
-        Converted::TooShort => 17,
+        Err(ConversionError::TooShort) => 17,
     }
 }
 

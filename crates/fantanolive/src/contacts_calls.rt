@@ -4,9 +4,7 @@ ghost use Rattle.std.specs.Prelude.{◌≡◌};
 ghost use Rattle.fantanolive.specs.ContactsCalls.{update_left, codes_left};
 
 use contacttable::codes;
-use contacttable::codes::Codes;
 use contactupdate::update;
-use contactupdate::update::Updated;
 
 // Reads a contact file into a table; the result numbers are the new table count and the list's.
 #[unsafe(no_mangle)]
@@ -21,11 +19,11 @@ pub extern "C" fn fantanolive_contacts_update(
         ≡ update_left table.old count file.now faulty.old res.old }
 {
     match update::update(table, count, file, faulty) {
-        Updated::Done(records, listed) => {
-            *res = [records as u64, listed as u64];
+        Ok(done) => {
+            *res = [done.records as u64, done.listed as u64];
             0
         }
-        Updated::Refused(number) => number,
+        Err(refusal) => refusal.number(),
     }
 }
 
@@ -42,10 +40,10 @@ pub extern "C" fn fantanolive_contacts_codes(
         ≡ codes_left table.now count state.now out.old written.old }
 {
     match codes::codes_of(table, count, state, out) {
-        Codes::Done(n) => {
+        Ok(n) => {
             *written = n as u64;
             0
         }
-        Codes::Refused(number) => number,
+        Err(refusal) => refusal.number(),
     }
 }

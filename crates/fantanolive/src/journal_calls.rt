@@ -6,9 +6,7 @@ ghost use Rattle.journaledapply.specs.Journaled.{with_journal};
 ghost use Rattle.fantanolive.specs.JournalCalls.{journaled_left, take_back_left};
 
 use journaledapply::apply;
-use journaledapply::apply::Journaled;
 use takeback::take_back;
-use takeback::take_back::TakenBack;
 
 // Applies a batch and writes its journal; the result numbers are accepted, rejected, warned, neither, rows and the journal's length.
 #[unsafe(no_mangle)]
@@ -39,25 +37,18 @@ pub extern "C" fn fantanolive_apply_journaled(
     match apply::apply_journaled(
         master, rows, batch, locals, year, verdicts, rejects, journal,
     ) {
-        Journaled::Done {
-            accepted,
-            rejected,
-            warned,
-            neither,
-            rows: left,
-            written,
-        } => {
+        Ok(done) => {
             *res = [
-                accepted,
-                rejected,
-                warned,
-                neither,
-                left as u64,
-                written as u64,
+                done.accepted,
+                done.rejected,
+                done.warned,
+                done.neither,
+                done.rows as u64,
+                done.written as u64,
             ];
             0
         }
-        Journaled::Refused(number) => number,
+        Err(apply_refusal) => apply_refusal.number(),
     }
 }
 
@@ -73,10 +64,10 @@ pub extern "C" fn fantanolive_take_back(
         ≡ take_back_left master.old rows journal.now left.old }
 {
     match take_back::take_back(master, rows, journal) {
-        TakenBack::Done(count) => {
+        Ok(count) => {
             *left = count as u64;
             0
         }
-        TakenBack::Refused(number) => number,
+        Err(take_back_refusal) => take_back_refusal.number(),
     }
 }

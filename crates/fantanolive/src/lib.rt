@@ -17,11 +17,8 @@ ghost use Rattle.fantanolive.specs.Calls.{apply_left, find_left, reconcile_left}
 ghost use Rattle.batch.specs.Call.{call_of};
 
 use batch::apply;
-use batch::apply::Applied;
 use lookup::find;
-use lookup::find::Found;
 use reconciliation::reconcile;
-use reconciliation::reconcile::Reconciled;
 
 // Applies a batch; the result numbers are accepted, rejected, warned, neither and rows.
 #[unsafe(no_mangle)]
@@ -45,17 +42,17 @@ pub extern "C" fn fantanolive_apply(
         res.old }
 {
     match apply::apply(master, rows, batch, locals, year, verdicts, rejects) {
-        Applied::Done {
-            accepted,
-            rejected,
-            warned,
-            neither,
-            rows: left,
-        } => {
-            *res = [accepted, rejected, warned, neither, left as u64];
+        Ok(done) => {
+            *res = [
+                done.accepted,
+                done.rejected,
+                done.warned,
+                done.neither,
+                done.rows as u64,
+            ];
             0
         }
-        Applied::Refused(number) => number,
+        Err(apply_refusal) => apply_refusal.number(),
     }
 }
 
@@ -65,11 +62,11 @@ pub extern "C" fn fantanolive_find(master: &[u8], rows: usize, key: &[u8], place
     ensures { record { number = result; place = place.new } ≡ find_left master.now rows key.now place.old }
 {
     match find::find(master, rows, key) {
-        Found::At(p) => {
+        Ok(p) => {
             *place = p as u64;
             0
         }
-        Found::Refused(number) => number,
+        Err(find_refusal) => find_refusal.number(),
     }
 }
 
@@ -87,10 +84,10 @@ pub extern "C" fn fantanolive_reconcile(
         ≡ reconcile_left master.now rows state.now date.now out.old records.old }
 {
     match reconcile::reconcile(master, rows, state, date, out) {
-        Reconciled::Done(count) => {
+        Ok(count) => {
             *records = count as u64;
             0
         }
-        Reconciled::Refused(number) => number,
+        Err(reconcile_refusal) => reconcile_refusal.number(),
     }
 }

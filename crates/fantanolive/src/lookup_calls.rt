@@ -4,7 +4,6 @@ ghost use Rattle.std.specs.Prelude.{◌≡◌};
 ghost use Rattle.fantanolive.specs.LookupCalls.{many_left};
 
 use lookup::many;
-use lookup::many::FoundMany;
 
 // Looks the keys of a rising list up; `comparisons` is how many comparisons with a row were made.
 #[unsafe(no_mangle)]
@@ -19,10 +18,10 @@ pub extern "C" fn fantanolive_find_many(
         ≡ many_left master.now rows keys.now places.old comparisons.old }
 {
     match many::find_many(master, rows, keys, places) {
-        FoundMany::Done(count) => {
+        Ok(count) => {
             *comparisons = count;
             0
         }
-        FoundMany::Refused(number) => number,
+        Err(refusal) => refusal.number(),
     }
 }

@@ -5,7 +5,6 @@ ghost use Rattle.merging.specs.Merge.{merge_call};
 ghost use Rattle.fantanolive.specs.MergingCalls.{merge_left};
 
 use merging::merge;
-use merging::merge::Merged;
 
 // Merges two batches; `records` is how many records the merged batch has.
 #[unsafe(no_mangle)]
@@ -19,10 +18,10 @@ pub extern "C" fn fantanolive_merge(
         ≡ merge_left (merge_call first.now second.now out.old) records.old }
 {
     match merge::merge(first, second, out) {
-        Merged::Done(count) => {
+        Ok(count) => {
             *records = count as u64;
             0
         }
-        Merged::Refused(number) => number,
+        Err(refusal) => refusal.number(),
     }
 }

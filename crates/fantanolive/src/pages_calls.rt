@@ -3,7 +3,6 @@ ghost use Rattle.std.specs.Prelude.{◌≡◌};
 ghost use Rattle.fantanolive.specs.PagesCalls.{pages_left};
 
 use pages::printing;
-use pages::printing::Printed;
 
 // Prints the live rows of a master; `pages` is how many pages there are.
 #[unsafe(no_mangle)]
@@ -17,10 +16,10 @@ pub extern "C" fn fantanolive_pages(
         ≡ pages_left master.now rows out.old pages.old }
 {
     match printing::pages(master, rows, out) {
-        Printed::Done(count) => {
+        Ok(count) => {
             *pages = count as u64;
             0
         }
-        Printed::Refused(number) => number,
+        Err(refusal) => refusal.number(),
     }
 }

@@ -7,9 +7,7 @@ ghost use Rattle.fantanolive.specs.AddCentsCalls.{convert_left};
 ghost use Rattle.fantanolive.specs.PostingCalls.{post_left};
 
 use addcents::convert;
-use addcents::convert::CentsAdded;
 use posting::post;
-use posting::post::Posted;
 
 // Writes 00 into the cents of every row of a master that has none yet.
 #[unsafe(no_mangle)]
@@ -17,8 +15,8 @@ pub extern "C" fn fantanolive_add_cents(master: &mut [u8], rows: usize) -> u64
     ensures { record { number = result; numbers = tt; buffers = master.new } ≡ convert_left (convert_call master.old rows) }
 {
     match convert::add_cents(master, rows) {
-        CentsAdded::Done => 0,
-        CentsAdded::Refused(number) => number,
+        Ok(()) => 0,
+        Err(add_refusal) => add_refusal.number(),
     }
 }
 
@@ -39,10 +37,10 @@ pub extern "C" fn fantanolive_post(
         ≡ post_left (post_call master.old rows file.now lines.old) listed.old }
 {
     match post::post(master, rows, file, lines) {
-        Posted::Done(count) => {
+        Ok(count) => {
             *listed = count;
             0
         }
-        Posted::Refused(number) => number,
+        Err(post_refusal) => post_refusal.number(),
     }
 }

@@ -4,7 +4,6 @@ ghost use Rattle.std.specs.Prelude.{◌≡◌};
 ghost use Rattle.fantanolive.specs.RecordsCalls.{records_left};
 
 use caserecords::records_to;
-use caserecords::records_to::RecordsGiven;
 
 // Writes the C, L, R and M records from a row to a wanted row; `records` is how many there are.
 #[unsafe(no_mangle)]
@@ -19,10 +18,10 @@ pub extern "C" fn fantanolive_records_to(
         ≡ records_left row.now wanted.now locals.now out.old records.old }
 {
     match records_to::records_to(row, wanted, locals, out) {
-        RecordsGiven::Done(count) => {
+        Ok(count) => {
             *records = count as u64;
             0
         }
-        RecordsGiven::Refused(number) => number,
+        Err(refusal) => refusal.number(),
     }
 }

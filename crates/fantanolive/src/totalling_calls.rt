@@ -4,7 +4,6 @@ ghost use Rattle.std.specs.Prelude.{◌≡◌};
 ghost use Rattle.fantanolive.specs.TotallingCalls.{totals_left};
 
 use totalling::detail_totals;
-use totalling::detail_totals::Totalled;
 
 // Adds up a batch's details; the totals are the TANF and Non-TANF counts, then the TANF and Non-TANF amounts.
 #[unsafe(no_mangle)]
@@ -12,15 +11,15 @@ pub extern "C" fn fantanolive_totals(batch: &[u8], totals: &mut [u64; 4]) -> u64
     ensures { record { number = result; totals = totals.new } ≡ totals_left batch.now totals.old }
 {
     match detail_totals::total(batch) {
-        Totalled::Done {
-            tanf_count,
-            non_tanf_count,
-            tanf_amount,
-            non_tanf_amount,
-        } => {
-            *totals = [tanf_count, non_tanf_count, tanf_amount, non_tanf_amount];
+        Ok(t) => {
+            *totals = [
+                t.tanf_count,
+                t.non_tanf_count,
+                t.tanf_amount,
+                t.non_tanf_amount,
+            ];
             0
         }
-        Totalled::Refused(number) => number,
+        Err(refusal) => refusal.number(),
     }
 }

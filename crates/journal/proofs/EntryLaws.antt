@@ -1,7 +1,7 @@
 -- Laws of reading one entry of a journal. Assumes nothing.
 use Prim.Native.Nat.{ℕ, ◌+◌, ◌-◌, ◌≤◌, ◌<◌}
 use mathlib.Core.Path.{◌≡◌, ap, ◌∙◌}
-use mathlib.Core.Bool.{Bool, true, false, not, cond, ◌&&◌}
+use mathlib.Core.Bool.{Bool, true, false, cond, ◌&&◌}
 use mathlib.Core.List.{List, [], ◌∷◌}
 use mathlib.Core.Option.{none, some}
 use native.Mathlib.Numerals.{add-one}
@@ -9,12 +9,11 @@ use native.Mathlib.Omega.{arith}
 use lib.Dec.{leb, eqb}
 use lib.ListN.{length, take, drop, get_or, length-drop, drop_of_length-le}
 use lib.Seq.{drop-cons, drop-drop}
-use borrow.Author.Tests.{ne_eqb, le-leb, lt-leb, not-true, not-false}
+use borrow.Author.Tests.{ne_eqb, le-leb, lt-leb}
 use Rattle.journal.specs.Numbers.{Read, unread, read, read_number}
 use Rattle.journal.specs.Journal.{entry, no_entry, one_entry, read_old, read_placed, read_entry}
-use Rattle.journal.specs.Reading.{reach, OutOfReach, NumberRead, IsNumber, EntryOutOfReach, EntryFound, IsEntry}
-use Rattle.journal.specs.declared.numbers.Number.{Number}
-use Rattle.journal.specs.declared.entries.Found.{Found}
+use Rattle.journal.specs.Reading.{reach, OutOfReach, NumberRead, EntryOutOfReach, EntryFound}
+use Rattle.std.specs.Prelude.{None, Some}
 
 -- an entry whose place is out of reach
 old_out : (place : ℕ) (bytes : List ℕ) → reach ≤ place → EntryOutOfReach (read_old place bytes)
@@ -35,16 +34,10 @@ entry_out bytes h = go (read_number bytes) h
     go unread h = tt
     go (read place behind) h = old_out place behind h
 
-pub is_no_entry : (at : ℕ) (s : List ℕ) (r : Found) → r.found ≡ false → EntryOutOfReach (read_entry (drop at s)) → IsEntry at s r
-is_no_entry at s r e h = rw e h
-
 module _ (at : ℕ) (s : List ℕ) where
   -- no number stands there
-  pub no_place_lem : (r : Number) → not r.found ≡ true → IsNumber at s r → EntryOutOfReach (read_entry (drop at s))
-  no_place_lem r e h = entry_out (drop at s) (rw (not-true r.found e) at h)
-
-  pub placed : (r : Number) → not r.found ≡ false → IsNumber at s r → NumberRead at s r.value r.next
-  placed r e h = rw (not-false r.found e) at h
+  pub no_place_lem : OutOfReach (read_number (drop at s)) → EntryOutOfReach (read_entry (drop at s))
+  no_place_lem h = entry_out (drop at s) h
 
   module _ (place i : ℕ) (n : NumberRead at s place i) where
     -- nothing stands behind it
@@ -59,14 +52,14 @@ module _ (at : ℕ) (s : List ℕ) where
       behind-length : length (drop (i + 1) s) ≡ length s - (i + 1)
       behind-length = length-drop (i + 1) s
 
-      pub new_entry : mark ≡ 0 → EntryFound at s place true (i + 1) (i + 1)
+      pub new_entry : mark ≡ 0 → EntryFound at s place None (i + 1)
       unfolding read_entry
       new_entry z =
           record {
             is = rw (n.is, front, z);
             further = omega (arith, n.further);
             inside = omega arith;
-            row_inside = λ f. absurd (let y : ◌≡◌ {A = ℕ} 0 1 = cc in omega arith);
+            row_inside = λ row f. cc;
           }
 
       pub bad_mark : (mark ≡ 0 → ⊥) → (mark ≡ 1 → ⊥) → EntryOutOfReach (read_entry (drop at s))
@@ -79,7 +72,7 @@ module _ (at : ℕ) (s : List ℕ) where
           let f : leb 200 (length (drop (i + 1) s)) ≡ false = lt-leb 200 (length (drop (i + 1) s)) (omega (arith, behind-length)) in
           rw (n.is, front, z, f) tt
 
-      pub old_entry : mark ≡ 1 → 201 ≤ length s - i → EntryFound at s place false (i + 1) (i + 201)
+      pub old_entry : mark ≡ 1 → 201 ≤ length s - i → EntryFound at s place (Some (i + 1)) (i + 201)
       unfolding read_entry
       old_entry z h =
           let f : leb 200 (length (drop (i + 1) s)) ≡ true = le-leb 200 (length (drop (i + 1) s)) (omega (arith, behind-length)) in
@@ -88,7 +81,7 @@ module _ (at : ℕ) (s : List ℕ) where
             is = rw (n.is, front, z, f, g);
             further = omega (arith, n.further);
             inside = omega arith;
-            row_inside = λ f. omega arith;
+            row_inside = λ row f. let e : i + 1 ≡ row = cc in omega arith;
           }
         where
           omega_eq : (i : ℕ) → i + 1 + 200 ≡ i + 201

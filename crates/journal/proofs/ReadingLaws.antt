@@ -13,8 +13,7 @@ use borrow.Author.Tests.{lt-ltb, ne_eqb, eqb-true, eqb-false}
 use Rattle.text.specs.Blocks.{spliced}
 use Rattle.text.proofs.SplicedLaws.{spliced_one, spliced-cons}
 use Rattle.journal.specs.Numbers.{number_bytes, Read, unread, read, with_low_group, read_number}
-use Rattle.journal.specs.Reading.{reach, OutOfReach, NumberRead, IsNumber}
-use Rattle.journal.specs.declared.numbers.Number.{Number}
+use Rattle.journal.specs.Reading.{reach, OutOfReach, NumberRead}
 use Rattle.journal.proofs.NumberLaws.{number_low, number_high, read_low, read_high, read_none}
 
 -- ---- writing
@@ -145,9 +144,6 @@ module _ (s : List ℕ) (at n scale i : ℕ) (p : Reading s at n scale i) where
               ∙ rw (front, read_high b (drop (i + 1) s) h)
               (lifted_before n scale (b - 128) (read_number (drop (i + 1) s)) (omega (arith, p.small)));
         }
-
-pub is_none : (at : ℕ) (s : List ℕ) (r : Number) → r.found ≡ false → OutOfReach (read_number (drop at s)) → IsNumber at s r
-is_none at s r e h = rw e h
 
 pub product_small : (b scale : ℕ) → b ≤ 255 → scale < reach → b * scale < 68719476736
 product_small b scale h k = omega (arith, mul-le-mul_right scale h)

@@ -1,6 +1,6 @@
 -- For the contracts of inner functions; no rule of the papers stands here.
 -- What the code reads of a journal's bytes. Assumes nothing.
-use Rattle.std.specs.Prelude.{ℕ, ◌≤◌, ◌<◌, ◌≡◌, Bool, true, false, List, ◌+◌, length, take, drop}
+use Rattle.std.specs.Prelude.{ℕ, ◌≤◌, ◌<◌, ◌≡◌, List, ◌+◌, length, take, drop, Option as CodeOption, None, Some}
 use Rattle.std.proofs.Math.Option.{Option, none, some}
 use Rattle.journal.specs.Numbers.{Read, unread, read, read_number}
 use Rattle.journal.specs.Journal.{entry, ReadEntry, no_entry, one_entry, read_entry}
@@ -22,12 +22,9 @@ pub record NumberRead (at : ℕ) (s : List ℕ) (value next : ℕ) : Type 0 wher
   pub further : at < next
   pub inside : next ≤ length s
 
-abbrev pub IsNumberAt : Bool → ℕ → List ℕ → ℕ → ℕ → Type 0
-IsNumberAt true at s value next = NumberRead at s value next
-IsNumberAt false at s value next = OutOfReach (read_number (drop at s))
-
-abbrev pub IsNumber : ℕ → List ℕ → Number → Type 0
-IsNumber at s r = IsNumberAt r.found at s r.value r.next
+abbrev pub IsNumber : ℕ → List ℕ → CodeOption Number → Type 0
+IsNumber at s None = OutOfReach (read_number (drop at s))
+IsNumber at s (Some r) = NumberRead at s r.value r.next
 
 -- no entry, or one whose place is out of reach
 abbrev pub EntryOutOfReach : ReadEntry → Type 0
@@ -35,20 +32,17 @@ EntryOutOfReach no_entry = Unit {0}
 EntryOutOfReach (one_entry e behind) = reach ≤ e.place
 
 -- the old row from an index on, unless the entry is new
-abbrev pub old_at : Bool → ℕ → List ℕ → Option (List ℕ)
-old_at true row s = none
-old_at false row s = some (take 200 (drop row s))
+abbrev pub old_at : CodeOption ℕ → List ℕ → Option (List ℕ)
+old_at None s = none
+old_at (Some row) s = some (take 200 (drop row s))
 
--- an entry that was read, the index of its old row and the index behind it
-pub record EntryFound (at : ℕ) (s : List ℕ) (place : ℕ) (new : Bool) (row next : ℕ) : Type 0 where
-  pub is : read_entry (drop at s) ≡ one_entry (entry place (old_at new row s)) (drop next s)
+-- an entry that was read, the index of its old row, where it has one, and the index behind it
+pub record EntryFound (at : ℕ) (s : List ℕ) (place : ℕ) (old : CodeOption ℕ) (next : ℕ) : Type 0 where
+  pub is : read_entry (drop at s) ≡ one_entry (entry place (old_at old s)) (drop next s)
   pub further : at < next
   pub inside : next ≤ length s
-  pub row_inside : new ≡ false → row + 200 ≤ length s
+  pub row_inside : (row : ℕ) → old ≡ Some row → row + 200 ≤ length s
 
-abbrev pub IsEntryAt : Bool → ℕ → List ℕ → ℕ → Bool → ℕ → ℕ → Type 0
-IsEntryAt true at s place new row next = EntryFound at s place new row next
-IsEntryAt false at s place new row next = EntryOutOfReach (read_entry (drop at s))
-
-abbrev pub IsEntry : ℕ → List ℕ → Found → Type 0
-IsEntry at s r = IsEntryAt r.found at s r.place r.new r.row r.next
+abbrev pub IsEntry : ℕ → List ℕ → CodeOption Found → Type 0
+IsEntry at s None = EntryOutOfReach (read_entry (drop at s))
+IsEntry at s (Some r) = EntryFound at s r.place r.old r.next

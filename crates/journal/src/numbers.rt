@@ -1,13 +1,12 @@
 // Numbers in groups of seven bits, low group first, the high bit set on all but the last, in their shortest form.
-ghost use Rattle.std.specs.Prelude.{◌≡◌, false, ◌+◌, ◌≤◌, length};
+ghost use Rattle.std.specs.Prelude.{◌≡◌, ◌+◌, ◌≤◌, length};
 ghost use Rattle.text.specs.Blocks.{spliced};
 ghost use Rattle.journal.specs.Numbers.{number_bytes};
 ghost use Rattle.journal.specs.Reading.{IsNumber};
 
-// What was read: a number, and the index behind it; or none.
+// A number that was read, and the index behind it.
 #[derive(Clone, Copy)]
 pub struct Number {
-    pub found: bool,
     pub value: usize,
     pub next: usize,
 }
@@ -28,49 +27,29 @@ pub fn put_number(out: &mut [u8], at: usize, n: usize) -> usize
     i + 1
 }
 
-fn wide(b: u8) -> usize
-    ensures { result ≡ b }
-{
-    b as usize
-}
-
-// No number.
-fn none() -> Number
-    ensures { result.found ≡ false }
-{
-    Number {
-        found: false,
-        value: 0,
-        next: 0,
-    }
-}
-
 // The number from index `at` on, if one stands there in its shortest form and has at most four groups.
-pub fn number_at(s: &[u8], at: usize) -> Number
+pub fn number_at(s: &[u8], at: usize) -> Option<Number>
     requires { at ≤ length s.now }
     ensures { IsNumber at s.now result }
 {
     let mut n: usize = 0;
     let mut scale: usize = 1;
-    let mut i = at;
-    while i < s.len() {
+    for i in at..s.len() {
         if 268435456 <= scale {
-            return none();
+            return None;
         }
-        let b = wide(s[i]);
+        let b = s[i] as usize;
         if (b == 0) & (1 < scale) {
-            return none();
+            return None;
         }
-        i += 1;
         if b < 128 {
-            return Number {
-                found: true,
+            return Some(Number {
                 value: n + b * scale,
-                next: i,
-            };
+                next: i + 1,
+            });
         }
         n += (b - 128) * scale;
         scale = scale * 128;
     }
-    none()
+    None
 }

@@ -6,8 +6,13 @@ use mathlib.Core.List.{List}
 use native.Mathlib.Omega.{arith}
 use lib.ListN.{length}
 use borrow.Author.Tests.{ne_eqb, ltb-false}
+use Rattle.answers.specs.Refusal.{refusal_number_of}
+use Rattle.answers.specs.declared.refusal.Refusal.{Refusal}
+use Rattle.answers.specs.declared.refusal.Refusal.TheVariants.{ShortJournal}
+use Rattle.answers.proofs.AnswerLaws.{outcome_done}
+use Rattle.answers.proofs.RefusalLaws.{outcome_err, number_above_zero}
+use Rattle.std.specs.Prelude.{Ok, Err}
 use Rattle.answers.specs.Answer.{done, Run}
-use Rattle.answers.proofs.AnswerLaws.{outcome_refused, outcome_done}
 use Rattle.text.specs.Blocks.{over, spliced}
 use Rattle.layout.specs.Batch.{detail_count}
 use Rattle.journal.specs.Space.{journal_space}
@@ -17,26 +22,25 @@ use Rattle.batch.specs.Apply.{ApplyResult, ApplyBuffers}
 use Rattle.batch.specs.Journaling.{RunJournaled}
 use Rattle.batch.specs.declared.apply.RunResult.{RunResult}
 use Rattle.journaledapply.specs.Journaled.{refusal25, journaled_refusal, call_journal, JournaledOutcome, journaled_lent, journaled_run, journaled_outcome, journaled_as, with_journal, IsJournaled}
-use Rattle.journaledapply.specs.declared.apply.Journaled.TheVariants.{Done, Refused}
 
 spliced-over : (bytes d : List ℕ) → spliced d 0 bytes ≡ over bytes d
 unfolding spliced over
 spliced-over bytes d = let e : 0 + length bytes ≡ length bytes = omega arith in rw e
 
 module _ (c : Call) (journal : List ℕ) where
-  pub journaled_refused : (n : ℕ) → n ≡ apply_refusal c → (n ≡ 0 → ⊥)
-      → IsJournaled (with_journal c journal) (journaled_as (Refused n) c.master c.verdicts c.rejects journal)
+  pub journaled_refused : (r : Refusal) → refusal_number_of r ≡ apply_refusal c
+      → IsJournaled (with_journal c journal) (journaled_as (Err r) c.master c.verdicts c.rejects journal)
   unfolding journaled_outcome journaled_refusal
-  journaled_refused n e h =
+  journaled_refused r e =
       let j = with_journal c journal in
-      record { is = outcome_refused _ (journaled_lent j) (journaled_run j) n (rw (← e, ne_eqb n 0 h) refl) h }
+      record { is = outcome_err _ (journaled_lent j) (journaled_run j) r (rw (← e, ne_eqb (refusal_number_of r) 0 (number_above_zero r)) refl) }
 
   module _ (e : apply_refusal c ≡ 0) (t : Bool) (f : t ≡ refusal25 c.batch journal) where
-    pub journaled_25 : t ≡ true → IsJournaled (with_journal c journal) (journaled_as (Refused 25) c.master c.verdicts c.rejects journal)
+    pub journaled_25 : t ≡ true → IsJournaled (with_journal c journal) (journaled_as (Err ShortJournal) c.master c.verdicts c.rejects journal)
     unfolding journaled_outcome journaled_refusal
     journaled_25 g =
         let j = with_journal c journal in
-        record { is = outcome_refused _ (journaled_lent j) (journaled_run j) 25 (rw (e, ← f, g) refl) (λ z. absurd (omega arith)) }
+        record { is = outcome_err _ (journaled_lent j) (journaled_run j) ShortJournal (rw (e, ← f, g) refl) }
 
     -- a journal that isn't too short
     pub has_space : t ≡ false → journal_space (detail_count c.batch) ≤ length journal
@@ -46,7 +50,7 @@ module _ (c : Call) (journal : List ℕ) where
     pub journaled_done : t ≡ false → (master verdicts rejects : List ℕ) (r : RunResult) (journal' : List ℕ)
         → RunJournaled c true journal master verdicts rejects r journal'
         → IsJournaled (with_journal c journal)
-        (journaled_as (Done r.accepted r.rejected r.warned r.neither r.rows r.written) master verdicts rejects journal')
+        (journaled_as (Ok r) master verdicts rejects journal')
     unfolding journaled_outcome journaled_refusal call_journal
     journaled_done g master verdicts rejects r journal' n =
         let j = with_journal c journal in

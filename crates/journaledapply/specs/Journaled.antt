@@ -1,6 +1,8 @@
 -- Document 02, item 8: applying may write a journal, its length in the result. Assumes nothing.
-use Rattle.std.specs.Prelude.{ℕ, ◌≡◌, Bool, cond, List, eqb, ltb, length}
+use Rattle.std.specs.Prelude.{ℕ, ◌≡◌, Bool, cond, List, eqb, ltb, length, Result}
 use Rattle.answers.specs.Answer.{refuse_if, Answer, refused, done, Outcome, Run, outcome_by}
+use Rattle.answers.specs.Refusal.{answer_in}
+use Rattle.answers.specs.declared.refusal.Refusal.{Refusal}
 use Rattle.text.specs.Blocks.{over}
 use Rattle.layout.specs.Batch.{detail_count}
 use Rattle.casemaster.specs.Master.{rows_of}
@@ -8,9 +10,9 @@ use Rattle.journal.specs.Journal.{journal_of, journal_bytes}
 use Rattle.journal.specs.Space.{journal_space}
 use Rattle.batch.specs.Call.{Call}
 use Rattle.batch.specs.Refusals.{apply_refusal}
+use Rattle.batch.specs.declared.apply.RunResult.{RunResult}
+use Rattle.batch.specs.Journaling.{result_of}
 use Rattle.batch.specs.Apply.{ApplyResult, ApplyBuffers, ApplyOutcome, buffers_lent, call_rows, apply_run}
-use Rattle.journaledapply.specs.declared.apply.Journaled.{Journaled}
-use Rattle.journaledapply.specs.declared.apply.Journaled.TheVariants.{Done, Refused}
 
 -- all that is lent to a call: what `apply` is lent, and the journal's buffer
 pub record JournaledCall : Type 0 where
@@ -47,13 +49,11 @@ abbrev pub JournaledOutcome : Type 0
 JournaledOutcome = Outcome JournaledResult JournaledBuffers
 
 -- what each answer of the call stands for
-abbrev pub journaled_answer : Journaled → Answer JournaledResult
-journaled_answer (Done a r w n rows written) =
-    done (record { applied = record { accepted = a; rejected = r; warned = w; neither = n; rows = rows }; written = written })
-journaled_answer (Refused n) = refused n
+abbrev pub journaled_answer : Result RunResult Refusal → Answer JournaledResult
+journaled_answer r = answer_in (λ (x : RunResult). record { applied = result_of x; written = x.written }) r
 
 -- the outcome, from what is answered
-abbrev pub journaled_as : Journaled → List ℕ → List ℕ → List ℕ → List ℕ → JournaledOutcome
+abbrev pub journaled_as : Result RunResult Refusal → List ℕ → List ℕ → List ℕ → List ℕ → JournaledOutcome
 journaled_as answer master verdicts rejects journal =
     record {
       answer = journaled_answer answer;

@@ -4,21 +4,9 @@ ghost use Rattle.layout.specs.Batch.{detail_count};
 ghost use Rattle.batch.specs.Call.{call_of};
 ghost use Rattle.journaledapply.specs.Journaled.{refusal25, with_journal, journaled_as, IsJournaled};
 
+use answers::refusal::Refusal;
+use batch::apply::RunResult;
 use batch::{apply, refusals};
-
-// The answer of the call: the counts of a run that is carried out and the journal's length, or the number of the refusal.
-#[derive(Clone, Copy)]
-pub enum Journaled {
-    Done {
-        accepted: u64,
-        rejected: u64,
-        warned: u64,
-        neither: u64,
-        rows: usize,
-        written: usize,
-    },
-    Refused(u64),
-}
 
 // Refusal 25.
 fn is_short(batch: &[u8], journal: &[u8]) -> bool
@@ -29,7 +17,7 @@ fn is_short(batch: &[u8], journal: &[u8]) -> bool
     journal.len() < 12 + 205 * d
 }
 
-// Applies a batch to a master with `rows` rows, and writes its journal.
+// Applies a batch to a master with `rows` rows, writes its journal, and answers the counts and the journal's length.
 pub fn apply_journaled(
     master: &mut [u8],
     rows: usize,
@@ -39,28 +27,18 @@ pub fn apply_journaled(
     verdicts: &mut [u64],
     rejects: &mut [u8],
     journal: &mut [u8],
-) -> Journaled
+) -> Result<RunResult, Refusal>
     ensures { IsJournaled
         (with_journal (call_of master.old rows batch.now locals.now year verdicts.old rejects.old)
         journal.old)
         (journaled_as result master.new verdicts.new rejects.new journal.new) }
 {
-    let number = refusals::first_refusal(master, rows, batch, locals, year, verdicts, rejects);
-    if number != 0 {
-        return Journaled::Refused(number);
-    }
+    refusals::first_refusal(master, rows, batch, locals, year, verdicts, rejects)?;
     if is_short(batch, journal) {
-        return Journaled::Refused(25);
+        return Err(Refusal::ShortJournal);
     }
     let r = apply::run(
         master, rows, batch, locals, year, verdicts, rejects, journal, true,
     );
-    Journaled::Done {
-        accepted: r.accepted,
-        rejected: r.rejected,
-        warned: r.warned,
-        neither: r.neither,
-        rows: r.rows,
-        written: r.written,
-    }
+    Ok(r)
 }

@@ -20,19 +20,15 @@ pub fn put_key_entry(
     requires { at + length (key_bytes wanted place (row_of old) (row_of new)) ≤ length journal.old }
     ensures { Wrote journal.old at (key_bytes wanted place (row_of old) (row_of new)) journal.new result }
 {
-    let held = new.held;
-    let row = new.row;
-    let was_held = old.held;
-    let was = old.row;
     if !wanted {
         return at;
     }
-    if !held {
+    let Some(row) = new.row else {
         return at;
-    }
-    if !was_held {
+    };
+    let Some(was) = old.row else {
         return writing::put_new(journal, at, place);
-    }
+    };
     if fields::same(&was, &row) {
         return at;
     }

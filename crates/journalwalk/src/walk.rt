@@ -3,7 +3,6 @@
 ghost use Rattle.std.specs.Prelude.{◌≡◌, true, ◌+◌, ◌*◌, ◌≤◌, ◌<◌, length};
 ghost use Rattle.casemaster.specs.Master.{row_in};
 ghost use Rattle.text.specs.Options.{one_or_none};
-ghost use Rattle.layout.specs.OrderedList.{IsOrderedIf};
 ghost use Rattle.casemaster.specs.Search.{KeysRise};
 ghost use Rattle.judging.specs.State.{row_if};
 ghost use Rattle.onecase.specs.Machine.{row_of};
@@ -13,10 +12,11 @@ ghost use Rattle.journalwalk.specs.JournalWalk.{stand_of, KeyRoom, KeyJournaled,
 
 use crate::key_entry;
 use casemaster::{master, search};
+use judging::setting::Setting;
 use keyorder::{runs, tagged};
 use keywalk::counting;
 use keywork::key_work;
-use layout::{locals, records};
+use layout::records;
 use onecase::case;
 use onecase::case::Case;
 use text::counting::one_if;
@@ -37,10 +37,12 @@ fn case_at(m: &[u8], p: usize, held: bool) -> Case
     ensures { row_of result ≡ row_if held (row_in m.now p) }
 {
     if held {
-        let row = master::row_at(m, p);
-        return Case { held: true, row };
+        Case {
+            row: Some(master::row_at(m, p)),
+        }
+    } else {
+        case::no_case()
     }
-    case::no_case()
 }
 
 // Writes the row of a state, if it holds one, at a place, and answers the next place.
@@ -48,13 +50,13 @@ fn put_row_of(m: &mut [u8], p: usize, case: Case) -> usize
     requires { (p + length (one_or_none (row_of case))) * 200 ≤ length m.old }
     ensures { RowOfPut m.old p (row_of case) m.new result }
 {
-    let held = case.held;
-    let row = case.row;
-    if held {
-        master::put_row(m, p, row);
-        return p + 1;
+    match case.row {
+        Some(row) => {
+            master::put_row(m, p, row);
+            p + 1
+        }
+        None => p,
     }
-    p
 }
 
 // One key walked: the rows below it are passed, its details worked, its entry written, and its row, if it has one then, put in behind them.
@@ -65,18 +67,15 @@ fn walk_key(
     batch: &[u8],
     numbers: &mut [u64],
     own: usize,
-    state: &[u8],
-    year: u64,
-    list: &[u8],
-    ordered: bool,
+    setting: Setting,
     journal: &mut [u8],
     wanted: bool,
 ) -> Cursor
-    requires position_lt_own { (s.position < own) × SortedFrom state.now year list.now batch.now numbers.old s.position own × IsOrderedIf ordered list.now }
+    requires position_lt_own { (s.position < own) × SortedFrom setting.state.now setting.year setting.locals.list.now batch.now numbers.old s.position own }
     requires to_le_from { (s.to ≤ s.from) × (s.from ≤ end) × (end * 200 ≤ length m.old) × KeysRise m.old s.from end }
-    requires stays_before { StaysBefore (fixed_of state.now year list.now batch.now own end) (stand_of s m.old numbers.old) }
-    requires key_room { KeyRoom (fixed_of state.now year list.now batch.now own end) (stand_of s m.old numbers.old) wanted s.written journal.old }
-    ensures { KeyJournaled (fixed_of state.now year list.now batch.now own end)
+    requires stays_before { StaysBefore (fixed_of setting.state.now setting.year setting.locals.list.now batch.now own end) (stand_of s m.old numbers.old) }
+    requires key_room { KeyRoom (fixed_of setting.state.now setting.year setting.locals.list.now batch.now own end) (stand_of s m.old numbers.old) wanted s.written journal.old }
+    ensures { KeyJournaled (fixed_of setting.entry.state.now setting.entry.year setting.entry.locals.list.now batch.now own end)
         (stand_of s m.old numbers.old) (stand_of result m.new numbers.new)
         wanted journal.old s.written journal.new result.written }
 {
@@ -92,9 +91,7 @@ fn walk_key(
     let at = from + passed;
     let held = counting::is_row_of(m, at, end, &key);
     let case = case_at(m, at, held);
-    let next = key_work::work_key(
-        case, batch, numbers, p, e, gives, state, year, list, ordered,
-    );
+    let next = key_work::work_key(case, batch, numbers, p, e, gives, setting);
     let written = key_entry::put_key_entry(journal, s.written, wanted, to + passed, case, next);
     let placed = put_row_of(m, to + passed, next);
     Cursor {
@@ -115,20 +112,17 @@ pub fn walk_keys(
     batch: &[u8],
     numbers: &mut [u64],
     own: usize,
-    state: &[u8],
-    year: u64,
-    list: &[u8],
+    setting: Setting,
     journal: &mut [u8],
     at: usize,
     wanted: bool,
 ) -> usize
-    requires walk_ready { WalkReady (fixed_of state.now year list.now batch.now own end) (start_of from m.old numbers.old) }
+    requires walk_ready { WalkReady (fixed_of setting.state.now setting.year setting.locals.list.now batch.now own end) (start_of from m.old numbers.old) }
     requires journal_room { JournalRoom wanted own end at journal.old }
-    ensures { WalkJournaled (fixed_of state.now year list.now batch.now own end)
+    ensures { WalkJournaled (fixed_of setting.entry.state.now setting.entry.year setting.entry.locals.list.now batch.now own end)
         (start_of from m.old numbers.old) wanted journal.old at
         m.new numbers.new journal.new result }
 {
-    let ordered = locals::is_ordered(list);
     let mut s = Cursor {
         position: 0,
         from,
@@ -136,9 +130,7 @@ pub fn walk_keys(
         written: at,
     };
     while s.position < own {
-        s = walk_key(
-            m, end, s, batch, numbers, own, state, year, list, ordered, journal, wanted,
-        );
+        s = walk_key(m, end, s, batch, numbers, own, setting, journal, wanted);
     }
     s.written
 }

@@ -1,7 +1,6 @@
 pub mod CodeSums
 pub mod FillerLaws
 pub mod FrontLaws
-pub mod HeldLaws
 pub mod JudgeLaws
 pub mod NamesLaws
 pub mod OwnKeyLaws

@@ -4,20 +4,23 @@ ghost use Rattle.text.specs.Characters;
 ghost use Rattle.text.specs.Fields.{columns, are_digits, number};
 ghost use Rattle.exclusionsets.specs.Exclusions.{exclusions_of};
 ghost use Rattle.layout.specs.Record.{is_type};
-ghost use Rattle.layout.specs.OrderedList.{IsOrderedIf};
 ghost use Rattle.text.specs.Options.{is_none};
-ghost use Rattle.judging.specs.Errors.{error01, error02, error03, error04, error05, error06, error07, error08, error09, is_local_code, error10, error11, error12, error13, error14, wrong_address, wrong_part, error15, error16, error17, error18};
+ghost use Rattle.judging.specs.Errors.{error01, error02, error03, error04, error05, error06, error07, error08, is_live_row, error09, is_local_code, error10, error11, error12, error13, error14, wrong_address, wrong_part, error15, error16, is_other_name, error17, error18};
 ghost use Rattle.judging.specs.Parts.{UnderNames};
-ghost use Rattle.judging.specs.State.{row_if};
+ghost use Rattle.judging.specs.State.{row_in};
 
 use casemaster::row;
 use dates::calendar;
 use exclusionsets::exclusions;
-use exclusionsets::exclusions::Exclusions;
-use layout::{chart_a1, key, locals, name, process_year, record, ssn, states, zip};
+use layout::locals::LocalCodes;
+use layout::record::TransactionType::{
+    Add, Address, CaseId, Exclude, LocalCode, Modify, Payment, Rename, Transfer,
+};
+use layout::{chart_a1, key, name, process_year, record, ssn, states, zip};
 use text::{characters, fields, words};
 
 // Error 01: state not in the table, or not the control record's.
+#[tactic(auto, unfolding(crate::specs::Errors::error01))]
 pub fn has_01(rec: &[u8; 245], state: &[u8]) -> bool
     ensures { result ≡ error01 state.now rec.now }
 {
@@ -26,6 +29,7 @@ pub fn has_01(rec: &[u8; 245], state: &[u8]) -> bool
 }
 
 // Error 02: the SSN.
+#[tactic(auto, unfolding(crate::specs::Errors::error02))]
 pub fn has_02(rec: &[u8; 245]) -> bool
     ensures { result ≡ error02 rec.now }
 {
@@ -33,6 +37,7 @@ pub fn has_02(rec: &[u8; 245]) -> bool
 }
 
 // Error 03: the type.
+#[tactic(auto, unfolding(crate::specs::Errors::error03))]
 pub fn has_03(rec: &[u8; 245]) -> bool
     ensures { result ≡ error03 rec.now }
 {
@@ -40,6 +45,7 @@ pub fn has_03(rec: &[u8; 245]) -> bool
 }
 
 // Error 04: the case type.
+#[tactic(auto, unfolding(crate::specs::Errors::error04))]
 pub fn has_04(rec: &[u8; 245]) -> bool
     ensures { result ≡ error04 rec.now }
 {
@@ -47,30 +53,31 @@ pub fn has_04(rec: &[u8; 245]) -> bool
 }
 
 // Error 05: the first four columns of the last name.
+#[tactic(auto, unfolding(crate::specs::Errors::error05))]
 pub fn has_05(rec: &[u8; 245]) -> bool
     ensures { result ≡ error05 rec.now }
 {
-    let t = rec[chart_a1::TYPE_AT];
     let front = fields::field(rec, chart_a1::NAME_FRONT);
     !name::is_name(front)
-        | (((t == record::ADD) | (t == record::RENAME)) & !name::has_letter(front))
+        | ((record::is_type(rec, Add) | record::is_type(rec, Rename)) & !name::has_letter(front))
 }
 
 // Error 06 (A, B): the first name's first column is no letter.
+#[tactic(auto, unfolding(crate::specs::Errors::error06))]
 pub fn has_06(rec: &[u8; 245]) -> bool
     ensures { result ≡ error06 rec.now }
 {
-    let t = rec[chart_a1::TYPE_AT];
-    ((t == record::ADD) | (t == record::RENAME)) & !characters::is_letter(rec[49])
+    (record::is_type(rec, Add) | record::is_type(rec, Rename)) & !characters::is_letter(rec[49])
 }
 
 // Error 07 (A, M, S): the amount is not eight digits.
+#[tactic(auto, unfolding(crate::specs::Errors::error07))]
 pub fn has_07(rec: &[u8; 245]) -> bool
     ensures { result ≡ error07 rec.now }
 {
-    let t = rec[chart_a1::TYPE_AT];
     let digits = fields::are_digits(fields::field(rec, chart_a1::ARREARAGE), 8);
-    ((t == record::ADD) | (t == record::MODIFY) | (t == record::PAYMENT)) & !digits
+    (record::is_type(rec, Add) | record::is_type(rec, Modify) | record::is_type(rec, Payment))
+        & !digits
 }
 
 // Whether an amount is eight digits, below 25.
@@ -85,55 +92,63 @@ fn is_below_25(amount: &[u8]) -> bool
 }
 
 // Error 08 (A): digits, below 25.
+#[tactic(auto, unfolding(crate::specs::Errors::error08))]
 pub fn has_08(rec: &[u8; 245]) -> bool
     ensures { result ≡ error08 rec.now }
 {
-    let t = rec[chart_a1::TYPE_AT];
-    if t == record::ADD {
+    if record::is_type(rec, Add) {
         is_below_25(fields::field(rec, chart_a1::ARREARAGE))
     } else {
         false
     }
 }
 
-// Error 09 (all but A): no live row with this key.
-pub fn has_09(rec: &[u8; 245], held: bool, row: &[u8]) -> bool
-    requires { length row.now ≡ 200 }
-    ensures { result ≡ error09 (row_if held row.now) rec.now }
+// Whether there is a live row.
+#[tactic(auto, unfolding(crate::specs::Errors::is_live_row))]
+fn is_live_row(row: Option<&[u8; 200]>) -> bool
+    ensures { result ≡ is_live_row (row_in row.entry) }
 {
-    !(rec[chart_a1::TYPE_AT] == record::ADD) & !(held & row::is_live(row))
+    match row {
+        Some(row) => row::is_live(row),
+        None => false,
+    }
 }
 
-// Whether the local code is spaces, 000 or listed; `ordered` says that the list is known to rise.
-pub fn is_local_code(rec: &[u8; 245], list: &[u8], ordered: bool) -> bool
-    requires { IsOrderedIf ordered list.now }
-    ensures { result ≡ is_local_code list.now rec.now }
+// Error 09 (all but A): no live row with this key.
+#[tactic(auto, unfolding(crate::specs::Errors::error09))]
+pub fn has_09(rec: &[u8; 245], row: Option<&[u8; 200]>) -> bool
+    ensures { result ≡ error09 (row_in row.entry) rec.now }
+{
+    !record::is_type(rec, Add) & !is_live_row(row)
+}
+
+// Whether the local code is spaces, 000 or listed.
+#[tactic(auto, unfolding(crate::specs::Errors::is_local_code))]
+pub fn is_local_code(rec: &[u8; 245], locals: LocalCodes) -> bool
+    ensures { result ≡ is_local_code locals.entry.list.now rec.now }
 {
     let code = fields::field(rec, chart_a1::LOCAL_CODE);
-    fields::is_blank(code)
-        | fields::same(code, b"\xF0\xF0\xF0")
-        | locals::listed(code, list, ordered)
+    fields::is_blank(code) | fields::same(code, b"\xF0\xF0\xF0") | locals.contains(code)
 }
 
 // Error 10 (L): the local code.
-pub fn has_10(rec: &[u8; 245], list: &[u8], ordered: bool) -> bool
-    requires { IsOrderedIf ordered list.now }
-    ensures { result ≡ error10 list.now rec.now }
+#[tactic(auto, unfolding(crate::specs::Errors::error10))]
+pub fn has_10(rec: &[u8; 245], locals: LocalCodes) -> bool
+    ensures { result ≡ error10 locals.entry.list.now rec.now }
 {
-    let t = rec[chart_a1::TYPE_AT];
-    if t == record::LOCAL_CODE {
-        !is_local_code(rec, list, ordered)
+    if record::is_type(rec, LocalCode) {
+        !is_local_code(rec, locals)
     } else {
         false
     }
 }
 
 // Error 11 (C): the case ID.
+#[tactic(auto, unfolding(crate::specs::Errors::error11))]
 pub fn has_11(rec: &[u8; 245]) -> bool
     ensures { result ≡ error11 rec.now }
 {
-    let t = rec[chart_a1::TYPE_AT];
-    if t == record::CASE_ID {
+    if record::is_type(rec, CaseId) {
         fields::is_blank(fields::field(rec, chart_a1::CASE_ID))
     } else {
         false
@@ -141,11 +156,11 @@ pub fn has_11(rec: &[u8; 245]) -> bool
 }
 
 // Error 12 (T): the transfer state.
+#[tactic(auto, unfolding(crate::specs::Errors::error12))]
 pub fn has_12(rec: &[u8; 245]) -> bool
     ensures { result ≡ error12 rec.now }
 {
-    let t = rec[chart_a1::TYPE_AT];
-    if t == record::TRANSFER {
+    if record::is_type(rec, Transfer) {
         !states::is_state(fields::field(rec, chart_a1::TRANSFER_STATE))
     } else {
         false
@@ -153,11 +168,11 @@ pub fn has_12(rec: &[u8; 245]) -> bool
 }
 
 // Error 13 (S): the process year.
+#[tactic(auto, unfolding(crate::specs::Errors::error13))]
 pub fn has_13(rec: &[u8; 245], year: u64) -> bool
     ensures { result ≡ error13 year rec.now }
 {
-    let t = rec[chart_a1::TYPE_AT];
-    if t == record::PAYMENT {
+    if record::is_type(rec, Payment) {
         !process_year::in_window(year, fields::field(rec, chart_a1::PROCESS_YEAR))
     } else {
         false
@@ -165,6 +180,7 @@ pub fn has_13(rec: &[u8; 245], year: u64) -> bool
 }
 
 // Error 14 for Z: an address that is not whole.
+#[tactic(auto, unfolding(crate::specs::Errors::wrong_address))]
 fn wrong_address(rec: &[u8; 245]) -> bool
     ensures { result ≡ wrong_address rec.now }
 {
@@ -177,6 +193,7 @@ fn wrong_address(rec: &[u8; 245]) -> bool
 }
 
 // Error 14 for A: a state or ZIP that is not blank and is wrong.
+#[tactic(auto, unfolding(crate::specs::Errors::wrong_part))]
 fn wrong_part(rec: &[u8; 245]) -> bool
     ensures { result ≡ wrong_part rec.now }
 {
@@ -190,8 +207,7 @@ fn wrong_part(rec: &[u8; 245]) -> bool
 fn has_14_in_z(rec: &[u8; 245]) -> bool
     ensures { result ≡ (is_type Characters.Z rec.now && wrong_address rec.now) }
 {
-    let t = rec[chart_a1::TYPE_AT];
-    if t == record::ADDRESS {
+    if record::is_type(rec, Address) {
         wrong_address(rec)
     } else {
         false
@@ -202,8 +218,7 @@ fn has_14_in_z(rec: &[u8; 245]) -> bool
 fn has_14_in_a(rec: &[u8; 245]) -> bool
     ensures { result ≡ (is_type Characters.A rec.now && wrong_part rec.now) }
 {
-    let t = rec[chart_a1::TYPE_AT];
-    if t == record::ADD {
+    if record::is_type(rec, Add) {
         wrong_part(rec)
     } else {
         false
@@ -211,6 +226,7 @@ fn has_14_in_a(rec: &[u8; 245]) -> bool
 }
 
 // Error 14 (Z, A): the address.
+#[tactic(auto, unfolding(crate::specs::Errors::error14))]
 pub fn has_14(rec: &[u8; 245]) -> bool
     ensures { result ≡ error14 rec.now }
 {
@@ -218,11 +234,11 @@ pub fn has_14(rec: &[u8; 245]) -> bool
 }
 
 // Error 15 (A): the date issued.
+#[tactic(auto, unfolding(crate::specs::Errors::error15))]
 pub fn has_15(rec: &[u8; 245]) -> bool
     ensures { result ≡ error15 rec.now }
 {
-    let t = rec[chart_a1::TYPE_AT];
-    if t == record::ADD {
+    if record::is_type(rec, Add) {
         let date = fields::field(rec, chart_a1::DATE_ISSUED);
         !(fields::is_blank(date) | calendar::is_date(date))
     } else {
@@ -234,35 +250,42 @@ pub fn has_15(rec: &[u8; 245]) -> bool
 fn has_wrong_word(rec: &[u8; 245]) -> bool
     ensures { result ≡ is_none (exclusions_of (columns 188 227 rec.now)) }
 {
-    match exclusions::read_exclusions(fields::field(rec, chart_a1::EXCLUSIONS)) {
-        Exclusions::Set(_) => false,
-        Exclusions::Failure => true,
-    }
+    exclusions::read_exclusions(fields::field(rec, chart_a1::EXCLUSIONS)).is_none()
 }
 
 // Error 16 (A, R): the exclusion words.
+#[tactic(auto, unfolding(crate::specs::Errors::error16))]
 pub fn has_16(rec: &[u8; 245]) -> bool
     ensures { result ≡ error16 rec.now }
 {
-    let t = rec[chart_a1::TYPE_AT];
-    if (t == record::ADD) | (t == record::EXCLUDE) {
+    if record::is_type(rec, Add) | record::is_type(rec, Exclude) {
         has_wrong_word(rec)
     } else {
         false
     }
 }
 
-// Error 17 (all but A, B): the name is not the stored one, and not `given` by a B record of the key.
-pub fn has_17(rec: &[u8; 245], held: bool, row: &[u8], given: bool) -> bool
-    requires { length row.now ≡ 200 }
-    ensures { UnderNames given rec.now (λ names. result ≡ error17 names (row_if held row.now) rec.now) }
+// Whether there is a row with another name in its first four columns.
+#[tactic(auto, unfolding(crate::specs::Errors::is_other_name))]
+fn is_other_name(rec: &[u8; 245], row: Option<&[u8; 200]>) -> bool
+    ensures { result ≡ is_other_name (row_in row.entry) rec.now }
 {
-    let t = rec[chart_a1::TYPE_AT];
-    let same = fields::same(
-        fields::field(rec, chart_a1::NAME_FRONT),
-        fields::field(row, row::NAME_FRONT),
-    );
-    !((t == record::ADD) | (t == record::RENAME)) & (held & !same & !given)
+    match row {
+        Some(row) => !fields::same(
+            fields::field(rec, chart_a1::NAME_FRONT),
+            fields::field(row, row::NAME_FRONT),
+        ),
+        None => false,
+    }
+}
+
+// Error 17 (all but A, B): the name is not the stored one, and not `given` by a B record of the key.
+#[tactic(auto, unfolding(crate::specs::Errors::error17))]
+pub fn has_17(rec: &[u8; 245], row: Option<&[u8; 200]>, given: bool) -> bool
+    ensures { UnderNames given rec.now (λ names. result ≡ error17 names (row_in row.entry) rec.now) }
+{
+    let other = is_other_name(rec, row);
+    !(record::is_type(rec, Add) | record::is_type(rec, Rename)) & (other & !given)
 }
 
 // Error 18: the filler, columns 228–244, as eight, eight and one.

@@ -5,4 +5,5 @@ pub mod errors;
 pub mod front;
 pub mod judge;
 pub mod parts;
+pub mod setting;
 pub mod warnings;

@@ -1,11 +1,11 @@
 // The parts in which a record's errors are judged, and the set of each, as a number: the sum of 2 to the power of each code that holds.
 ghost use Rattle.std.specs.Prelude.{◌≡◌, ◌≤◌, ◌<◌, ◌^◌};
 ghost use Rattle.layout.specs.Codes.{number_of_codes};
-ghost use Rattle.layout.specs.OrderedList.{IsOrderedIf};
 ghost use Rattle.judging.specs.Errors.{code};
 ghost use Rattle.judging.specs.Parts.{IsFirst, first_codes, codes06to08, codes10to13, codes14to16};
 
 use crate::errors;
+use layout::locals::LocalCodes;
 
 // Errors 01 to 05, which are judged first: those of the key, the type and the name.
 #[derive(Clone, Copy)]
@@ -55,11 +55,10 @@ pub fn set_06_to_08(rec: &[u8; 245], known: bool) -> u64
 }
 
 // The set of errors 10 to 13.
-pub fn set_10_to_13(rec: &[u8; 245], year: u64, list: &[u8], ordered: bool, known: bool) -> u64
-    requires { IsOrderedIf ordered list.now }
-    ensures { (result ≡ number_of_codes (codes10to13 known year list.now rec.now)) × (result ≤ 15360) }
+pub fn set_10_to_13(rec: &[u8; 245], year: u64, locals: LocalCodes, known: bool) -> u64
+    ensures { (result ≡ number_of_codes (codes10to13 known year locals.entry.list.now rec.now)) × (result ≤ 15360) }
 {
-    flag(known & errors::has_10(rec, list, ordered), 10)
+    flag(known & errors::has_10(rec, locals), 10)
         + (flag(known & errors::has_11(rec), 11)
             + (flag(known & errors::has_12(rec), 12) + flag(known & errors::has_13(rec, year), 13)))
 }

@@ -2,23 +2,23 @@
 ghost use Rattle.std.specs.Prelude.{◌≡◌, List, ℕ, length};
 ghost use Rattle.std.proofs.Math.Option.{some};
 ghost use Rattle.layout.specs.Codes.{number_of_codes};
-ghost use Rattle.layout.specs.OrderedList.{IsOrderedIf};
 ghost use Rattle.judging.specs.Warnings.{warning51, is_renamed, warning52, warnings};
-ghost use Rattle.judging.specs.State.{row_if};
+ghost use Rattle.judging.specs.State.{row_in};
 
 use crate::{errors, parts};
 use casemaster::row;
+use layout::locals::LocalCodes;
+use layout::record::TransactionType::Add;
 use layout::{chart_a1, record};
 use text::fields;
 
 // Warning 51 (A): the local code is neither blank, 000 nor listed.
-pub fn has_51(rec: &[u8; 245], list: &[u8], ordered: bool) -> bool
-    requires { IsOrderedIf ordered list.now }
-    ensures { result ≡ warning51 list.now rec.now }
+#[tactic(auto, unfolding(crate::specs::Warnings::warning51))]
+pub fn has_51(rec: &[u8; 245], locals: LocalCodes) -> bool
+    ensures { result ≡ warning51 locals.entry.list.now rec.now }
 {
-    let t = rec[chart_a1::TYPE_AT];
-    if t == record::ADD {
-        !errors::is_local_code(rec, list, ordered)
+    if record::is_type(rec, Add) {
+        !errors::is_local_code(rec, locals)
     } else {
         false
     }
@@ -41,31 +41,27 @@ fn is_renamed(rec: &[u8; 245], row: &[u8]) -> bool
 }
 
 // Warning 52 (A): the first or the last name differs from a live row's.
-pub fn has_52(rec: &[u8; 245], held: bool, row: &[u8]) -> bool
-    requires { length row.now ≡ 200 }
-    ensures { result ≡ warning52 (row_if held row.now) rec.now }
+#[tactic(auto, unfolding(crate::specs::Warnings::warning52, crate::specs::Warnings::is_renamed))]
+pub fn has_52(rec: &[u8; 245], row: Option<&[u8; 200]>) -> bool
+    ensures { result ≡ warning52 (row_in row.entry) rec.now }
 {
-    let t = rec[chart_a1::TYPE_AT];
-    if t == record::ADD {
-        held & is_renamed(rec, row)
-    } else {
-        false
+    match row {
+        Some(row) => record::is_type(rec, Add) & is_renamed(rec, row),
+        None => false,
     }
 }
 
 // The set of a record's warnings, where it is known whether 51 is among them.
-pub fn warned_on_row(local: bool, rec: &[u8; 245], held: bool, row: &[u8]) -> u64
-    requires { length row.now ≡ 200 }
+pub fn warned_on_row(local: bool, rec: &[u8; 245], row: Option<&[u8; 200]>) -> u64
     ensures { (list : List ℕ) → local ≡ warning51 list rec.now
-        → result ≡ number_of_codes (warnings list (row_if held row.now) rec.now) }
+        → result ≡ number_of_codes (warnings list (row_in row.entry) rec.now) }
 {
-    parts::flag(local, 51) + parts::flag(has_52(rec, held, row), 52)
+    parts::flag(local, 51) + parts::flag(has_52(rec, row), 52)
 }
 
 // The set of a record's warnings.
-pub fn warned(rec: &[u8; 245], held: bool, row: &[u8], list: &[u8], ordered: bool) -> u64
-    requires { (length row.now ≡ 200) × IsOrderedIf ordered list.now }
-    ensures { result ≡ number_of_codes (warnings list.now (row_if held row.now) rec.now) }
+pub fn warned(rec: &[u8; 245], row: Option<&[u8; 200]>, locals: LocalCodes) -> u64
+    ensures { result ≡ number_of_codes (warnings locals.entry.list.now (row_in row.entry) rec.now) }
 {
-    warned_on_row(has_51(rec, list, ordered), rec, held, row)
+    warned_on_row(has_51(rec, locals), rec, row)
 }

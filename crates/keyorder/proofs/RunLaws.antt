@@ -8,7 +8,10 @@ use native.Mathlib.Omega.{arith}
 use native.Mathlib.Nat.{not-suc-le-zero}
 use borrow.Author.Tests.{ltb-true, ltb-false}
 use lib.Dec.{ltb}
-use lib.ListN.{get_or}
+use lib.ListN.{length, take, get_or}
+use lib.Seq.{length-take-le, get_or-take}
+use Rattle.std.specs.List.Sorted.{IsNonDecreasingBy, IsPartitionedBy, IsPartitionPoint}
+use Rattle.std.proofs.lemmas.List.Sorted.{IsNonDecreasingBy-from_default, IsPartitionedBy-ltb}
 use Rattle.text.proofs.BoolLaws.{or_left, or_right}
 use Rattle.keyorder.specs.Order.{no_rank}
 use Rattle.keyorder.specs.Tagged.{rank_part, flag_gives, makes_from}
@@ -16,8 +19,35 @@ use Rattle.keyorder.specs.Runs.{RanksRise, IsOwnEnd, any_from, RunFound}
 
 -- ---- the own ranks
 
-abbrev pub LowUpTo : ℕ → List ℕ → Type 0
-LowUpTo q s = (k : ℕ) → k < q → rank_part (get_or s k 0) < no_rank
+-- a rank of the state's own
+abbrev pub is_own : ℕ → Bool
+is_own x = ltb (rank_part x) no_rank
+
+module _ (d : ℕ) (s : List ℕ) (l : d ≤ length s) (r : RanksRise d s) where
+  -- the ranks of the first d numbers do not fall
+  ranks_level : IsNonDecreasingBy rank_part (take d s)
+  ranks_level = IsNonDecreasingBy-from_default rank_part (take d s) 0 level
+    where
+      level : (i j : ℕ) → i ≤ j → j < length (take d s) → rank_part (get_or (take d s) i 0) ≤ rank_part (get_or (take d s) j 0)
+      level i j h k = go (omega (arith, length-take-le d s l)) (ltb i j) refl
+        where
+          go : j < d → (t : Bool) → ltb i j ≡ t → rank_part (get_or (take d s) i 0) ≤ rank_part (get_or (take d s) j 0)
+          go w true e =
+              rw (get_or-take d s i 0 (omega (arith, ltb-true i j e)), get_or-take d s j 0 w) (r i j (ltb-true i j e) w)
+          go w false e = let m : i ≡ j = omega (arith, ltb-false i j e) in rw m (omega arith)
+
+  pub own_first : IsPartitionedBy is_own (take d s)
+  own_first = IsPartitionedBy-ltb rank_part (take d s) no_rank ranks_level
+
+  -- where the own ranks end
+  pub own_point : (q : ℕ) → q ≤ length (take d s) → IsPartitionPoint (λ x. is_own x ≡ true) (λ x. is_own x ≡ false) (take d s) q → IsOwnEnd d s q
+  own_point q h p =
+      let w : length (take d s) ≡ d = length-take-le d s l in
+      record {
+        within = omega arith;
+        low = λ k b. let e = get_or-take d s k 0 (omega arith) in ltb-true _ _ (rw e at (p.0 k 0 (omega arith) b));
+        high = λ k a b. let e = get_or-take d s k 0 b in ltb-false _ _ (rw e at (p.1 k 0 a (omega arith)));
+      }
 
 -- what holds below q and at q
 upto : (P : ℕ → Type 0) (q : ℕ) → ((k : ℕ) → k < q → P k) → P q → (k : ℕ) → k < q + 1 → P k
@@ -26,28 +56,6 @@ upto P q h x k l = go (ltb k q) refl
     go : (b : Bool) → ltb k q ≡ b → P k
     go true e = h k (ltb-true k q e)
     go false e = let m : k ≡ q = omega (arith, ltb-false k q e) in rw m x
-
-module _ (d : ℕ) (s : List ℕ) where
-  pub low_none : LowUpTo 0 s
-  low_none k l = absurd (not-suc-le-zero l)
-
-  pub low_next : (q : ℕ) → LowUpTo q s → rank_part (get_or s q 0) < no_rank → LowUpTo (q + 1) s
-  low_next q h x = upto (λ k. rank_part (get_or s k 0) < no_rank) q h x
-
-  pub own_here : (q : ℕ) → LowUpTo q s → q < d → RanksRise d s → no_rank ≤ rank_part (get_or s q 0) → IsOwnEnd d s q
-  own_here q h l r x =
-      record {
-        within = omega arith;
-        low = h;
-        high = λ k a b. go k a b (ltb q k) refl;
-      }
-    where
-      go : (k : ℕ) → q ≤ k → k < d → (t : Bool) → ltb q k ≡ t → no_rank ≤ rank_part (get_or s k 0)
-      go k a b true e = let y = r q k (ltb-true q k e) b in omega arith
-      go k a b false e = let m : k ≡ q = omega (arith, ltb-false q k e) in rw m x
-
-  pub own_all : (q : ℕ) → LowUpTo q s → q ≤ d → d ≤ q → IsOwnEnd d s q
-  own_all q h a b = record { within = a; low = h; high = λ k i j. absurd (omega arith) }
 
 -- ---- a run of one rank
 

@@ -9,14 +9,7 @@ pub fn own_end(numbers: &[u64], d: usize) -> usize
     requires { (d ≤ length numbers.now) × RanksRise d numbers.now }
     ensures { IsOwnEnd d numbers.now result }
 {
-    let mut q: usize = 0;
-    while q < d {
-        if rank::NO_RANK <= tagged::rank_part(numbers[q]) {
-            return q;
-        }
-        q += 1;
-    }
-    q
+    numbers[..d].partition_point(|x| tagged::rank_part(*x) < rank::NO_RANK)
 }
 
 // Where the details of one key end, whether one of them gives its name, and whether one makes a row where there is none.
@@ -35,8 +28,7 @@ pub fn run_at(numbers: &[u64], p: usize, own: usize) -> Run
     let rank = tagged::rank_part(numbers[p]);
     let mut gives = tagged::flag_gives(numbers[p]);
     let mut makes = tagged::makes_from(numbers[p]);
-    let mut e = p + 1;
-    while e < own {
+    for e in p + 1..own {
         let x = numbers[e];
         if tagged::rank_part(x) != rank {
             return Run {
@@ -47,10 +39,9 @@ pub fn run_at(numbers: &[u64], p: usize, own: usize) -> Run
         }
         gives = gives | tagged::flag_gives(x);
         makes = makes | tagged::makes_from(x);
-        e += 1;
     }
     Run {
-        end: e,
+        end: own,
         gives,
         makes,
     }

@@ -3,32 +3,35 @@
 ghost use Rattle.std.specs.Prelude.{◌≡◌, ◌+◌, ◌*◌, ◌^◌, ◌≤◌, ◌<◌, length};
 ghost use Rattle.text.specs.Blocks.{blocks};
 ghost use Rattle.layout.specs.Batch.{record_at};
-ghost use Rattle.layout.specs.OrderedList.{IsOrderedIf};
+ghost use Rattle.layout.specs.Record.{type_of};
 ghost use Rattle.keyorder.specs.Tagged.{rank_part, index_part, kind_part, flag_gives, flag_local, flag_wrong, makes_from, kind_of, IsTag, Tagged, TaggedAll, TaggedOrder};
 
 use crate::bits::{INDEX_PLACE, INDEXES, RANK_PLACE};
 use crate::rank;
+use judging::setting::Setting;
 use judging::{front, warnings};
-use layout::{chart_a1, locals, record, records};
+use layout::record::TransactionType;
+use layout::{record, records};
 use sorting::sorting::sort;
 use text::counting;
 
-// The kind of a record by its type.
-fn kind_of(t: u8) -> u64
-    ensures { (result ≡ kind_of t) × (result < 16) }
+// The kind of a record by its type, in four bits.
+#[tactic(auto, unfolding(crate::specs::Tagged::kind_of))]
+fn kind_of(rec: &[u8; 245]) -> u64
+    ensures { (result ≡ kind_of (type_of rec.now)) × (result < 16) }
 {
-    match t {
-        record::ADD => 0,
-        record::RENAME => 1,
-        record::CASE_ID => 2,
-        record::DELETE => 3,
-        record::LOCAL_CODE => 4,
-        record::MODIFY => 5,
-        record::EXCLUDE => 6,
-        record::PAYMENT => 7,
-        record::TRANSFER => 8,
-        record::ADDRESS => 9,
-        _ => 15,
+    match record::type_of(rec) {
+        Some(TransactionType::Add) => 0,
+        Some(TransactionType::Rename) => 1,
+        Some(TransactionType::CaseId) => 2,
+        Some(TransactionType::Delete) => 3,
+        Some(TransactionType::LocalCode) => 4,
+        Some(TransactionType::Modify) => 5,
+        Some(TransactionType::Exclude) => 6,
+        Some(TransactionType::Payment) => 7,
+        Some(TransactionType::Transfer) => 8,
+        Some(TransactionType::Address) => 9,
+        None => 15,
     }
 }
 
@@ -88,50 +91,39 @@ pub fn makes_from(number: u64) -> bool
 }
 
 // Detail i judged, its number.
-fn tag_detail(batch: &[u8], i: usize, state: &[u8], year: u64, list: &[u8], ordered: bool) -> u64
-    requires { (i * 245 + 245 ≤ length batch.now) × (i < 2 ^ 24) × IsOrderedIf ordered list.now }
-    ensures { Tagged state.now year list.now i (record_at batch.now i) result }
+fn tag_detail(batch: &[u8], i: usize, setting: Setting) -> u64
+    requires { (i * 245 + 245 ≤ length batch.now) × (i < 2 ^ 24) }
+    ensures { Tagged setting.entry.state.now setting.entry.year setting.entry.locals.list.now i (record_at batch.now i) result }
 {
     let rec = records::record_at(batch, i);
-    let f = front::judge_front(&rec, state, year, list, ordered);
+    let f = front::judge_front(&rec, setting);
     let key = records::key_at(batch, i);
-    let rank = rank::rank_of(state, &key, f.key);
+    let rank = rank::rank_of(setting.state, &key, f.key);
     let set = f.set;
     let wrong = set != 0;
-    let local = warnings::has_51(&rec, list, ordered);
-    let t = rec[chart_a1::TYPE_AT];
-    let kind = kind_of(t);
+    let local = warnings::has_51(&rec, setting.locals);
+    let kind = kind_of(&rec);
     let gives = (kind == 1) & !wrong;
     tag(rank, i as u64, kind, gives, local, wrong)
 }
 
 // Writes the numbers of the first d details.
-fn tag_details(batch: &[u8], d: usize, state: &[u8], year: u64, list: &[u8], numbers: &mut [u64])
+fn tag_details(batch: &[u8], d: usize, setting: Setting, numbers: &mut [u64])
     requires { (d * 245 ≤ length batch.now) × (d ≤ length numbers.old) × (d ≤ 2 ^ 24) }
-    ensures { TaggedAll state.now year list.now (blocks 245 d batch.now) d
+    ensures { TaggedAll setting.entry.state.now setting.entry.year setting.entry.locals.list.now (blocks 245 d batch.now) d
         numbers.old numbers.new }
 {
-    let ordered = locals::is_ordered(list);
-    let mut i: usize = 0;
-    while i < d {
-        numbers[i] = tag_detail(batch, i, state, year, list, ordered);
-        i += 1;
+    for i in 0..d {
+        numbers[i] = tag_detail(batch, i, setting);
     }
 }
 
 // The details judged and their numbers in the order of their keys.
-pub fn order_tagged(
-    batch: &[u8],
-    d: usize,
-    state: &[u8],
-    year: u64,
-    list: &[u8],
-    numbers: &mut [u64],
-)
+pub fn order_tagged(batch: &[u8], d: usize, setting: Setting, numbers: &mut [u64])
     requires { (d * 245 ≤ length batch.now) × (d ≤ length numbers.old) × (d ≤ 2 ^ 24) }
-    ensures { TaggedOrder state.now year list.now (blocks 245 d batch.now) d
+    ensures { TaggedOrder setting.entry.state.now setting.entry.year setting.entry.locals.list.now (blocks 245 d batch.now) d
         numbers.old numbers.new }
 {
-    tag_details(batch, d, state, year, list, numbers);
+    tag_details(batch, d, setting, numbers);
     sort(&mut numbers[0..d]);
 }

@@ -3,7 +3,7 @@ use Prim.Native.Nat.{ℕ, ◌+◌, ◌*◌, ◌≤◌}
 use mathlib.Core.Path.{◌≡◌, refl, sym, ap, ◌∙◌, subst}
 use mathlib.Core.Bool.{Bool, true, false, not, cond, ◌&&◌, false≢true, true≢false}
 use mathlib.Core.List.{List, ◌++◌, append-nil}
-use mathlib.Core.Option.{Option}
+use mathlib.Core.Option.{Option, none, some}
 use native.Mathlib.Omega.{arith}
 use borrow.Author.Tests.{ltb-true}
 use lib.Dec.{ltb}
@@ -24,14 +24,12 @@ use Rattle.judging.specs.State.{row_if}
 -- ---- a row written, or none
 
 module _ (m : List ℕ) (p : ℕ) (row m' : List ℕ) where
-  pub row_put : (held : Bool) → held ≡ true → RowPut m p row m' → RowOfPut m p (row_if held row) m' (p + 1)
-  row_put true e r = record { next_is = refl; rows_are = r.rows_are; rest_kept = r.rest_kept }
-  row_put false e r = absurd (false≢true e)
+  pub row_put : RowPut m p row m' → RowOfPut m p (some row) m' (p + 1)
+  row_put r = record { next_is = refl; rows_are = r.rows_are; rest_kept = r.rest_kept }
 
-  pub none_put : (held : Bool) → held ≡ false → RowOfPut m p (row_if held row) m p
-  none_put true e = absurd (true≢false e)
-  none_put false e =
-      record { next_is = omega arith; rows_are = sym (append-nil (rows_of p m)); rest_kept = refl }
+pub none_put : (m : List ℕ) (p : ℕ) → RowOfPut m p none m p
+none_put m p =
+    record { next_is = omega arith; rows_are = sym (append-nil (rows_of p m)); rest_kept = refl }
 
 -- ---- one key
 
@@ -137,6 +135,5 @@ row_there m key at end held f l t =
     let a = ltb-true at end (and_left (ltb at end) _ (sym f ∙ t)) in
     omega (arith, a)
 
-pub row_room : (p : ℕ) (row : List ℕ) (held : Bool) → held ≡ true → (l : ℕ) → (p + length (one_or_none (row_if held row))) * 200 ≤ l → p * 200 + 200 ≤ l
-row_room p row true e l h = omega (arith, h)
-row_room p row false e l h = absurd (false≢true e)
+pub row_room : (p : ℕ) (row : List ℕ) (l : ℕ) → (p + length (one_or_none (some row))) * 200 ≤ l → p * 200 + 200 ≤ l
+row_room p row l h = omega (arith, h)

@@ -19,15 +19,15 @@ use Rattle.judging.specs.Warnings.{warning51}
 use Rattle.judging.specs.declared.front.FrontErrors.{FrontErrors}
 use Rattle.judging.proofs.NamesLaws.{some_names}
 use Rattle.onecase.specs.Known.{UnderKnown, IsStepIn}
-use Rattle.onecase.specs.declared.known.StepIn.{StepIn}
-use Rattle.judging.specs.State.{row_if}
+use Rattle.onecase.specs.Machine.{row_of}
+use Rattle.onecase.specs.declared.case.Case.{Case}
+use Rattle.onecase.specs.declared.verdict.Verdict.{Verdict}
 use Rattle.onecase.proofs.JudgementLaws.{alone_judged}
 use Rattle.onecase.specs.Verdict.{judgement, meaning}
 use Rattle.onecase.specs.Machine.{next}
 use Rattle.keywork.specs.Packed.{Packed}
 use Rattle.keyorder.specs.Tagged.{index_part, flag_local, flag_wrong, flag_given, record_in}
 use Rattle.keywork.specs.Worked.{UnderTag, OneWorked, UnderTags, row_after, RunWorked, UnderAlone, AloneWorked}
-use Rattle.keywork.specs.declared.worked.After.{After}
 
 -- no error where the flag says so
 pub none_wrong : (n : ℕ) → false ≡ not (eqb n 0) → n ≡ 0
@@ -93,15 +93,15 @@ module _ (setting : Setting) (batch : List ℕ) (p : ℕ) (row : Option (List �
 -- ---- one detail, as the code puts it together
 
 pub work_one : (state : List ℕ) (year : ℕ) (list batch : List ℕ) (x i : ℕ) (rec : List ℕ) (row : Option (List ℕ))
-    (f : FrontErrors) (local given : Bool) (left : List ℕ) (st : StepIn) (n : ℕ)
+    (f : FrontErrors) (local given : Bool) (left : Case) (v : Verdict) (n : ℕ)
     → i ≡ index_part x → rec ≡ record_at batch i
     → (flag_wrong x ≡ not (eqb (number_of_codes (front_errors state year list rec)) 0) → IsFront state year list rec f)
     → local ≡ flag_local x → given ≡ flag_given x
-    → UnderKnown f local given list rec (λ setting. IsStepIn setting row rec left st)
-    → Packed n i (meaning st.verdict)
+    → UnderKnown f local given list rec (λ setting. IsStepIn setting row rec left v)
+    → Packed n i (meaning v)
     → UnderTag state year list (record_at batch (index_part x)) x
-    (λ setting. OneWorked setting row (record_at batch (index_part x)) (index_part x) left (record { held = st.held; number = n }))
-work_one state year list batch x i rec row f local given left st n ei er hf el eg hs hp names k g =
+    (λ setting. OneWorked setting row (record_at batch (index_part x)) (index_part x) (row_of left) n)
+work_one state year list batch x i rec row f local given left v n ei er hf el eg hs hp names k g =
     let e : record_at batch (index_part x) ≡ rec = ap (record_at batch) (sym ei) ∙ sym er in
     let w : flag_wrong x ≡ not (eqb (number_of_codes (front_errors state year list rec)) 0) = rw e at k.wrong_is in
     let l : flag_local x ≡ warning51 list rec = rw e at k.local_is in
@@ -114,16 +114,16 @@ work_one state year list batch x i rec row f local given left st n ei er hf el e
 
 -- ---- one detail more of a run
 
-pub run_turn : (state : List ℕ) (year : ℕ) (list batch : List ℕ) (p e q : ℕ) (row r : Option (List ℕ)) (numbers s left : List ℕ) (a : After)
+pub run_turn : (state : List ℕ) (year : ℕ) (list batch : List ℕ) (p e q : ℕ) (row r left : Option (List ℕ)) (numbers s : List ℕ) (a : ℕ)
     → p ≤ q → q < e → e ≤ length numbers → get_or s q 0 ≡ get_or numbers q 0
     → UnderTags state year list batch numbers p e (λ setting. RunWorked setting batch p q row r numbers s)
     → UnderTag state year list (record_at batch (index_part (get_or s q 0))) (get_or s q 0)
     (λ setting. OneWorked setting r (record_at batch (index_part (get_or s q 0))) (index_part (get_or s q 0)) left a)
-    → UnderTags state year list batch numbers p e (λ setting. RunWorked setting batch p (q + 1) row (row_if a.held left) numbers (set s q a.number))
-run_turn state year list batch p e q row r numbers s left a lp le room same run one names kn mk =
+    → UnderTags state year list batch numbers p e (λ setting. RunWorked setting batch p (q + 1) row left numbers (set s q a))
+run_turn state year list batch p e q row r left numbers s a lp le room same run one names kn mk =
     let o = one names (rw same (kn q lp le)) (rw same (mk q lp le)) in
     let setting = setting_of state year list names in
-    run_step setting batch p row numbers q a.number r (row_if a.held left) s lp (omega arith) (run names kn mk)
+    run_step setting batch p row numbers q a r left s lp (omega arith) (run names kn mk)
     (rw same at o.row_is) (rw same at o.packed)
 
 -- ---- details on no row
@@ -133,25 +133,25 @@ module _ (state : List ℕ) (year : ℕ) (list batch : List ℕ) (p : ℕ) (numb
   alone_none e names kn = record { packed = λ q a b. absurd (omega arith); kept = λ q o. refl; width = refl }
 
   -- one detail more: of its own mark there are names, and on no row all names judge alike
-  pub alone_turn : (e q : ℕ) (s left : List ℕ) (a : After)
+  pub alone_turn : (e q : ℕ) (s : List ℕ) (left : Option (List ℕ)) (a : ℕ)
       → p ≤ q → q < e → e ≤ length numbers → get_or s q 0 ≡ get_or numbers q 0
       → UnderAlone state year list batch numbers p e (λ setting. AloneWorked setting batch p q numbers s)
       → UnderTag state year list (record_at batch (index_part (get_or s q 0))) (get_or s q 0)
       (λ setting. OneWorked setting none (record_at batch (index_part (get_or s q 0))) (index_part (get_or s q 0)) left a)
-      → UnderAlone state year list batch numbers p e (λ setting. AloneWorked setting batch p (q + 1) numbers (set s q a.number))
+      → UnderAlone state year list batch numbers p e (λ setting. AloneWorked setting batch p (q + 1) numbers (set s q a))
   alone_turn e q s left a lp le room same run one names kn =
       let w = run names kn in
       let t = some_names (record_in batch numbers q) (flag_given (get_or numbers q 0)) in
       let o = one t.0 (rw same (kn q lp le)) (rw same t.1) in
-      let pl : Packed a.number (index_part (get_or numbers q 0)) (judgement (setting_of state year list t.0) none (record_in batch numbers q)) =
+      let pl : Packed a (index_part (get_or numbers q 0)) (judgement (setting_of state year list t.0) none (record_in batch numbers q)) =
       rw same at o.packed in
-      let pm : Packed a.number (index_part (get_or numbers q 0)) (judgement (setting_of state year list names) none (record_in batch numbers q)) =
+      let pm : Packed a (index_part (get_or numbers q 0)) (judgement (setting_of state year list names) none (record_in batch numbers q)) =
       rw (alone_judged state year list (record_in batch numbers q) t.0 names) at pl in
       let ls : q < length s = rw w.width (omega arith) in
       record {
         packed = λ k b c. at k b c ls pm w (ltb k q) refl;
-        kept = λ k o. rw (get_or-set_other s q k a.number 0 (apart k o)) (w.kept k (far k o));
-        width = length-set s q a.number ∙ w.width;
+        kept = λ k o. rw (get_or-set_other s q k a 0 (apart k o)) (w.kept k (far k o));
+        width = length-set s q a ∙ w.width;
       }
     where
       apart : (k : ℕ) → (k < p) ⊎ (q + 1 ≤ k) → k ≡ q → ⊥
@@ -163,13 +163,13 @@ module _ (state : List ℕ) (year : ℕ) (list batch : List ℕ) (p : ℕ) (numb
       far k (inr b) = inr (omega arith)
 
       at : (k : ℕ) → p ≤ k → k < q + 1 → q < length s
-          → Packed a.number (index_part (get_or numbers q 0)) (judgement (setting_of state year list names) none (record_in batch numbers q))
+          → Packed a (index_part (get_or numbers q 0)) (judgement (setting_of state year list names) none (record_in batch numbers q))
           → AloneWorked (setting_of state year list names) batch p q numbers s
           → (b : Bool) → ltb k q ≡ b
-          → Packed (get_or (set s q a.number) k 0) (index_part (get_or numbers k 0)) (judgement (setting_of state year list names) none (record_in batch numbers k))
+          → Packed (get_or (set s q a) k 0) (index_part (get_or numbers k 0)) (judgement (setting_of state year list names) none (record_in batch numbers k))
       at k b c ls pm w true f =
           let l = ltb-true k q f in
-          rw (get_or-set_other s q k a.number 0 (λ (z : k ≡ q). omega arith)) (w.packed k b l)
+          rw (get_or-set_other s q k a 0 (λ (z : k ≡ q). omega arith)) (w.packed k b l)
       at k b c ls pm w false f =
           let l : k ≡ q = omega (arith, ltb-false k q f) in
-          rw (l, get_or-set_same s q a.number 0 ls) pm
+          rw (l, get_or-set_same s q a 0 ls) pm

@@ -5,21 +5,19 @@ use Rattle.std.proofs.Math.Option.{Option, none}
 use Rattle.judging.specs.Errors.{is_given}
 use Rattle.judging.specs.Setting.{Setting, setting_of}
 use Rattle.onecase.specs.Verdict.{judgement}
-use Rattle.judging.specs.State.{row_if}
 use Rattle.onecase.specs.Machine.{next}
 use Rattle.keywork.specs.Packed.{place_in, Packed}
 use Rattle.keyorder.specs.Tagged.{index_part, flag_given, Known, record_in}
-use Rattle.keywork.specs.declared.worked.After.{After}
 
 -- it holds in the settings of which a number says so
 abbrev pub UnderTag : List ℕ → ℕ → List ℕ → List ℕ → ℕ → (Setting → Type 0) → Type 0
 UnderTag state year list rec n holds =
     (names : List (List ℕ)) → Known state year list rec n → flag_given n ≡ is_given names rec → holds (setting_of state year list names)
 
--- one detail worked, and the bytes that it leaves of the row
-pub record OneWorked (setting : Setting) (row : Option (List ℕ)) (rec : List ℕ) (i : ℕ) (left : List ℕ) (r : After) : Type 0 where
-  pub row_is : row_if r.held left ≡ next setting row rec
-  pub packed : Packed r.number i (judgement setting row rec)
+-- one detail worked: what it leaves of the row, and its number
+pub record OneWorked (setting : Setting) (row : Option (List ℕ)) (rec : List ℕ) (i : ℕ) (left : Option (List ℕ)) (n : ℕ) : Type 0 where
+  pub row_is : left ≡ next setting row rec
+  pub packed : Packed n i (judgement setting row rec)
 
 -- it holds in the settings of which the numbers from p up to e say so
 abbrev pub UnderTags : List ℕ → ℕ → List ℕ → List ℕ → List ℕ → ℕ → ℕ → (Setting → Type 0) → Type 0

@@ -23,14 +23,12 @@ fn touched_together(batch: &[u8], numbers: &[u64], q: usize) -> u8
     requires { q ≤ length numbers.now }
 {
     let mut joined = 0xFFu8;
-    let mut i: usize = 0;
-    while i < TOGETHER {
+    for i in 0..TOGETHER {
         let ahead = TOGETHER + i;
         if numbers.len() - q <= ahead {
             return joined;
         }
-        joined = joined & touched(batch, numbers[q + ahead]);
-        i += 1;
+        joined &= touched(batch, numbers[q + ahead]);
     }
     joined
 }

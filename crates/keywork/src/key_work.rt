@@ -1,10 +1,10 @@
 // One key's details: the names that they give marked among them, then each through the machine.
-ghost use Rattle.layout.specs.OrderedList.{IsOrderedIf};
 ghost use Rattle.onecase.specs.Machine.{row_of};
 ghost use Rattle.keywork.specs.Worked.{RunWorked};
 ghost use Rattle.keywork.specs.KeyWork.{KeyReady, run_setting};
 
 use crate::worked;
+use judging::setting::Setting;
 use namemarks::marks;
 use onecase::case::Case;
 
@@ -16,16 +16,12 @@ pub fn work_key(
     p: usize,
     e: usize,
     gives: bool,
-    state: &[u8],
-    year: u64,
-    list: &[u8],
-    ordered: bool,
+    setting: Setting,
 ) -> Case
-    requires key_ready { KeyReady state.now year list.now batch.now numbers.old p e gives }
-    requires ordered_if { IsOrderedIf ordered list.now }
-    ensures { RunWorked (run_setting state.now year list.now batch.now numbers.old p e)
+    requires { KeyReady setting.state.now setting.year setting.locals.list.now batch.now numbers.old p e gives }
+    ensures { RunWorked (run_setting setting.entry.state.now setting.entry.year setting.entry.locals.list.now batch.now numbers.old p e)
         batch.now p e (row_of case) (row_of result) numbers.old numbers.new }
 {
-    marks::mark_run(batch, state, numbers, p, e, gives);
-    worked::work_run(case, batch, numbers, p, e, state, year, list, ordered)
+    marks::mark_run(batch, setting.state, numbers, p, e, gives);
+    worked::work_run(case, batch, numbers, p, e, setting)
 }

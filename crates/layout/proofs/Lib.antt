@@ -1,4 +1,3 @@
-pub mod CodeNumberLaws
 pub mod CodesLaws
 pub mod KeyLaws
 pub mod KeyNumberLaws
@@ -11,3 +10,4 @@ pub mod SearchLaws
 pub mod SsnLaws
 pub mod StatesLaws
 pub mod StatePlaceLaws
+pub mod TypeLaws

@@ -2,13 +2,16 @@
 -- entry is two bytes are computed.
 -- Assumes nothing.
 use mathlib.Core.Path.{◌≡◌, refl, sym, ◌∙◌}
-use mathlib.Core.Bool.{Bool, true, false, ◌&&◌}
+use mathlib.Core.Bool.{Bool, true, false, ◌&&◌, ◌||◌, or_assoc, or-false}
 use mathlib.Core.List.{List, [], ◌∷◌, map}
 use Prim.Native.Nat.{ℕ, ◌+◌, ◌*◌, ◌<◌}
 use native.Mathlib.Omega.{arith}
 use borrow.Author.Tests.{ltb-true, eq-eqb, ne_eqb, eqb-true, eqb-false}
 use lib.Dec.{ltb, eqb}
 use lib.ListN.{length, get_or, get_or-map}
+use mir.Syntax.{w16}
+use Rattle.std.specs.Int.{from_be_bytes}
+use Rattle.std.specs.List.{fold}
 use Rattle.text.specs.Fields.{same_bytes, is_one_of}
 use Rattle.layout.specs.States.{state_table, is_state}
 use Rattle.layout.specs.StateCodes.{code_of, state_codes, rising_numbers, is_in, is_state_code}
@@ -92,6 +95,15 @@ states_pairs = refl
 pub state_code : {table : List (List ℕ)} → table ≡ state_table → (i : ℕ) → code_of (get_or table i []) ≡ get_or state_codes i 0
 unfolding state_codes
 state_code e i = rw e (sym (get_or-map code_of state_table i []))
+
+-- a number compared with each of a list, gathered from the first on
+pub in-fold : (x : ℕ) (found : Bool) (l : List (List ℕ)) → fold (λ (b : Bool) (t : List ℕ). b || eqb x (code_of t)) found l ≡ (found || is_in x (map code_of l))
+in-fold x found [] = sym (or-false found)
+in-fold x found (t ∷ l) = in-fold x (found || eqb x (code_of t)) l ∙ or_assoc found (eqb x (code_of t)) (is_in x (map code_of l))
+
+-- the number of two bytes, as the library reads it
+pub code-bytes : (s : List ℕ) → from_be_bytes w16 s ≡ code_of s
+code-bytes s = omega arith
 
 -- two bytes are a state where their number is a state's
 pub state_of-code : (s : List ℕ) → length s ≡ 2 → get_or s 1 0 < 256 → is_state s ≡ is_state_code (code_of s)

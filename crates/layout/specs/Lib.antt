@@ -12,6 +12,7 @@ pub mod Locals
 pub mod Name
 pub mod ProcessYear
 pub mod Record
+pub mod TransactionType
 pub mod Ssn
 pub mod StateCodes
 pub mod States

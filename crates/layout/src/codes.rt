@@ -23,8 +23,7 @@ pub fn without_lowest(set: u64) -> u64
 pub fn written(set: u64) -> usize
     ensures { result ≡ min 6 (length (codes_of_number set)) }
 {
-    let ones = u64::count_ones(set);
-    if ones < 6 { ones as usize } else { 6 }
+    (u64::count_ones(set) as usize).min(6)
 }
 
 // The six lowest codes, rising, two digits each; spaces behind them.
@@ -32,15 +31,12 @@ pub fn codes_text(set: u64) -> [u8; 12]
     ensures { result ≡ six_lowest (codes_of_number set) }
 {
     let mut out = [0x40u8; 12];
-    let n = written(set);
     let mut left = set;
-    let mut k: usize = 0;
-    while k < n {
+    for k in 0..written(set) {
         let c = lowest(left);
         out[2 * k] = (240 + c / 10) as u8;
         out[2 * k + 1] = (240 + c % 10) as u8;
         left = without_lowest(left);
-        k += 1;
     }
     out
 }

@@ -25,24 +25,15 @@ fn are_four_letters(s: &[u8]) -> bool
     a & b & c & d
 }
 
-// Whether s is one or more letters or hyphens with only spaces behind, byte by byte.
+// Whether s is one or more letters or hyphens with only spaces behind, byte by byte. Never inlined, so that four letters cost no more.
+#[inline(never)]
 fn is_name_by_byte(s: &[u8]) -> bool
     ensures { result ≡ is_name s.now }
 {
-    if s.len() == 0 {
-        return false;
+    match s.iter().position(|b| !is_name_byte(*b)) {
+        Some(i) => i != 0 && fields::is_blank(&s[i..]),
+        None => !s.is_empty(),
     }
-    if !is_name_byte(s[0]) {
-        return false;
-    }
-    let mut i: usize = 1;
-    while i < s.len() {
-        if !is_name_byte(s[i]) {
-            return fields::is_blank(&s[i..]);
-        }
-        i += 1;
-    }
-    true
 }
 
 // The same; four letters are seen at once.
@@ -52,10 +43,7 @@ pub fn is_name(s: &[u8]) -> bool
     if s.len() != 4 {
         return is_name_by_byte(s);
     }
-    if are_four_letters(s) {
-        return true;
-    }
-    is_name_by_byte(s)
+    are_four_letters(s) || is_name_by_byte(s)
 }
 
 // Whether four bytes are a name with a letter.
@@ -63,22 +51,12 @@ pub fn is_lettered_name(s: &[u8]) -> bool
     requires { length s.now ≡ 4 }
     ensures { result ≡ (is_name s.now && has_letter s.now) }
 {
-    if are_four_letters(s) {
-        return true;
-    }
-    is_name_by_byte(s) & has_letter(s)
+    are_four_letters(s) || (is_name_by_byte(s) & has_letter(s))
 }
 
 // Whether some byte of s is a letter.
 pub fn has_letter(s: &[u8]) -> bool
     ensures { result ≡ has_letter s.now }
 {
-    let mut i: usize = 0;
-    while i < s.len() {
-        if characters::is_letter(s[i]) {
-            return true;
-        }
-        i += 1;
-    }
-    false
+    s.iter().any(|b| characters::is_letter(*b))
 }

@@ -1,31 +1,81 @@
-// A detail record: its key and its type.
+// A record: its key and its type.
 ghost use Rattle.std.specs.Prelude.{◌≡◌, length};
 ghost use Rattle.text.specs.Fields.{same_bytes};
-ghost use Rattle.layout.specs.Record.{record_key, is_known_type};
+ghost use Rattle.layout.specs.Record.{record_key, is_type, is_known_type};
+ghost use Rattle.layout.specs.TransactionType.{Decodes, IsTypeOf, type_byte};
 
 use crate::{chart_a1, key};
 use text::fields;
 
-// The transaction types.
-pub const ADD: u8 = 0xC1;
+// The transaction types of Chart A-1, column 73.
+#[derive(Clone, Copy, Debug, PartialEq, Eq)]
+pub enum TransactionType {
+    // A: a case added, or certified again.
+    Add,
+    // B: a name changed.
+    Rename,
+    // C: the case ID changed.
+    CaseId,
+    // D: a case deleted.
+    Delete,
+    // L: the local code changed.
+    LocalCode,
+    // M: the arrearage changed.
+    Modify,
+    // R: the exclusions replaced.
+    Exclude,
+    // S: a state payment.
+    Payment,
+    // T: a transfer for administrative review.
+    Transfer,
+    // Z: the address changed.
+    Address,
+}
 
-pub const RENAME: u8 = 0xC2;
+// A byte that is no transaction type.
+#[derive(Clone, Copy, Debug, PartialEq, Eq)]
+pub struct UnknownType(pub u8);
 
-pub const CASE_ID: u8 = 0xC3;
+impl TryFrom<u8> for TransactionType {
+    type Error = UnknownType;
 
-pub const DELETE: u8 = 0xC4;
+    ghost try_from_gives = { Decodes };
 
-pub const LOCAL_CODE: u8 = 0xD3;
+    fn try_from(byte: u8) -> Result<Self, UnknownType> {
+        match byte {
+            0xC1 => Ok(TransactionType::Add),
+            0xC2 => Ok(TransactionType::Rename),
+            0xC3 => Ok(TransactionType::CaseId),
+            0xC4 => Ok(TransactionType::Delete),
+            0xD3 => Ok(TransactionType::LocalCode),
+            0xD4 => Ok(TransactionType::Modify),
+            0xD9 => Ok(TransactionType::Exclude),
+            0xE2 => Ok(TransactionType::Payment),
+            0xE3 => Ok(TransactionType::Transfer),
+            0xE9 => Ok(TransactionType::Address),
+            _ => Err(UnknownType(byte)),
+        }
+    }
+}
 
-pub const MODIFY: u8 = 0xD4;
+impl From<TransactionType> for u8 {
+    ghost from_gives = { λ t byte. byte ≡ type_byte t };
 
-pub const EXCLUDE: u8 = 0xD9;
-
-pub const PAYMENT: u8 = 0xE2;
-
-pub const TRANSFER: u8 = 0xE3;
-
-pub const ADDRESS: u8 = 0xE9;
+    fn from(transaction_type: TransactionType) -> u8 {
+        match transaction_type {
+            TransactionType::Add => 0xC1,
+            TransactionType::Rename => 0xC2,
+            TransactionType::CaseId => 0xC3,
+            TransactionType::Delete => 0xC4,
+            TransactionType::LocalCode => 0xD3,
+            TransactionType::Modify => 0xD4,
+            TransactionType::Exclude => 0xD9,
+            TransactionType::Payment => 0xE2,
+            TransactionType::Transfer => 0xE3,
+            TransactionType::Address => 0xE9,
+        }
+    }
+}
 
 // A record's key: columns 1–2, 6–14 and 74.
 pub fn record_key(rec: &[u8]) -> [u8; 12]
@@ -39,11 +89,24 @@ pub fn record_key(rec: &[u8]) -> [u8; 12]
     key
 }
 
+// A record's type, if it is one of the ten.
+pub fn type_of(rec: &[u8; 245]) -> Option<TransactionType>
+    ensures { IsTypeOf rec.now result }
+{
+    TransactionType::try_from(rec[chart_a1::TYPE_AT]).ok()
+}
+
+// Whether a record is of a type.
+pub fn is_type(rec: &[u8], transaction_type: TransactionType) -> bool
+    requires { length rec.now ≡ 245 }
+    ensures { result ≡ is_type (type_byte transaction_type) rec.now }
+{
+    rec[chart_a1::TYPE_AT] == u8::from(transaction_type)
+}
+
 // Whether a record is of one of the ten types.
 pub fn is_known_type(rec: &[u8; 245]) -> bool
     ensures { result ≡ is_known_type rec.now }
 {
-    let t = rec[chart_a1::TYPE_AT];
-    let first = (t == ADD) | (t == RENAME) | (t == CASE_ID) | (t == DELETE) | (t == LOCAL_CODE);
-    first | (t == MODIFY) | (t == EXCLUDE) | (t == PAYMENT) | (t == TRANSFER) | (t == ADDRESS)
+    type_of(rec).is_some()
 }

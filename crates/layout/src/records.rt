@@ -1,10 +1,9 @@
 // The records of a batch.
 ghost use Rattle.std.specs.Prelude.{◌≡◌, ◌+◌, ◌*◌, ◌≤◌, length, take, drop};
-ghost use Rattle.text.specs.Fields.{same_bytes};
 ghost use Rattle.layout.specs.Record.{record_key};
 
 use crate::record;
-use text::fields;
+use text::blocks;
 
 pub const RECORD_WIDTH: usize = 245;
 
@@ -13,11 +12,7 @@ pub fn record_at(batch: &[u8], i: usize) -> [u8; 245]
     requires { i * 245 + 245 ≤ length batch.now }
     ensures { result ≡ take 245 (drop (i * 245) batch.now) }
 {
-    let at = i * RECORD_WIDTH;
-    let end = at + RECORD_WIDTH;
-    let mut r = [0u8; 245];
-    fields::copy_in(&mut r, 0, &batch[at..end]);
-    r
+    blocks::block_at(batch, i)
 }
 
 // The key of the record at place i, without a copy of the record.

@@ -1,7 +1,7 @@
 // The state table and membership in it.
 ghost use Rattle.std.specs.Prelude.{◌≡◌, true, ◌<◌};
 ghost use Rattle.layout.specs.States.{state_table, is_state};
-ghost use Rattle.layout.specs.StateCodes.{code_of, state_codes, is_state_code, count_below, state_place};
+ghost use Rattle.layout.specs.StateCodes.{state_codes, is_state_code, count_below, state_place};
 
 use text::counting;
 
@@ -70,38 +70,23 @@ fn states() -> [[u8; 2]; 54]
     STATES
 }
 
-// A code as a number, the first byte the higher.
-fn code_of(code: [u8; 2]) -> u16
-    ensures { result ≡ code_of code }
-{
-    (code[0] as u16) * 256 + (code[1] as u16)
-}
-
-// Whether the number is a state's: the table is halved until one code is left, which is compared. What is found decides no branch, so that states
-// in any order take the same time.
+// Whether the number is a state's. It is compared with every code, and nothing is decided on the way: that becomes a few comparisons of
+// many codes at once, and states in any order take the same time. Never inlined, since beside a caller's code they become more.
+#[inline(never)]
 fn is_code(x: u16) -> bool
     ensures { result ≡ is_state_code x }
 {
-    let table = states();
-    let mut lo: usize = 0;
-    let mut left: usize = 54;
-    while 1 < left {
-        let half = left / 2;
-        let y = code_of(table[lo + half]);
-        lo += half * counting::one_if(y <= x);
-        left -= half;
-    }
-    code_of(table[lo]) == x
+    states().iter().fold(
+        false,
+        |found, code| found | (x == u16::from_be_bytes(*code)),
+    )
 }
 
 // Whether s is a code of the state table.
 pub fn is_state(s: &[u8]) -> bool
     ensures { result ≡ is_state s.now }
 {
-    if s.len() != 2 {
-        return false;
-    }
-    is_code((s[0] as u16) * 256 + (s[1] as u16))
+    s.len() == 2 && is_code(u16::from_be_bytes([s[0], s[1]]))
 }
 
 // The number of the first state of the table.
@@ -112,23 +97,17 @@ pub fn is_code_after(known: u16, x: u16) -> bool
     requires { is_state_code known ≡ true }
     ensures { result ≡ is_state_code x }
 {
-    if x == known {
-        return true;
-    }
-    is_code(x)
+    x == known || is_code(x)
 }
 
 // How many states' numbers are below x.
 fn count_below(x: u16) -> usize
     ensures { result ≡ count_below x state_codes }
 {
-    let table = states();
     let mut n: usize = 0;
-    let mut i: usize = 0;
-    while i < 54 {
-        let y = code_of(table[i]);
+    for code in &states() {
+        let y = u16::from_be_bytes(*code);
         n += counting::one_if(y < x);
-        i += 1;
     }
     n
 }
@@ -138,5 +117,5 @@ pub fn place_of(s: &[u8]) -> usize
     requires { is_state s.now ≡ true }
     ensures { (result ≡ state_place s.now) × (result < 54) }
 {
-    count_below((s[0] as u16) * 256 + (s[1] as u16))
+    count_below(u16::from_be_bytes([s[0], s[1]]))
 }

@@ -1,15 +1,15 @@
 // Error 16: line (d) of document 01's table and the words beside it, in a field of forty columns; and the columns of a set.
 use crate::lists::Subject;
 use crate::{ebcdic, lists};
-use exclusionsets::exclusions::{Exclusions, exclusion_columns, read_exclusions};
+use exclusionsets::exclusions::{exclusion_columns, read_exclusions};
 use std::io;
 use vector_text::print;
 
 // What a field's words give.
 pub fn read(rt: &impl Print, field: &[u8]) -> io::Result<()> {
     match read_exclusions(field) {
-        Exclusions::Set(set) => println!(rt; "{set}"),
-        Exclusions::Failure => println!(rt; "failure"),
+        Some(set) => println!(rt; "{set}"),
+        None => println!(rt; "failure"),
     }
 }
 

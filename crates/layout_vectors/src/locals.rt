@@ -1,14 +1,13 @@
 // The list of local codes: its form, and which codes are listed.
 use crate::lists;
 use crate::lists::Subject;
-use layout::locals;
+use layout::locals::LocalCodes;
 use std::io;
 use vector_text::print;
 
 // Whether a code is one of a list, which is looked through in the way that its order allows.
 fn is_in(code: &[u8], list: &[u8]) -> bool {
-    let ordered = locals::is_ordered(list);
-    locals::listed(code, list, ordered)
+    LocalCodes::new(list).contains(code)
 }
 
 // Whether a code is one of 001, 005 and 009.

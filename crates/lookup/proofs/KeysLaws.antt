@@ -75,19 +75,20 @@ no_keys n keys l =
 
 module _ (n : ℕ) (keys : List ℕ) (i : ℕ) (l : i < n) where
   -- the key at i fails
-  pub key_fails : is_sound_key (key_in_list keys i) ≡ false → (every is_sound_key (drop i (blocks 12 n keys)) && rising (drop i (blocks 12 n keys))) ≡ false
+  pub key_fails : is_sound_key (key_in_list keys i) ≡ false → every is_sound_key (drop i (blocks 12 n keys)) ≡ false
   key_fails t = rw (blocks-next 12 n keys i l, t)
 
   -- it passes
   pub key_passes : is_sound_key (key_in_list keys i) ≡ true → every is_sound_key (drop (i + 1) (blocks 12 n keys)) ≡ every is_sound_key (drop i (blocks 12 n keys))
   key_passes t = sym (rw (blocks-next 12 n keys i l, t))
 
-  -- it passes and is the last
-  pub last-passes : is_sound_key (key_in_list keys i) ≡ true → i + 1 ≡ n
-      → (every is_sound_key (drop i (blocks 12 n keys)) && rising (drop i (blocks 12 n keys))) ≡ true
-  last-passes t e =
-      rw (← key_passes t, every_block_end 12 is_sound_key n keys (i + 1) (omega arith))
-      (rising_end (blocks 12 n keys) i (rw (length-blocks 12 n keys) (omega arith)))
+-- all keys passed, of which the last stands at i
+pub all_passed : (n : ℕ) (keys : List ℕ) (i : ℕ) → n ≤ i + 1
+    → (every is_sound_key (drop (i + 1) (blocks 12 n keys)) ≡ true) × (rising (drop i (blocks 12 n keys)) ≡ true)
+all_passed n keys i l = (
+  every_block_end 12 is_sound_key n keys (i + 1) l,
+  rising_end (blocks 12 n keys) i (rw (length-blocks 12 n keys) (omega arith)),
+)
 
 module _ (n : ℕ) (keys : List ℕ) (i : ℕ) (l : i + 1 < n) where
   abbrev here : List ℕ

@@ -72,12 +72,12 @@ module _ (limit : ℕ) (master : List ℕ) (rows : ℕ) (keys places : List ℕ)
     answer_says key s = go (place_with key rs) refl
       where
         go : (q : Option ℕ) → place_with key rs ≡ q → found_as (place_from 0 q) ≡ find_answer limit master rows key
-        go none e = find_missing limit master rows key (master_refusal limit master rows 0) refl k.master_right s e
+        go none e = find_missing limit master rows key (sym k.master_right) (sym s) e
         go (some p) e =
             let z : 0 + p ≡ p = omega arith in
             let l : p < no_place = omega (arith, (place_inside key rs p e).0, length-blocks 200 rows master, rows_few limit low master rows k.master_right) in
             rw (z, ne_eqb p no_place (λ y. omega arith))
-            (find_at limit master rows key (master_refusal limit master rows 0) refl k.master_right s p e)
+            (find_at limit master rows key (sym k.master_right) (sym s) p e)
 
     answers_say : (ks : List (List ℕ)) → every is_sound_key ks ≡ true
         → map found_as (map (λ key. place_from 0 (place_with key rs)) ks) ≡ map (find_answer limit master rows) ks

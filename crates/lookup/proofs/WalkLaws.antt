@@ -7,8 +7,8 @@ use native.Mathlib.Numerals.{add-one}
 use native.Mathlib.Omega.{arith}
 use lib.ListN.{length, take, drop, set, length-set, drop_of_length-le}
 use lib.Seq.{take-take, take-suc-set, drop-set-lt}
-use Rattle.text.specs.declared.byte_order.Order.{Order}
-use Rattle.text.specs.declared.byte_order.Order.TheVariants.{Less, Equal, Greater}
+use Rattle.std.specs.declared.cmp.Ordering.{Ordering}
+use Rattle.std.specs.declared.cmp.Ordering.TheVariants.{Less, Equal, Greater}
 use Rattle.text.specs.Blocks.{blocks}
 use Rattle.text.specs.ByteOrder.{order_in, order_of}
 use Rattle.text.proofs.BlocksLaws.{length-blocks, blocks-next, kept_further}
@@ -110,18 +110,18 @@ module _ (m : List ℕ) (n : ℕ) (keys : List ℕ) (k : ℕ) (places₀ : List 
     pub going_end : p ≡ n → Going m n keys k places₀ (set places i no_place) c p (i + 1)
     going_end e = going_answer no_place c (omega (arith, g.few)) (ap (behind (take i places) c) (sym (at_end e)))
 
-    module _ (b : p < n) (o : Order) (t : order_in o ≡ order_of (take 12 (drop (p * 200) m)) key) where
+    module _ (b : p < n) (o : Ordering) (t : order_in o ≡ order_of (take 12 (drop (p * 200) m)) key) where
       -- the present key beside the present row
       at_row : walk (drop i ks) p (drop p rs)
           ≡ one_comparison (by_row (order_in o) (walk (drop i ks) (suc p) (drop (p + 1) rs)) (answered p left) (answered no_place left))
       unfolding walk
       at_row = rw (t, ← take-take 12 200 (drop (p * 200) m) (omega arith), blocks-next 12 k keys i l, blocks-next 200 n m p b)
 
-      told : (x : Order) → o ≡ x → walk (drop i ks) p (drop p rs)
+      told : (x : Ordering) → o ≡ x → walk (drop i ks) p (drop p rs)
           ≡ one_comparison (by_row (order_in x) (walk (drop i ks) (suc p) (drop (p + 1) rs)) (answered p left) (answered no_place left))
       told x e =
           at_row
-          ∙ ap (λ (z : Order). one_comparison (by_row (order_in z) (walk (drop i ks) (suc p) (drop (p + 1) rs)) (answered p left) (answered no_place left))) e
+          ∙ ap (λ (z : Ordering). one_comparison (by_row (order_in z) (walk (drop i ks) (suc p) (drop (p + 1) rs)) (answered p left) (answered no_place left))) e
 
       -- a smaller row is passed
       pub going_less : o ≡ Less → Going m n keys k places₀ places (c + 1) (p + 1) i

@@ -1,12 +1,12 @@
 -- Document 01, "Finding a case". Assumes nothing.
-use Rattle.std.specs.Prelude.{ℕ, List, Bool, true, false, not}
+use Rattle.std.specs.Prelude.{ℕ, List, Bool, true, false, not, Result}
 use Rattle.std.proofs.Math.Option.{Option, none, some}
-use Rattle.answers.specs.Answer.{refuse_if, Answer, refused, done, answer_by}
+use Rattle.answers.specs.Answer.{refuse_if, Answer, answer_by}
+use Rattle.answers.specs.Refusal.{answer_in}
+use Rattle.answers.specs.declared.refusal.Refusal.{Refusal}
 use Rattle.layout.specs.Key.{is_sound_key}
 use Rattle.casemaster.specs.Master.{rows_of}
 use Rattle.casemaster.specs.Rows.{place_with}
-use Rattle.lookup.specs.declared.find.Found.{Found}
-use Rattle.lookup.specs.declared.find.Found.TheVariants.{At, Refused}
 use Rattle.casemaster.specs.Refusals.{master_refusal}
 
 -- 14: key unsound; a key not of twelve bytes is unsound
@@ -24,9 +24,8 @@ find_refusal limit master rows key =
     master_refusal limit master rows (refuse_if (refusal14 key) 14 (refuse_if (refusal15 (place_with key (rows_of rows master))) 15 0))
 
 -- what each answer of the call stands for: the place of the key's row, or a refusal's number
-abbrev pub found_of : Found → Answer ℕ
-found_of (At p) = done p
-found_of (Refused n) = refused n
+abbrev pub found_of : Result ℕ Refusal → Answer ℕ
+found_of r = answer_in (λ p. p) r
 
 -- the place that was found; where 15 does not hold there is one
 abbrev pub place_found : Option ℕ → ℕ

@@ -1,6 +1,8 @@
 -- Document 02, item 9: many cases looked up together. Assumes nothing.
-use Rattle.std.specs.Prelude.{ℕ, suc, ◌/◌, ◌%◌, List, [], ◌∷◌, Bool, not, ◌&&◌, eqb, ltb, length}
-use Rattle.answers.specs.Answer.{refuse_if, Answer, refused, done, Outcome, Run, outcome_by}
+use Rattle.std.specs.Prelude.{ℕ, suc, ◌/◌, ◌%◌, List, [], ◌∷◌, Bool, not, ◌&&◌, eqb, ltb, length, Result}
+use Rattle.answers.specs.Answer.{refuse_if, Answer, Outcome, Run, outcome_by}
+use Rattle.answers.specs.Refusal.{answer_in}
+use Rattle.answers.specs.declared.refusal.Refusal.{Refusal}
 use Rattle.text.specs.Fields.{every}
 use Rattle.text.specs.Blocks.{blocks, over}
 use Rattle.text.specs.ByteOrder.{Order, less, equal, greater, order_of, rising}
@@ -8,8 +10,6 @@ use Rattle.layout.specs.Key.{is_sound_key}
 use Rattle.casemaster.specs.Row as Row
 use Rattle.casemaster.specs.Master.{rows_of}
 use Rattle.casemaster.specs.Refusals.{master_refusal}
-use Rattle.lookup.specs.declared.many.FoundMany.{FoundMany}
-use Rattle.lookup.specs.declared.many.FoundMany.TheVariants.{Done, Refused}
 
 -- ---- the keys
 
@@ -73,15 +73,14 @@ many_refusal limit master rows keys places =
     (refuse_if (ltb (length places) (length keys / 12)) 28 0))
 
 -- the answer: the number of comparisons with a row, or a refusal's number
-abbrev pub many_answer : FoundMany → Answer ℕ
-many_answer (Done n) = done n
-many_answer (Refused n) = refused n
+abbrev pub many_answer : Result ℕ Refusal → Answer ℕ
+many_answer r = answer_in (λ n. n) r
 
 -- the answer and every number lent that can be written
 abbrev pub ManyOutcome : Type 0
 ManyOutcome = Outcome ℕ (List ℕ)
 
-abbrev pub many_as : FoundMany → List ℕ → ManyOutcome
+abbrev pub many_as : Result ℕ Refusal → List ℕ → ManyOutcome
 many_as answer places = record { answer = many_answer answer; buffers = places }
 
 -- the walk's answers at the front of the list; those behind the last key are kept

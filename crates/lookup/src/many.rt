@@ -8,18 +8,12 @@ ghost use Rattle.layout.specs.Limits.{max_rows};
 ghost use Rattle.lookup.specs.Many.{are_keys, many_as, many_outcome};
 ghost use Rattle.lookup.specs.Steps.{HasWalked};
 
+use answers::refusal::Refusal;
 use casemaster::master::ROW_WIDTH;
 use casemaster::refusals;
 use layout::{key, states};
-use text::byte_order::Order;
+use std::cmp::Ordering;
 use text::{byte_order, words};
-
-// The answer of the call: how many comparisons with a row were made, or the number of the refusal.
-#[derive(Clone, Copy)]
-pub enum FoundMany {
-    Done(u64),
-    Refused(u64),
-}
 
 // The bytes of a key.
 const KEY_WIDTH: usize = 12;
@@ -28,7 +22,7 @@ const KEY_WIDTH: usize = 12;
 const NO_PLACE: u32 = 4294967295;
 
 // Whether the first n keys are sound and rise strictly, in one pass. The two numbers of a key are read when it is compared with the one
-// before, and again serve for its own soundness; a state known already is not looked up again.
+// before, and again serve for its own soundness; the state of the key before is not looked up again.
 fn are_sound_rising(keys: &[u8], n: usize) -> bool
     requires { n * 12 ≤ length keys.now }
     ensures { result ≡ (every is_sound_key (blocks 12 n keys.now) && rising (blocks 12 n keys.now)) }
@@ -36,28 +30,25 @@ fn are_sound_rising(keys: &[u8], n: usize) -> bool
     if n < 1 {
         return true;
     }
-    let mut known = states::FIRST_CODE;
     let mut front = words::eight_number(keys, 0);
     let mut back = words::four_number(keys, 8);
-    let mut i: usize = 0;
-    loop {
-        if !key::is_sound_key_in(known, front, back) {
-            return false;
-        }
-        i += 1;
-        if i == n {
-            return true;
-        }
+    if !key::is_sound_key_in(states::FIRST_CODE, front, back) {
+        return false;
+    }
+    for i in 1..n {
         let at = i * KEY_WIDTH;
         let next_front = words::eight_number(keys, at);
         let next_back = words::four_number(keys, at + 8);
         if !byte_order::is_twelve_below_in(front, back, next_front, next_back) {
             return false;
         }
-        known = key::state_in(front);
+        if !key::is_sound_key_in(key::state_in(front), next_front, next_back) {
+            return false;
+        }
         front = next_front;
         back = next_back;
     }
+    true
 }
 
 // Whether a list is made of sound keys, strictly rising.
@@ -71,7 +62,7 @@ fn are_keys(keys: &[u8]) -> bool
 }
 
 // The order of the key of the row at place p against the key at place i: one comparison, by their two numbers.
-fn compare(m: &[u8], p: usize, keys: &[u8], i: usize) -> Order
+fn compare(m: &[u8], p: usize, keys: &[u8], i: usize) -> Ordering
     requires { (p * 200 + 12 ≤ length m.now) × (i * 12 + 12 ≤ length keys.now) }
     ensures { order_in result ≡ order_of (take 12 (drop (p * 200) m.now)) (take 12 (drop (i * 12) keys.now)) }
 {
@@ -82,12 +73,12 @@ fn compare(m: &[u8], p: usize, keys: &[u8], i: usize) -> Order
     let front = words::eight_number(keys, at);
     let back = words::four_number(keys, at + 8);
     if byte_order::is_twelve_below_in(row_front, row_back, front, back) {
-        return Order::Less;
+        return Ordering::Less;
     }
     if byte_order::is_twelve_below_in(front, back, row_front, row_back) {
-        return Order::Greater;
+        return Ordering::Greater;
     }
-    Order::Equal
+    Ordering::Equal
 }
 
 // Walks over n rows and k keys side by side, writes the answer for each key, and returns the number of comparisons.
@@ -107,14 +98,14 @@ fn walk(m: &[u8], n: usize, keys: &[u8], k: usize, places: &mut [u32]) -> u64
             let next = p + 1;
             comparisons += 1;
             match compare(m, p, keys, i) {
-                Order::Less => {
+                Ordering::Less => {
                     p = next;
                 }
-                Order::Equal => {
+                Ordering::Equal => {
                     places[i] = place;
                     i += 1;
                 }
-                Order::Greater => {
+                Ordering::Greater => {
                     places[i] = NO_PLACE;
                     i += 1;
                 }
@@ -124,21 +115,24 @@ fn walk(m: &[u8], n: usize, keys: &[u8], k: usize, places: &mut [u32]) -> u64
     comparisons
 }
 
-// Looks many cases up in one walk: the place of each key's row, deleted or not, the first being 0, or 4,294,967,295.
-pub fn find_many(master: &[u8], rows: usize, keys: &[u8], places: &mut [u32]) -> FoundMany
+// Looks many cases up in one walk: the place of each key's row, deleted or not, the first being 0, or 4,294,967,295. Answers how many
+// comparisons with a row were made.
+pub fn find_many(
+    master: &[u8],
+    rows: usize,
+    keys: &[u8],
+    places: &mut [u32],
+) -> Result<u64, Refusal>
     ensures { many_as result places.new ≡ many_outcome max_rows master.now rows keys.now places.old }
 {
-    let refusal = refusals::master_refusal(master, rows);
-    if refusal != 0 {
-        return FoundMany::Refused(refusal);
-    }
+    refusals::master_refusal(master, rows)?;
     let k = keys.len() / KEY_WIDTH;
     if !are_keys(keys) {
-        return FoundMany::Refused(27);
+        return Err(Refusal::WrongKeys);
     }
     if places.len() < k {
-        return FoundMany::Refused(28);
+        return Err(Refusal::ShortPlaces);
     }
     let comparisons = walk(master, rows, keys, k, places);
-    FoundMany::Done(comparisons)
+    Ok(comparisons)
 }

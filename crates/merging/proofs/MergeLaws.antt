@@ -9,6 +9,11 @@ use borrow.Author.Tests.{ltb-true, ltb-false, lt-ltb, le-ltb, eqb-true, eqb-fals
 use lib.Dec.{eqb, ltb}
 use lib.ListN.{length, take, drop, length-append, take-append-drop}
 use lib.Seq.{length-take-le, take_all, take_at, drop_at}
+use Rattle.answers.specs.Refusal.{refusal_number_of}
+use Rattle.answers.specs.declared.refusal.Refusal.{Refusal}
+use Rattle.answers.proofs.AnswerLaws.{outcome_done, none_holds}
+use Rattle.answers.proofs.RefusalLaws.{outcome_err}
+use Rattle.std.specs.Prelude.{Ok, Err}
 use Rattle.text.specs.Characters.{A, N}
 use Rattle.text.specs.Blocks.{blocks, joined, over, spliced}
 use Rattle.text.specs.Fields.{same_bytes}
@@ -24,9 +29,7 @@ use Rattle.batchfile.proofs.TotalsLaws.{count_sum}
 use Rattle.batchfile.proofs.RefusalsLaws.{KnownBatch, batch_known, batch-behind, not_first}
 use Rattle.batchfile.specs.Stated.{Stated, stated_by, stated_sum, totals_record}
 use Rattle.answers.specs.Answer.{is_carried_out}
-use Rattle.answers.proofs.AnswerLaws.{outcome_refused, outcome_done, none_holds}
 use Rattle.merging.specs.Merge.{merged_totals, merged_control, merged_batch, merged_count, is_above_eleven, refusal32, refusal33, both_refusal, merge_refusal, MergeCall, MergeOutcome, merged_as, merge_run, merge_outcome, IsMerge, records_written}
-use Rattle.merging.specs.declared.merge.Merged.TheVariants.{Done, Refused}
 use Rattle.batchfile.proofs.PassesLaws.{totals_of, sum-append, totals_append, totals_right, counts_right, amounts_right, batch-length, details_joined, details_length, details_wide, state_two, first_state, counts_few, known_passes}
 use Rattle.batchfile.proofs.StatedLaws.{length-control, control-columns, has_ctl_lem, has_state_lem, has_totals_lem, stated_back}
 
@@ -316,15 +319,15 @@ module _ (limit : ℕ) (first second out : List ℕ) (passed : merge_refusal lim
 
 -- ---- the outcome
 
-module _ (c : MergeCall) (n : ℕ) (e : n ≡ merge_refusal c.limit c.first c.second c.out) where
-  pub merge_refused : (n ≡ 0 → ⊥) → IsMerge c (merged_as (Refused n) c.out)
+module _ (c : MergeCall) where
+  pub merge_refused : (r : Refusal) → refusal_number_of r ≡ merge_refusal c.limit c.first c.second c.out → IsMerge c (merged_as (Err r) c.out)
   unfolding merge_outcome
-  merge_refused h = record { is = outcome_refused _ c.out (merge_run c) n e h }
+  merge_refused r e = record { is = outcome_err _ c.out (merge_run c) r e }
 
-  pub merge_done : n ≡ 0 → (records : ℕ) → records ≡ merged_count c.first c.second
-      → (after : List ℕ) → after ≡ over (merged_batch c.first c.second) c.out → IsMerge c (merged_as (Done records) after)
+  pub merge_done : 0 ≡ merge_refusal c.limit c.first c.second c.out → (records : ℕ) → records ≡ merged_count c.first c.second
+      → (after : List ℕ) → after ≡ over (merged_batch c.first c.second) c.out → IsMerge c (merged_as (Ok records) after)
   unfolding merge_outcome
-  merge_done z records er after ea = record { is = rw (er, ea) (outcome_done _ c.out (merge_run c) (sym e ∙ z)) }
+  merge_done z records er after ea = record { is = rw (er, ea) (outcome_done _ c.out (merge_run c) (sym z)) }
 
 -- ---- a merge that was carried out
 

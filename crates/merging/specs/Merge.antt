@@ -1,14 +1,14 @@
 -- Document 02, item 13: two batches into one. The outcome of the call, down to every byte lent. Assumes nothing.
-use Rattle.std.specs.Prelude.{ℕ, ◌+◌, ◌≡◌, List, [], ◌∷◌, ◌++◌, Bool, not, ◌||◌, ltb, length}
+use Rattle.std.specs.Prelude.{ℕ, ◌+◌, ◌≡◌, List, [], ◌∷◌, ◌++◌, Bool, not, ◌||◌, ltb, length, Result}
 use Rattle.answers.specs.Answer.{refuse_if, Answer, refused, done, Outcome, Run, outcome_by}
+use Rattle.answers.specs.Refusal.{answer_in}
+use Rattle.answers.specs.declared.refusal.Refusal.{Refusal}
 use Rattle.text.specs.Blocks.{joined, over}
 use Rattle.text.specs.Fields.{same_bytes}
 use Rattle.layout.specs.Limits.{max_rows}
 use Rattle.layout.specs.Batch.{detail_count, details_of, control_of, submitting_state}
 use Rattle.batchfile.specs.Refusals.{batch_refusal}
 use Rattle.batchfile.specs.Stated.{Stated, stated_by, stated_sum, totals_record}
-use Rattle.merging.specs.declared.merge.Merged.{Merged}
-use Rattle.merging.specs.declared.merge.Merged.TheVariants.{Done, Refused}
 
 -- ---- the merged batch
 
@@ -68,15 +68,14 @@ abbrev pub merge_call : List ℕ → List ℕ → List ℕ → MergeCall
 merge_call first second out = record { first = first; second = second; out = out; limit = max_rows }
 
 -- the answer: how many records the merged batch has, or a refusal's number
-abbrev pub merge_answer : Merged → Answer ℕ
-merge_answer (Done n) = done n
-merge_answer (Refused n) = refused n
+abbrev pub merge_answer : Result ℕ Refusal → Answer ℕ
+merge_answer r = answer_in (λ n. n) r
 
 -- the answer and the output
 abbrev pub MergeOutcome : Type 0
 MergeOutcome = Outcome ℕ (List ℕ)
 
-abbrev pub merged_as : Merged → List ℕ → MergeOutcome
+abbrev pub merged_as : Result ℕ Refusal → List ℕ → MergeOutcome
 merged_as answer out = record { answer = merge_answer answer; buffers = out }
 
 -- the merged batch at the front of the output and the bytes behind it kept

@@ -1,23 +1,18 @@
 // Two batches into one: the first's details, the second's, and a control record with summed totals.
-ghost use Rattle.std.specs.Prelude.{◌≡◌, ◌+◌, ◌*◌, ◌≤◌, length, take, drop};
+ghost use Rattle.std.specs.Prelude.{◌≡◌, ◌+◌, ◌*◌, ◌≤◌, length, take};
 ghost use Rattle.text.specs.Blocks.{over, spliced};
+ghost use Rattle.answers.specs.Refusal.{number_in};
 ghost use Rattle.layout.specs.Limits.{max_rows};
 ghost use Rattle.layout.specs.Batch.{control_of};
 ghost use Rattle.batchfile.specs.Refusals.{batch_refusal};
 ghost use Rattle.merging.specs.Merge.{merged_control, merged_batch, merged_count, refusal32, merge_refusal, merge_call, merged_as, IsMerge};
 
+use answers::refusal::Refusal;
 use batchfile::{refusals, stated};
 use layout::limits::MAX_RECORDS;
 use layout::records::RECORD_WIDTH;
 use layout::{chart_a2, records};
 use text::fields;
-
-// The answer of the call: how many records the merged batch has, or the number of the refusal.
-#[derive(Clone, Copy)]
-pub enum Merged {
-    Done(usize),
-    Refused(u64),
-}
 
 // The highest number of eleven digits.
 const MAX_AMOUNT: u64 = 99999999999;
@@ -55,25 +50,19 @@ fn cannot_merge(first: &[u8], second: &[u8]) -> bool
     !same | many | above
 }
 
-// The number of the first refusal that holds, or 0.
-fn first_refusal(first: &[u8], second: &[u8], out: &[u8]) -> u64
-    ensures { result ≡ merge_refusal max_rows first.now second.now out.now }
+// The first refusal that holds.
+fn first_refusal(first: &[u8], second: &[u8], out: &[u8]) -> Result<(), Refusal>
+    ensures { number_in result ≡ merge_refusal max_rows first.now second.now out.now }
 {
-    let a = refusals::batch_refusal(first);
-    if a != 0 {
-        return a;
-    }
-    let b = refusals::batch_refusal(second);
-    if b != 0 {
-        return b;
-    }
+    refusals::batch_refusal(first)?;
+    refusals::batch_refusal(second)?;
     if cannot_merge(first, second) {
-        return 32;
+        return Err(Refusal::CannotMerge);
     }
     if out.len() < merged_count(first, second) * RECORD_WIDTH {
-        return 33;
+        return Err(Refusal::ShortBatch);
     }
-    0
+    Ok(())
 }
 
 // The control record of the merged batch.
@@ -87,25 +76,12 @@ fn merged_control(first: &[u8], second: &[u8]) -> [u8; 245]
     stated::totals_record(fields::field(&a, chart_a2::STATE), t)
 }
 
-// Copies the record at place `from` of a batch to place `to` of the output, through a record of its own.
-fn copy_record(out: &mut [u8], to: usize, batch: &[u8], from: usize)
-    requires { (to * 245 + 245 ≤ length out.old) × (from * 245 + 245 ≤ length batch.now) }
-    ensures { out.new ≡ spliced out.old (to * 245) (take 245 (drop (from * 245) batch.now)) }
-{
-    let rec = records::record_at(batch, from);
-    fields::copy_in(out, to * RECORD_WIDTH, &rec);
-}
-
 // Copies the first n records of a batch to the output, from place `to` on.
 fn copy_records(out: &mut [u8], to: usize, batch: &[u8], n: usize)
     requires { ((to + n) * 245 ≤ length out.old) × (n * 245 ≤ length batch.now) }
     ensures { out.new ≡ spliced out.old (to * 245) (take (n * 245) batch.now) }
 {
-    let mut i: usize = 0;
-    while i < n {
-        copy_record(out, to + i, batch, i);
-        i += 1;
-    }
+    fields::copy_in(out, to * RECORD_WIDTH, &batch[..n * RECORD_WIDTH]);
 }
 
 // Writes the merged batch at the front of the output.
@@ -121,14 +97,11 @@ fn write_merged(first: &[u8], second: &[u8], out: &mut [u8])
     fields::copy_in(out, (a + b) * RECORD_WIDTH, &control);
 }
 
-// Merges two batches into one.
-pub fn merge(first: &[u8], second: &[u8], out: &mut [u8]) -> Merged
+// Merges two batches into one, and answers how many records it has.
+pub fn merge(first: &[u8], second: &[u8], out: &mut [u8]) -> Result<usize, Refusal>
     ensures { IsMerge (merge_call first.now second.now out.old) (merged_as result out.new) }
 {
-    let number = first_refusal(first, second, out);
-    if number != 0 {
-        return Merged::Refused(number);
-    }
+    first_refusal(first, second, out)?;
     write_merged(first, second, out);
-    Merged::Done(merged_count(first, second))
+    Ok(merged_count(first, second))
 }

@@ -14,7 +14,7 @@ use Rattle.text.specs.ByteNumbers.{AreBytes, bytes_number}
 use Rattle.text.proofs.BoolLaws.{either}
 use Rattle.text.proofs.FieldsLaws.{part_of_front}
 use Rattle.text.proofs.SameLaws.{eq_same, same_eq}
-use Rattle.text.proofs.ByteNumberLaws.{bytes_take, bytes_drop, four_number, number_same}
+use Rattle.text.proofs.ByteNumberLaws.{bytes_take, bytes_drop, number_same}
 use Rattle.judging.specs.Names.{gives_name}
 use Rattle.judging.proofs.NamesLaws.{given_none, given_next}
 use Rattle.keyorder.specs.Tagged.{index_part, record_of}
@@ -24,15 +24,8 @@ use Rattle.namemarks.specs.Codes.{name_code, has_giver}
 -- ---- the name
 
 -- it is cut out of the batch
-name_in_lem : (batch : List ℕ) (i : ℕ) → name_at batch i ≡ take 4 (drop (i * 245 + 29) batch)
+pub name_in_lem : (batch : List ℕ) (i : ℕ) → name_at batch i ≡ take 4 (drop (i * 245 + 29) batch)
 name_in_lem batch i = part_of_front 4 29 245 (drop (i * 245) batch) (omega arith) ∙ ap (take 4) (drop-drop 29 (i * 245) batch)
-
--- its number, byte by byte
-pub name_number_lem : (batch : List ℕ) (i a b c d : ℕ) → i * 245 + 245 ≤ length batch → a ≡ get_or batch (i * 245 + 29) 0
-    → b ≡ get_or batch (i * 245 + 29 + 1) 0 → c ≡ get_or batch (i * 245 + 29 + 2) 0 → d ≡ get_or batch (i * 245 + 29 + 3) 0
-    → ((a * 256 + b) * 256 + c) * 256 + d ≡ bytes_number (name_at batch i)
-name_number_lem batch i a b c d h p q r s =
-    rw (p, q, r, s, name_in_lem batch i) (four_number batch (i * 245 + 29) (omega arith))
 
 name_four : (batch : List ℕ) (i : ℕ) → i * 245 + 245 ≤ length batch → length (name_at batch i) ≡ 4
 name_four batch i h =

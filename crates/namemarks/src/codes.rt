@@ -14,6 +14,7 @@ ghost use Rattle.namemarks.specs.Codes.{name_code, swept, NotFalling};
 
 use keyorder::tagged;
 use layout::records::RECORD_WIDTH;
+use text::words;
 
 // 2 to the power 32: the lowest bit of the name, and of the rank.
 const NAME_PLACE: u64 = 0x100000000;
@@ -24,24 +25,12 @@ const RESTS: u64 = 0x80000000;
 // Bit 31 of a detail that gives its name: it comes before those of the name that don't.
 const GIVING: u64 = 0;
 
-// A byte as a number.
-fn wide(b: u8) -> u64
-    ensures { (result ≡ b) × (result < 256) }
-{
-    b as u64
-}
-
 // The name of the record at place i, columns 30–33, as a number.
 fn name_at(batch: &[u8], i: usize) -> u64
     requires { i * 245 + 245 ≤ length batch.now }
     ensures { (result ≡ bytes_number (name_at batch.now i)) × (result < 2 ^ 32) }
 {
-    let at = i * RECORD_WIDTH + 29;
-    let a = wide(batch[at]);
-    let b = wide(batch[at + 1]);
-    let c = wide(batch[at + 2]);
-    let d = wide(batch[at + 3]);
-    ((a * 256 + b) * 256 + c) * 256 + d
+    words::bytes_number::<4>(batch, i * RECORD_WIDTH + 29)
 }
 
 // Bit 31 of a detail's code.
@@ -67,10 +56,8 @@ pub fn code_all(batch: &[u8], state: &[u8], numbers: &mut [u64])
     requires { HoldRecords state.now batch.now numbers.old }
     ensures { numbers.new ≡ map (name_code state.now batch.now) numbers.old }
 {
-    let mut k: usize = 0;
-    while k < numbers.len() {
-        numbers[k] = code(batch, state, numbers[k]);
-        k += 1;
+    for number in numbers.iter_mut() {
+        *number = code(batch, state, *number);
     }
 }
 
@@ -110,11 +97,9 @@ pub fn sweep(rank: u64, numbers: &mut [u64])
     ensures { numbers.new ≡ map (swept rank numbers.old) numbers.old }
 {
     let mut given: u64 = 0;
-    let mut k: usize = 0;
-    while k < numbers.len() {
-        let x = numbers[k];
+    for number in numbers.iter_mut() {
+        let x = *number;
         given = given_by(x, given);
-        numbers[k] = restored(rank, x, one_if_given(x, given));
-        k += 1;
+        *number = restored(rank, x, one_if_given(x, given));
     }
 }

@@ -1,7 +1,7 @@
 pub mod CorrectionLaws
 pub mod OwnRecordLaws
 pub mod AcceptedLaws
-pub mod AppliedLaws
+pub mod ChangedLaws
 pub mod ChangesLaws
 pub mod DigitsLaws
 pub mod JudgedLaws

@@ -3,26 +3,23 @@ use Prim.Native.Nat.{ℕ}
 use mathlib.Core.Path.{◌≡◌, refl, sym, ap, ◌∙◌}
 use mathlib.Core.Bool.{Bool, true, false, cond, true≢false}
 use mathlib.Core.List.{List}
-use mathlib.Core.Option.{Option, none, some}
-use native.Mathlib.Omega.{arith}
+use mathlib.Core.Option.{Option, none}
 use borrow.Author.Tests.{ne_eqb}
 use lib.Dec.{eqb}
 use Rattle.text.specs.Options.{is_some}
 use Rattle.text.specs.Characters.{A}
-use Rattle.text.specs.Fields.{columns}
 use Rattle.layout.specs.Codes.{number_of_codes}
 use Rattle.layout.proofs.CodesLaws.{codes-number}
 use Rattle.layout.specs.Record.{is_type}
 use Rattle.judging.specs.Errors.{holds17, errors}
 use Rattle.judging.specs.Warnings.{warnings}
-use Rattle.onecase.specs.Verdict.{is_accepted, codes, stored_name, judgement, IsRejection}
+use Rattle.onecase.specs.Verdict.{is_accepted, codes, judgement, IsRejection}
 use Rattle.onecase.specs.Machine.{applied, next, row_of, IsStep}
 use Rattle.onecase.specs.declared.case.Case.{Case}
 use Rattle.onecase.specs.declared.verdict.Verdict.{Verdict}
 use Rattle.onecase.specs.declared.verdict.Verdict.TheVariants.{Accepted}
 use Rattle.judging.proofs.CodeSums.{Rises, number_none}
-use Rattle.onecase.proofs.JudgementLaws.{accepted_none, errors_accepted, accepted_errors, error_changes_nothing, name_17}
-use Rattle.judging.specs.State.{row_if}
+use Rattle.onecase.proofs.JudgementLaws.{accepted_none, errors_accepted, accepted_errors, error_changes_nothing}
 use Rattle.judging.specs.Setting.{Setting}
 use Rattle.judging.proofs.JudgeLaws.{errors_rise, warnings_rise}
 
@@ -56,30 +53,20 @@ module _ (setting : Setting) (row : Option (List ℕ)) (rec : List ℕ) where
   pub step_rejected : (set : ℕ) (named : Bool) (c : Case) (v : Verdict) → set ≡ number_of_codes (errors setting row rec) → (set ≡ 0 → ⊥)
       → named ≡ holds17 setting row rec
       → row_of c ≡ row
-      → IsRejection set named c.row v
+      → IsRejection set named row v
       → IsStep setting row rec (record { case = c; verdict = v })
   unfolding judgement codes
   step_rejected set named c v es z en er i =
       let a : is_accepted setting row rec ≡ false = refused (is_accepted setting row rec) refl in
       record {
         row_is = er ∙ sym (error_changes_nothing setting row rec a);
-        verdict_is = i.means ∙ rw (a, es, en, codes-number (errors setting row rec) (errors_rise setting row rec).rises) (ap (λ (o : Option (List ℕ)). record { codes = errors setting row rec; name = o }) (named_row (holds17 setting row rec) refl));
+        verdict_is = i.means ∙ rw (a, es, en, codes-number (errors setting row rec) (errors_rise setting row rec).rises);
         accepted_is = i.rejects ∙ sym a;
       }
     where
       refused : (b : Bool) → is_accepted setting row rec ≡ b → is_accepted setting row rec ≡ false
       refused true t = absurd (z (es ∙ ap number_of_codes (accepted_errors setting row rec t)))
       refused false t = t
-
-      held_row : (held : Bool) (r : List ℕ) → row_if held c.row ≡ some r → some (columns 31 34 c.row) ≡ stored_name (row_if held c.row)
-      held_row true r e = refl
-      held_row false r e = absurd (let x : ◌≡◌ {A = ℕ} 0 1 = cc in omega arith)
-
-      named_row : (b : Bool) → holds17 setting row rec ≡ b → cond b (some (columns 31 34 c.row)) none ≡ cond b (stored_name row) none
-      named_row true t =
-          let n = name_17 setting row rec t in
-          held_row c.held n.0 (er ∙ n.1) ∙ ap stored_name er
-      named_row false t = refl
 
 -- ---- from no row
 

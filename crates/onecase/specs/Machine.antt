@@ -9,7 +9,7 @@ use Rattle.onecase.specs.Verdict.{is_accepted, judgement, meaning, says_accepted
 use Rattle.onecase.specs.Changes.{fresh_row, recertified, renamed, reidentified, deleted, relocated, amended, excluded, paid, transferred, readdressed}
 use Rattle.onecase.specs.declared.case.Case.{Case}
 use Rattle.onecase.specs.declared.case.Step.{Step}
-use Rattle.judging.specs.State.{row_if}
+use Rattle.judging.specs.State.{option_of}
 use Rattle.judging.specs.Setting.{Setting}
 
 -- a record of any type but A on its row
@@ -45,7 +45,7 @@ next setting row rec = cond (is_accepted setting row rec) (applied setting.list 
 
 -- the state that the code's value stands for
 abbrev pub row_of : Case → Option (List ℕ)
-row_of c = row_if c.held c.row
+row_of c = option_of c.row
 
 -- an answer of the step: the new state, the verdict, and that accepted is said exactly where no error holds
 pub record IsStep (setting : Setting) (row : Option (List ℕ)) (rec : List ℕ) (answer : Step) : Type 0 where

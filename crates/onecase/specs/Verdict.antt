@@ -74,8 +74,8 @@ says_accepted (Rejected set) = false
 says_accepted (RejectedWithName set n) = false
 
 -- the answer for a set of errors: with 17 the name, which is the row's
-pub record IsRejection (set : ℕ) (named : Bool) (row : List ℕ) (v : Verdict) : Type 0 where
-  pub means : meaning v ≡ record { codes = codes_of_number set; name = cond named (some (columns 31 34 row)) none }
+pub record IsRejection (set : ℕ) (named : Bool) (row : Option (List ℕ)) (v : Verdict) : Type 0 where
+  pub means : meaning v ≡ record { codes = codes_of_number set; name = cond named (stored_name row) none }
   pub rejects : says_accepted v ≡ false
 
 -- no codes and no name

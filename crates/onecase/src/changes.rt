@@ -1,16 +1,17 @@
 // What a record without an error does to its row, type by type, in place.
 ghost use Rattle.std.specs.Prelude.{◌≡◌, ◌+◌, length};
+ghost use Rattle.std.proofs.Math.Option.{some};
 ghost use Rattle.text.specs.Fields.{placed};
-ghost use Rattle.layout.specs.OrderedList.{IsOrderedIf};
 ghost use Rattle.casemaster.specs.Row.{with_zero_cents};
 ghost use Rattle.onecase.specs.Copies.{InRow, InRecord, copied, copied_unless_blank, with_exclusions, with_names, fresh_end};
-ghost use Rattle.onecase.specs.Machine.{changed};
+ghost use Rattle.onecase.specs.Machine.{added, changed};
 ghost use Rattle.onecase.specs.Changes.{exclusion_byte, added_local_code, fresh_row, recertified, renamed, reidentified, deleted, relocated, amended, excluded, paid, transferred, readdressed};
 
 use casemaster::row;
 use exclusionsets::exclusions;
-use exclusionsets::exclusions::Exclusions;
-use layout::{chart_a1, locals, record};
+use layout::locals::LocalCodes;
+use layout::record::TransactionType;
+use layout::{chart_a1, record};
 use text::fields;
 use text::fields::Columns;
 
@@ -44,18 +45,15 @@ fn write(row: &mut [u8], to: Columns, bytes: &[u8])
 fn exclusion_byte(rec: &[u8; 245]) -> [u8; 1]
     ensures { result ≡ exclusion_byte rec.now }
 {
-    match exclusions::read_exclusions(fields::field(rec, chart_a1::EXCLUSIONS)) {
-        Exclusions::Set(set) => [set],
-        Exclusions::Failure => [0],
-    }
+    [exclusions::read_exclusions(fields::field(rec, chart_a1::EXCLUSIONS)).unwrap_or(0)]
 }
 
 // Writes the local code that an A stores: as sent if listed, else 000.
-fn put_local_code(row: &mut [u8], rec: &[u8; 245], list: &[u8], ordered: bool)
-    requires { (length row.old ≡ 200) × IsOrderedIf ordered list.now }
-    ensures { row.new ≡ placed 13 15 (added_local_code list.now rec.now) row.old }
+fn put_local_code(row: &mut [u8], rec: &[u8; 245], locals: LocalCodes)
+    requires { length row.old ≡ 200 }
+    ensures { row.new ≡ placed 13 15 (added_local_code locals.entry.list.now rec.now) row.old }
 {
-    if locals::listed(fields::field(rec, chart_a1::LOCAL_CODE), list, ordered) {
+    if locals.contains(fields::field(rec, chart_a1::LOCAL_CODE)) {
         copy(row, row::LOCAL_CODE, rec, chart_a1::LOCAL_CODE);
     } else {
         write(row, row::LOCAL_CODE, b"\xF0\xF0\xF0");
@@ -106,30 +104,51 @@ fn start_fresh(row: &mut [u8], rec: &[u8; 245])
     );
 }
 
-// A with no row, or a deleted one: a fresh row over whatever stands there.
-pub fn make_fresh(row: &mut [u8], rec: &[u8; 245], list: &[u8], ordered: bool)
-    requires { (length row.old ≡ 200) × IsOrderedIf ordered list.now }
-    ensures { row.new ≡ fresh_row list.now rec.now }
+// A with a deleted row: a fresh one over it.
+pub fn make_fresh(row: &mut [u8], rec: &[u8; 245], locals: LocalCodes)
+    requires { length row.old ≡ 200 }
+    ensures { row.new ≡ fresh_row locals.entry.list.now rec.now }
 {
     start_fresh(row, rec);
     put_names(row, rec);
     copy(row, row::CASE_ID, rec, chart_a1::CASE_ID);
-    put_local_code(row, rec, list, ordered);
+    put_local_code(row, rec, locals);
     let key = record::record_key(rec);
     write(row, row::KEY, &key);
 }
 
+// A with no row: a fresh one.
+pub fn fresh_row(rec: &[u8; 245], locals: LocalCodes) -> [u8; 200]
+    ensures { result ≡ fresh_row locals.entry.list.now rec.now }
+{
+    let mut row = [0x40u8; 200];
+    make_fresh(&mut row, rec, locals);
+    row
+}
+
 // A on a live row.
-pub fn recertify(row: &mut [u8], rec: &[u8; 245], list: &[u8], ordered: bool)
-    requires { (length row.old ≡ 200) × IsOrderedIf ordered list.now }
-    ensures { row.new ≡ recertified list.now rec.now row.old }
+pub fn recertify(row: &mut [u8], rec: &[u8; 245], locals: LocalCodes)
+    requires { length row.old ≡ 200 }
+    ensures { row.new ≡ recertified locals.entry.list.now rec.now row.old }
 {
     put_exclusions(row, rec);
     copy_unless_blank(row, row::DATE_ISSUED, rec, chart_a1::DATE_ISSUED);
     copy_unless_blank(row, row::ADDRESS, rec, chart_a1::ADDRESS);
     put_names(row, rec);
     copy_unless_blank(row, row::CASE_ID, rec, chart_a1::CASE_ID);
-    put_local_code(row, rec, list, ordered);
+    put_local_code(row, rec, locals);
+}
+
+// A on a row: recertified where it is live, else made fresh.
+#[tactic(auto, unfolding(crate::specs::Machine::added))]
+pub fn add_to(row: &mut [u8; 200], rec: &[u8; 245], locals: LocalCodes)
+    ensures { row.new ≡ added locals.entry.list.now rec.now (some row.old) }
+{
+    if row::is_live(row) {
+        recertify(row, rec, locals);
+    } else {
+        make_fresh(row, rec, locals);
+    }
 }
 
 // B: both names.
@@ -224,20 +243,20 @@ fn readdress(row: &mut [u8], rec: &[u8; 245])
 }
 
 // A record of any type but A on its row.
+#[tactic(auto, unfolding(crate::specs::Machine::changed))]
 pub fn change(row: &mut [u8], rec: &[u8; 245])
     requires { length row.old ≡ 200 }
     ensures { row.new ≡ changed rec.now row.old }
 {
-    let t = rec[chart_a1::TYPE_AT];
-    match t {
-        record::RENAME => rename(row, rec),
-        record::CASE_ID => reidentify(row, rec),
-        record::DELETE => delete(row),
-        record::LOCAL_CODE => relocate(row, rec),
-        record::MODIFY => amend(row, rec),
-        record::EXCLUDE => exclude(row, rec),
-        record::PAYMENT => pay(row, rec),
-        record::TRANSFER => transfer(row, rec),
-        _ => readdress(row, rec),
+    match record::type_of(rec) {
+        Some(TransactionType::Rename) => rename(row, rec),
+        Some(TransactionType::CaseId) => reidentify(row, rec),
+        Some(TransactionType::Delete) => delete(row),
+        Some(TransactionType::LocalCode) => relocate(row, rec),
+        Some(TransactionType::Modify) => amend(row, rec),
+        Some(TransactionType::Exclude) => exclude(row, rec),
+        Some(TransactionType::Payment) => pay(row, rec),
+        Some(TransactionType::Transfer) => transfer(row, rec),
+        Some(TransactionType::Address | TransactionType::Add) | None => readdress(row, rec),
     }
 }

@@ -138,11 +138,8 @@ fn held_row(rt: &impl Print, row: [u8; 200], whole: bool) -> io::Result<()> {
 
 // The row or none that a step leaves.
 pub fn case(rt: &impl Print, c: Case, whole: bool) -> io::Result<()> {
-    if c.held {
-        let row = c.row;
-        held_row(rt, row, whole)?;
-    } else {
-        text(rt, b"no row")?;
+    match c.row {
+        Some(row) => held_row(rt, row, whole),
+        None => text(rt, b"no row"),
     }
-    Ok(())
 }

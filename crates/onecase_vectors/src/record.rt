@@ -70,5 +70,5 @@ pub fn row(text: &[u8]) -> Case {
         b"1[OH123456789N000] 31[SMITH] 51[JOHN] 66[00000050] 79[000000000000] 197[00]",
     );
     fill(&mut row, text);
-    Case { held: true, row }
+    Case { row: Some(row) }
 }

@@ -8,6 +8,9 @@
 // A record's line with a question mark shows the whole row behind it. With an exclamation mark the record's name is among those that B
 // records of the key give.
 use crate::{print, record, scan};
+use judging::setting::Setting;
+use layout::locals::LocalCodes;
+use onecase::case;
 use onecase::case::{Case, Step};
 use onecase::verdict::Verdict;
 use std::io;
@@ -29,13 +32,17 @@ struct Stand {
 }
 
 fn step(case: Case, rec: [u8; 245], given: bool, control: Control) -> Step {
-    let state = control.state;
-    let year = control.year;
-    if control.listed {
-        case.step(&rec, given, &state, year, b"\xF0\xF0\xF1\xF0\xF0\xF5")
+    let list: &[u8] = if control.listed {
+        b"\xF0\xF0\xF1\xF0\xF0\xF5"
     } else {
-        case.step(&rec, given, &state, year, b"")
-    }
+        b""
+    };
+    let setting = Setting {
+        state: &control.state,
+        year: control.year,
+        locals: LocalCodes::new(list),
+    };
+    case.step(&rec, given, setting)
 }
 
 // Whether a text has a character.
@@ -122,17 +129,10 @@ fn line(rt: &impl Print, stand: Stand, base: [u8; 245], text: &[u8]) -> io::Resu
     match kind {
         b'#' => Ok(stand),
         b'c' => Ok(controlled(stand, text)),
-        b'n' => Ok(started(stand, no_row())),
+        b'n' => Ok(started(stand, case::no_case())),
         b'r' => Ok(started(stand, record::row(text))),
         b'+' => recorded(rt, stand, true, base, &text[1..]),
         _ => recorded(rt, stand, false, base, text),
-    }
-}
-
-fn no_row() -> Case {
-    Case {
-        held: false,
-        row: [0x40; 200],
     }
 }
 
@@ -143,7 +143,7 @@ fn beginning() -> Stand {
         year: 2007,
         listed: true,
     };
-    let none = no_row();
+    let none = case::no_case();
     Stand {
         control,
         start: none,

@@ -1,13 +1,13 @@
 -- Document 02, item 12: the pages of a master, and the outcome of the call, down to every byte lent. Assumes nothing.
-use Rattle.std.specs.Prelude.{ℕ, zero, suc, ◌+◌, ◌*◌, ◌/◌, List, [], ◌∷◌, ◌++◌, map, ltb, length, take, drop}
-use Rattle.answers.specs.Answer.{refuse_if, Answer, refused, done, Outcome, Run, outcome_by}
+use Rattle.std.specs.Prelude.{ℕ, zero, suc, ◌+◌, ◌*◌, ◌/◌, List, [], ◌∷◌, ◌++◌, map, ltb, length, take, drop, Result}
+use Rattle.answers.specs.Answer.{refuse_if, Answer, Outcome, Run, outcome_by}
+use Rattle.answers.specs.Refusal.{answer_in}
+use Rattle.answers.specs.declared.refusal.Refusal.{Refusal}
 use Rattle.text.specs.Blocks.{joined, over}
 use Rattle.casemaster.specs.Row.{is_live}
 use Rattle.casemaster.specs.Master.{rows_of, rows_that}
 use Rattle.casemaster.specs.Refusals.{master_refusal}
 use Rattle.pages.specs.Forms.{page_width, case_line, heading, foot}
-use Rattle.pages.specs.declared.printing.Printed.{Printed}
-use Rattle.pages.specs.declared.printing.Printed.TheVariants.{Done, Refused}
 
 -- ---- pages
 
@@ -49,15 +49,14 @@ pages_refusal limit master rows out =
     master_refusal limit master rows (refuse_if (ltb (length out) (length (printed (rows_of rows master)) * page_width)) 31 0)
 
 -- the answer: how many pages there are, or a refusal's number
-abbrev pub pages_answer : Printed → Answer ℕ
-pages_answer (Done n) = done n
-pages_answer (Refused n) = refused n
+abbrev pub pages_answer : Result ℕ Refusal → Answer ℕ
+pages_answer r = answer_in (λ n. n) r
 
 -- the answer and the buffer
 abbrev pub PagesOutcome : Type 0
 PagesOutcome = Outcome ℕ (List ℕ)
 
-abbrev pub pages_as : Printed → List ℕ → PagesOutcome
+abbrev pub pages_as : Result ℕ Refusal → List ℕ → PagesOutcome
 pages_as answer out = record { answer = pages_answer answer; buffers = out }
 
 -- the pages at the front of the buffer; bytes behind them are kept

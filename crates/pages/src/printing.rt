@@ -9,16 +9,10 @@ ghost use Rattle.pages.specs.Steps.{heading_before, going_on, row_lines, RowPrin
 
 use crate::forms;
 use crate::forms::PAGE_WIDTH;
+use answers::refusal::Refusal;
 use casemaster::master::ROW_WIDTH;
 use casemaster::{refusals, row};
 use text::{counting, fields};
-
-// The answer of the call: how many pages there are, or the number of the refusal.
-#[derive(Clone, Copy)]
-pub enum Printed {
-    Done(usize),
-    Refused(u64),
-}
 
 // How many lines for rows a full page has.
 const PAGE_LINES: usize = 58;
@@ -37,12 +31,8 @@ fn count_live(m: &[u8], n: usize) -> usize
     ensures { (result ≡ length (case_lines (rows_of n m.now))) × (result ≤ n) }
 {
     let mut live: usize = 0;
-    let mut i: usize = 0;
-    while i < n {
-        let at = i * ROW_WIDTH;
-        let end = at + ROW_WIDTH;
-        live += counting::one_if(row::is_live(&m[at..end]));
-        i += 1;
+    for row in m[..n * ROW_WIDTH].chunks_exact(ROW_WIDTH) {
+        live += counting::one_if(row::is_live(row));
     }
     live
 }
@@ -120,32 +110,25 @@ fn print_rows(out: &mut [u8], m: &[u8], n: usize) -> usize
     let mut written: usize = 0;
     let mut page: u64 = 1;
     let mut rows: usize = 0;
-    let mut i: usize = 0;
-    while i < n {
-        let at = i * ROW_WIDTH;
-        let end = at + ROW_WIDTH;
-        let standing = print_row(out, written, page, rows, &m[at..end]);
+    for row in m[..n * ROW_WIDTH].chunks_exact(ROW_WIDTH) {
+        let standing = print_row(out, written, page, rows, row);
         written = standing.written;
         page = standing.page;
         rows = standing.rows;
-        i += 1;
     }
     close_page(out, written, rows, rows != 0)
 }
 
-// Prints a master: every live row in key order, 58 lines to a page, or refuses.
-pub fn pages(master: &[u8], rows: usize, out: &mut [u8]) -> Printed
+// Prints a master: every live row in key order, 58 lines to a page, and answers how many pages there are, or refuses.
+pub fn pages(master: &[u8], rows: usize, out: &mut [u8]) -> Result<usize, Refusal>
     ensures { pages_as result out.new ≡ pages_outcome max_rows master.now rows out.old }
 {
-    let refusal = refusals::master_refusal(master, rows);
-    if refusal != 0 {
-        return Printed::Refused(refusal);
-    }
+    refusals::master_refusal(master, rows)?;
     let live = count_live(master, rows);
     let count = (live + 57) / PAGE_LINES;
     if out.len() / PAGE_WIDTH < live + 2 * count {
-        return Printed::Refused(31);
+        return Err(Refusal::ShortPages);
     }
     print_rows(out, master, rows);
-    Printed::Done(count)
+    Ok(count)
 }

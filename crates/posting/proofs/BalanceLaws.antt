@@ -1,6 +1,6 @@
 -- Laws of a row with another balance: its width, its key, its balance and its soundness; and of a row through a line. Assumes nothing.
 use Prim.Native.Nat.{ℕ, ◌+◌, ◌-◌, ◌/◌, ◌%◌, ◌^◌, ◌≤◌, ◌<◌}
-use mathlib.Core.Path.{◌≡◌, refl, sym, ◌∙◌}
+use mathlib.Core.Path.{◌≡◌, refl, ap, ◌∙◌}
 use mathlib.Core.List.{List, [], ◌∷◌}
 use mathlib.Core.Bool.{Bool, true, false, cond, ◌&&◌, and-false}
 use native.Mathlib.Omega.{arith}
@@ -16,8 +16,8 @@ use Rattle.text.proofs.ColumnsLaws.{Put, put, written, length-written, columns-w
 use Rattle.casemaster.proofs.SoundLaws.{sound_columns, written_sound}
 use Rattle.collectionfile.specs.Line.{collected, adjusted, is_right}
 use Rattle.posting.specs.Posting.{most, balance_after, is_posted_on, with_balance, posted_row}
-use Rattle.posting.specs.Parts.{IsTurn}
-use Rattle.posting.specs.declared.turn.Turn.{Turn}
+use Rattle.posting.specs.Parts.{turn_of}
+use Rattle.std.specs.Prelude.{Some, None}
 
 -- ---- what is written
 
@@ -128,13 +128,13 @@ module _ (line row : List ℕ) where
   unfolding is_posted_on
   is_posted_lem h k l = rw (h, k, le-leb (balance row + adjusted line) most l)
 
-  pub left_turn : (t : Turn) → t.posted ≡ false → t.row ≡ row → is_posted_on line row ≡ false → IsTurn line row t
-  left_turn t p r h = record { posted_is = p ∙ sym h; row_is = rw h r }
+  pub left_turn : is_posted_on line row ≡ false → None ≡ turn_of line row
+  left_turn h = rw h
 
-  pub posted_turn : (t : Turn) (cents : ℕ) → t.posted ≡ true → t.row ≡ with_balance cents row
-      → cents ≡ balance row + adjusted line - collected line → is_posted_on line row ≡ true → IsTurn line row t
+  pub posted_turn : (row' : List ℕ) (cents : ℕ) → row' ≡ with_balance cents row
+      → cents ≡ balance row + adjusted line - collected line → is_posted_on line row ≡ true → Some row' ≡ turn_of line row
   unfolding posted_row balance_after
-  posted_turn t cents p r e h = record { posted_is = p ∙ sym h; row_is = rw (h, ← e) r }
+  posted_turn row' cents r e h = rw (h, ← e) (ap Some r)
 
 -- ---- a balance written
 

@@ -3,7 +3,7 @@
 use Prim.Native.Nat.{ℕ, suc, ◌+◌, ◌-◌, ◌*◌, ◌≤◌, ◌<◌}
 use mathlib.Core.Path.{◌≡◌, refl, sym, ap, ◌∙◌}
 use mathlib.Core.List.{List, [], ◌∷◌, ◌++◌, append_assoc}
-use mathlib.Core.Bool.{Bool, true, false}
+use mathlib.Core.Bool.{Bool, true, false, cond}
 use mathlib.Core.Option.{none, some}
 use native.Mathlib.Numerals.{add-one}
 use native.Mathlib.Omega.{arith}
@@ -20,8 +20,8 @@ use Rattle.casemaster.proofs.SearchLaws.{place_row, no_place-row, place_inside, 
 use Rattle.casemaster.specs.Row.{is_sound_row}
 use Rattle.collectionfile.specs.Line.{line_key}
 use Rattle.posting.specs.Posting.{is_posted_on, posted_row, is_posted_in, after_line}
-use Rattle.posting.specs.Parts.{IsTurn, IsPut, LineDone}
-use Rattle.posting.specs.declared.turn.Turn.{Turn}
+use Rattle.posting.specs.Parts.{turn_of, IsPut, LineDone}
+use Rattle.std.specs.Prelude.{Some, None}
 use Rattle.posting.proofs.TurnLaws.{found_sound, posted_key}
 use Rattle.casemaster.proofs.RowsLaws.{Fit, rows_rise}
 
@@ -31,22 +31,30 @@ fit_of n m h s = record { wide = blocks_wide 200 n m h; sound = s }
 
 -- ---- the row at a place
 
-module _ (m : List ℕ) (p : ℕ) (line row after : List ℕ) (t : Turn) (e : row ≡ take 200 (drop (p * 200) m)) (i : IsTurn line row t) where
-  pub put_left : t.posted ≡ false → IsPut m p line m false
-  put_left f =
+module _ (m : List ℕ) (p : ℕ) (line row after : List ℕ) (e : row ≡ take 200 (drop (p * 200) m)) where
+  -- a line that is not posted, and one that is
+  not_posted : (b : Bool) (row' : List ℕ) → None ≡ cond b (Some row') None → b ≡ false
+  not_posted true row' h = cc
+  not_posted false row' h = refl
+
+  is_posted : (b : Bool) (row' new : List ℕ) → Some new ≡ cond b (Some row') None → (b ≡ true) × (new ≡ row')
+  is_posted true row' new h = (refl, cc)
+  is_posted false row' new h = cc
+
+  pub put_left : None ≡ turn_of line row → IsPut m p line m false
+  put_left t =
       record {
-        posted_is = rw (← e) (sym f ∙ i.posted_is);
+        posted_is = rw (← e) (sym (not_posted (is_posted_on line row) (posted_row line row) t));
         put = λ z. let x : ◌≡◌ {A = ℕ} 0 1 = cc in absurd (omega arith);
         left = λ z. refl;
       }
 
-  pub put_done : t.posted ≡ true → RowPut m p t.row after → IsPut m p line after true
-  put_done f r =
-      let h : is_posted_on line row ≡ true = sym i.posted_is ∙ f in
-      let k : t.row ≡ posted_row line row = i.row_is ∙ rw h in
+  pub put_done : (new : List ℕ) → Some new ≡ turn_of line row → RowPut m p new after → IsPut m p line after true
+  put_done new t r =
+      let h = is_posted (is_posted_on line row) (posted_row line row) new t in
       record {
-        posted_is = rw (← e) (sym h);
-        put = λ z. rw (← e) (rw k at r);
+        posted_is = rw (← e) (sym h.0);
+        put = λ z. rw (← e) (rw h.1 at r);
         left = λ z. let x : ◌≡◌ {A = ℕ} 0 1 = cc in absurd (omega arith);
       }
 

@@ -5,7 +5,11 @@ use mathlib.Core.List.{List, ◌++◌}
 use native.Mathlib.Omega.{arith}
 use lib.ListN.{length, drop, take-append-drop}
 use lib.Seq.{length-take-le}
-use Rattle.answers.proofs.AnswerLaws.{outcome_refused, outcome_done}
+use Rattle.answers.specs.Refusal.{refusal_number_of}
+use Rattle.answers.specs.declared.refusal.Refusal.{Refusal}
+use Rattle.answers.proofs.AnswerLaws.{outcome_done}
+use Rattle.answers.proofs.RefusalLaws.{outcome_err}
+use Rattle.std.specs.Prelude.{Ok, Err}
 use Rattle.text.specs.Blocks.{joined, over}
 use Rattle.text.proofs.BlocksLaws.{holds_over}
 use Rattle.casemaster.specs.Master.{rows_of}
@@ -16,7 +20,6 @@ use Rattle.collectionfile.specs.File.{line_count, lines_in}
 use Rattle.posting.specs.Post.{PostCall, listed_numbers, rows_after, lent_to, post_run, refusal_of, post_outcome, posted_as, IsPosting}
 use Rattle.posting.specs.Parts.{LinesDone}
 use Rattle.posting.proofs.LineLaws.{fit_of}
-use Rattle.posting.specs.declared.post.Posted.TheVariants.{Done, Refused}
 
 -- ---- 3 and 4
 
@@ -30,13 +33,13 @@ module _ (limit : ℕ) (master : List ℕ) (rows : ℕ) (e : master_refusal limi
 -- ---- the outcome
 
 module _ (c : PostCall) where
-  pub post_refused : (n : ℕ) → n ≡ refusal_of c → (n ≡ 0 → ⊥) → IsPosting c (posted_as (Refused n) c.master c.lines)
+  pub post_refused : (r : Refusal) → refusal_number_of r ≡ refusal_of c → IsPosting c (posted_as (Err r) c.master c.lines)
   unfolding post_outcome
-  post_refused n e h = record { is = outcome_refused (refusal_of c) (lent_to c) (post_run c) n e h }
+  post_refused r e = record { is = outcome_err (refusal_of c) (lent_to c) (post_run c) r e }
 
   pub post_done : (after list : List ℕ) (k : ℕ) → refusal_of c ≡ 0 → c.rows * 200 ≤ length c.master → length c.file / 240 - 1 ≤ length c.lines
       → LinesDone c.master c.rows c.file (length c.file / 240 - 1) c.lines after list k
-      → IsPosting c (posted_as (Done k) after list)
+      → IsPosting c (posted_as (Ok k) after list)
   unfolding post_outcome over lines_in line_count
   post_done after list k e r l w =
       let m : after ≡ over (joined (rows_after c)) c.master =

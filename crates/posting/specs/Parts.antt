@@ -1,16 +1,14 @@
 -- For the contracts of inner functions; no rule of the papers stands here.
 -- What each part of the work leaves. Assumes nothing.
-use Rattle.std.specs.Prelude.{ℕ, ◌*◌, ◌≤◌, ◌≡◌, List, Bool, true, false, cond, length, take, drop}
+use Rattle.std.specs.Prelude.{ℕ, ◌*◌, ◌≤◌, ◌≡◌, List, Bool, true, false, cond, length, take, drop, Option, Some, None}
 use Rattle.text.specs.Blocks.{blocks}
 use Rattle.casemaster.specs.Master.{rows_of}
 use Rattle.casemaster.specs.Search.{RowPut}
 use Rattle.posting.specs.Posting.{is_posted_on, posted_row, is_posted_in, after_line, after_lines, listed}
-use Rattle.posting.specs.declared.turn.Turn.{Turn}
 
--- one row through one line: whether it is posted, and the row then
-pub record IsTurn (line row : List ℕ) (t : Turn) : Type 0 where
-  pub posted_is : t.posted ≡ is_posted_on line row
-  pub row_is : t.row ≡ cond (is_posted_on line row) (posted_row line row) row
+-- one row through one line: the row where it is posted, else none
+abbrev pub turn_of : List ℕ → List ℕ → Option (List ℕ)
+turn_of line row = cond (is_posted_on line row) (Some (posted_row line row)) None
 
 -- the row at place p through a line: put back where it is posted, else nothing is written
 pub record IsPut (m : List ℕ) (p : ℕ) (line after : List ℕ) (r : Bool) : Type 0 where

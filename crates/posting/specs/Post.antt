@@ -1,14 +1,14 @@
 -- Document 02, item 6: the refusals in order, and the outcome of the call, down to every byte lent. Assumes nothing.
-use Rattle.std.specs.Prelude.{ℕ, ◌≡◌, List, length}
-use Rattle.answers.specs.Answer.{Answer, refused, done, Outcome, Run, outcome_by}
+use Rattle.std.specs.Prelude.{ℕ, ◌≡◌, List, length, Result}
+use Rattle.answers.specs.Answer.{Answer, Outcome, Run, outcome_by}
+use Rattle.answers.specs.Refusal.{answer_in}
+use Rattle.answers.specs.declared.refusal.Refusal.{Refusal}
 use Rattle.layout.specs.Limits.{max_rows}
 use Rattle.text.specs.Blocks.{joined, over}
 use Rattle.casemaster.specs.Master.{rows_of}
 use Rattle.casemaster.specs.Refusals.{master_refusal}
 use Rattle.collectionfile.specs.File.{lines_in, file_refusal}
 use Rattle.posting.specs.Posting.{after_lines, listed}
-use Rattle.posting.specs.declared.post.Posted.{Posted}
-use Rattle.posting.specs.declared.post.Posted.TheVariants.{Done, Refused}
 
 -- all that is lent to a call
 pub record PostCall : Type 0 where
@@ -31,9 +31,8 @@ refusal_of c = post_refusal c.limit c.master c.rows c.file (length c.lines)
 -- ---- the outcome
 
 -- the answer: how many lines are listed, or a refusal's number
-abbrev pub post_answer : Posted → Answer ℕ
-post_answer (Done n) = done n
-post_answer (Refused n) = refused n
+abbrev pub post_answer : Result ℕ Refusal → Answer ℕ
+post_answer r = answer_in (λ n. n) r
 
 -- every byte and number lent that can be written
 pub record PostBuffers : Type 0 where
@@ -71,7 +70,7 @@ post_outcome c = outcome_by (refusal_of c) (lent_to c) (post_run c)
 abbrev pub post_call : List ℕ → ℕ → List ℕ → List ℕ → PostCall
 post_call master rows file lines = record { master = master; rows = rows; file = file; lines = lines; limit = max_rows }
 
-abbrev pub posted_as : Posted → List ℕ → List ℕ → PostOutcome
+abbrev pub posted_as : Result ℕ Refusal → List ℕ → List ℕ → PostOutcome
 posted_as answer master lines = record { answer = post_answer answer; buffers = record { master = master; lines = lines } }
 
 -- what a call leaves: the promise of `post`

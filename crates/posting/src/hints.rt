@@ -34,30 +34,24 @@ fn back_of(file: &[u8], i: usize, count: usize) -> u64
     digits * 256 + kind
 }
 
-// The fronts of the keys of sixteen lines from line `from` on.
-fn fronts_of(file: &[u8], from: usize, count: usize) -> [u64; 16]
+// The keys of sixteen lines, each as these two numbers.
+#[derive(Clone, Copy)]
+struct Keys {
+    fronts: [u64; 16],
+    backs: [u64; 16],
+}
+
+// The keys of the sixteen lines from line `from` on.
+fn keys_of(file: &[u8], from: usize, count: usize) -> Keys
     requires { (count * 240 ≤ length file.now) × (from ≤ count) }
 {
     let mut fronts = [0u64; 16];
-    let mut k: usize = 0;
-    while k < 16 {
-        fronts[k] = front_of(file, from + k, count);
-        k += 1;
-    }
-    fronts
-}
-
-// The backs of the keys of sixteen lines from line `from` on.
-fn backs_of(file: &[u8], from: usize, count: usize) -> [u64; 16]
-    requires { (count * 240 ≤ length file.now) × (from ≤ count) }
-{
     let mut backs = [0u64; 16];
-    let mut k: usize = 0;
-    while k < 16 {
+    for k in 0..16 {
+        fronts[k] = front_of(file, from + k, count);
         backs[k] = back_of(file, from + k, count);
-        k += 1;
     }
-    backs
+    Keys { fronts, backs }
 }
 
 // A place, or the one half further where the row there isn't above the key.
@@ -76,33 +70,24 @@ fn next_place(m: &[u8], n: usize, p: usize, half: usize, front: u64, back: u64) 
 }
 
 // A step of sixteen searches: of the rows left behind each place the first half or the second.
-fn halve(
-    m: &[u8],
-    n: usize,
-    left: usize,
-    fronts: &[u64; 16],
-    backs: &[u64; 16],
-    places: &mut [usize; 16],
-)
+fn halve(m: &[u8], n: usize, left: usize, keys: &Keys, places: &mut [usize; 16])
     requires { (n * 200 ≤ length m.now) × (1 < left) × HintsWithin n left places.old }
     ensures { HintsWithin n (left - left / 2) places.new }
 {
     let half = left / 2;
-    let mut k: usize = 0;
-    while k < 16 {
-        places[k] = next_place(m, n, places[k], half, fronts[k], backs[k]);
-        k += 1;
+    for k in 0..16 {
+        places[k] = next_place(m, n, places[k], half, keys.fronts[k], keys.backs[k]);
     }
 }
 
 // For sixteen keys the place of the last of n rows that isn't above each, or the first place.
-fn look_for(m: &[u8], n: usize, fronts: &[u64; 16], backs: &[u64; 16], places: &mut [usize; 16])
+fn look_for(m: &[u8], n: usize, keys: &Keys, places: &mut [usize; 16])
     requires { n * 200 ≤ length m.now }
 {
     *places = [0usize; 16];
     let mut left = n;
     while 1 < left {
-        halve(m, n, left, fronts, backs, places);
+        halve(m, n, left, keys, places);
         left = left - left / 2;
     }
 }
@@ -123,10 +108,8 @@ fn touched_together(m: &[u8], n: usize, places: &[usize; 16]) -> u8
     requires { n * 200 ≤ length m.now }
 {
     let mut joined = 0xFFu8;
-    let mut k: usize = 0;
-    while k < 16 {
-        joined = joined & touched(m, n, places[k]);
-        k += 1;
+    for p in places {
+        joined &= touched(m, n, *p);
     }
     joined
 }
@@ -138,9 +121,8 @@ pub fn renew(hints: &mut [usize; 16], m: &[u8], n: usize, file: &[u8], i: usize,
     if i % 16 != 0 {
         return;
     }
-    let fronts = fronts_of(file, i, count);
-    let backs = backs_of(file, i, count);
-    look_for(m, n, &fronts, &backs, hints);
+    let keys = keys_of(file, i, count);
+    look_for(m, n, &keys, hints);
     if touched_together(m, n, hints) == 0xFF {
         *hints = [0usize; 16];
     }

@@ -10,19 +10,12 @@ ghost use Rattle.posting.specs.Post.{post_call, posted_as, IsPosting};
 ghost use Rattle.posting.specs.Parts.{IsPut, LineDone, LinesDone};
 
 use crate::{hints, turn};
+use answers::refusal::Refusal;
 use casemaster::master::ROW_WIDTH;
-use casemaster::search::Place;
 use casemaster::{master, refusals, search};
 use collectionfile::line::LINE_WIDTH;
 use collectionfile::{file, line};
 use text::{counting, fields};
-
-// The answer of the call: how many lines are listed, or the number of the refusal.
-#[derive(Clone, Copy)]
-pub enum Posted {
-    Done(u64),
-    Refused(u64),
-}
 
 // The row at place p through a line.
 fn post_at(m: &mut [u8], p: usize, line: &[u8]) -> bool
@@ -30,13 +23,13 @@ fn post_at(m: &mut [u8], p: usize, line: &[u8]) -> bool
     ensures { IsPut m.old p line.now m.new result }
 {
     let old = master::row_at(m, p);
-    let turn = turn::post_row(old, line);
-    if !turn.posted {
-        return false;
+    match turn::post_row(old, line) {
+        Some(new) => {
+            master::put_row(m, p, new);
+            true
+        }
+        None => false,
     }
-    let new = turn.row;
-    master::put_row(m, p, new);
-    true
 }
 
 // The first n rows through a line.
@@ -46,8 +39,8 @@ fn post_line(m: &mut [u8], n: usize, line: &[u8]) -> bool
 {
     let key = line::line_key(line);
     match search::place_of(m, n, &key) {
-        Place::At(p) => post_at(m, p, line),
-        Place::Gap(_) => false,
+        Ok(p) => post_at(m, p, line),
+        Err(_) => false,
     }
 }
 
@@ -95,33 +88,26 @@ fn work(m: &mut [u8], n: usize, file: &[u8], count: usize, lines: &mut [u32]) ->
 {
     let mut hints = [0usize; 16];
     let mut k: usize = 0;
-    let mut i: usize = 0;
-    while i < count {
+    for i in 0..count {
         hints::renew(&mut hints, m, n, file, i, count);
         let p = hints::hint_for(&hints, i);
         let at = i * LINE_WIDTH;
         let end = at + LINE_WIDTH;
         let posted = post_near(m, n, &file[at..end], p);
         k = note(lines, k, i, posted);
-        i += 1;
     }
     k
 }
 
-// Posts each line of a collection file to a master, and lists the numbers of those that are not posted.
-pub fn post(master: &mut [u8], rows: usize, file: &[u8], lines: &mut [u32]) -> Posted
+// Posts each line of a collection file to a master, lists the numbers of those that are not posted, and answers how many
+// they are.
+pub fn post(master: &mut [u8], rows: usize, file: &[u8], lines: &mut [u32]) -> Result<u64, Refusal>
     ensures { IsPosting (post_call master.old rows file.now lines.old)
         (posted_as result master.new lines.new) }
 {
-    let first = refusals::master_refusal(master, rows);
-    if first != 0 {
-        return Posted::Refused(first);
-    }
-    let second = file::file_refusal(file, lines.len());
-    if second != 0 {
-        return Posted::Refused(second);
-    }
+    refusals::master_refusal(master, rows)?;
+    file::file_refusal(file, lines.len())?;
     let count = file.len() / LINE_WIDTH - 1;
     let k = work(master, rows, file, count, lines);
-    Posted::Done(k as u64)
+    Ok(k as u64)
 }

@@ -1,6 +1,8 @@
 -- Document 01, "Reconciliation": Charts 0-6 and 0-7. Assumes nothing.
-use Rattle.std.specs.Prelude.{ℕ, ◌+◌, ◌*◌, List, [], ◌∷◌, ◌++◌, map, Bool, not, cond, ◌&&◌, eqb, ltb, length, get_or}
-use Rattle.answers.specs.Answer.{refuse_if, Answer, refused, done, Outcome, Run, outcome_by}
+use Rattle.std.specs.Prelude.{ℕ, ◌+◌, ◌*◌, List, [], ◌∷◌, ◌++◌, map, Bool, not, cond, ◌&&◌, eqb, ltb, length, get_or, Result}
+use Rattle.answers.specs.Answer.{refuse_if, Answer, Outcome, Run, outcome_by}
+use Rattle.answers.specs.Refusal.{answer_in}
+use Rattle.answers.specs.declared.refusal.Refusal.{Refusal}
 use Rattle.text.specs.Characters.{A, C, E, N, R, letter_t}
 use Rattle.text.specs.Fields.{columns, same_bytes, digit_field, spaces}
 use Rattle.layout.specs.States.{is_state}
@@ -9,8 +11,6 @@ use Rattle.exclusionsets.specs.Exclusions.{exclusion_columns}
 use Rattle.text.specs.Blocks.{joined, over}
 use Rattle.casemaster.specs.Row.{row_state, row_ssn, row_case_type, row_local_code, row_case_id, row_last_name, row_arrearage, row_date_issued, row_exclusions, is_live}
 use Rattle.casemaster.specs.Master.{rows_of, rows_that}
-use Rattle.reconciliation.specs.declared.reconcile.Reconciled.{Reconciled}
-use Rattle.reconciliation.specs.declared.reconcile.Reconciled.TheVariants.{Done, Refused}
 use Rattle.casemaster.specs.Refusals.{master_refusal}
 
 -- a live row of that state
@@ -66,15 +66,14 @@ reconcile_refusal limit master rows state date out =
     (refuse_if (refusal_of_space state (rows_of rows master) out) 11 0)))
 
 -- the answer: the number of REC records, or a refusal's number
-abbrev pub reconcile_answer : Reconciled → Answer ℕ
-reconcile_answer (Done n) = done n
-reconcile_answer (Refused n) = refused n
+abbrev pub reconcile_answer : Result ℕ Refusal → Answer ℕ
+reconcile_answer r = answer_in (λ n. n) r
 
 -- the answer and the buffer
 abbrev pub ReconcileOutcome : Type 0
 ReconcileOutcome = Outcome ℕ (List ℕ)
 
-abbrev pub reconciled_as : Reconciled → List ℕ → ReconcileOutcome
+abbrev pub reconciled_as : Result ℕ Refusal → List ℕ → ReconcileOutcome
 reconciled_as answer out = record { answer = reconcile_answer answer; buffers = out }
 
 -- the file at the front of the buffer; bytes behind RCT are kept

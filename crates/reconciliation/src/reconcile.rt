@@ -8,6 +8,7 @@ ghost use Rattle.casemaster.specs.Master.{rows_of};
 ghost use Rattle.reconciliation.specs.Parts.{with_identity, with_case, with_end};
 ghost use Rattle.reconciliation.specs.Reconcile.{is_reported, RCT, rec_record, rec_records, reported_of, reconciled_as, reconcile_outcome};
 
+use answers::refusal::Refusal;
 use casemaster::master::ROW_WIDTH;
 use casemaster::{refusals, row};
 use dates::calendar;
@@ -16,13 +17,6 @@ use layout::records::RECORD_WIDTH;
 use layout::{chart_06, chart_07, key, states};
 use text::fields::Columns;
 use text::{counting, fields};
-
-// The answer of the call: the number of REC records, or the number of the refusal.
-#[derive(Clone, Copy)]
-pub enum Reconciled {
-    Done(usize),
-    Refused(u64),
-}
 
 // How many cases are reported, and of each case type.
 #[derive(Clone, Copy)]
@@ -62,17 +56,12 @@ fn count_cases(m: &[u8], n: usize, state: &[u8]) -> Cases
     let mut total: usize = 0;
     let mut tanf: usize = 0;
     let mut non_tanf: usize = 0;
-    let mut i: usize = 0;
-    while i < n {
-        let at = i * ROW_WIDTH;
-        let end = at + ROW_WIDTH;
-        let row = &m[at..end];
+    for row in m[..n * ROW_WIDTH].chunks_exact(ROW_WIDTH) {
         let case_type = row[11];
         let reported = is_reported(row, state);
         total += counting::one_if(reported);
         tanf += counting::one_if(reported & (case_type == key::TANF));
         non_tanf += counting::one_if(reported & (case_type == key::NON_TANF));
-        i += 1;
     }
     Cases {
         total,
@@ -177,43 +166,37 @@ fn put_records(out: &mut [u8], m: &[u8], n: usize, state: &[u8]) -> usize
     ensures { Holds 245 out.old out.new result (rec_records state.now (rows_of n m.now)) }
 {
     let mut k: usize = 0;
-    let mut i: usize = 0;
-    while i < n {
-        let at = i * ROW_WIDTH;
-        let end = at + ROW_WIDTH;
-        k = put_record(out, k, &m[at..end], state);
-        i += 1;
+    for row in m[..n * ROW_WIDTH].chunks_exact(ROW_WIDTH) {
+        k = put_record(out, k, row, state);
     }
     k
 }
 
-// Reconciliation for a state and a date: writes a REC record per live row of that state and RCT behind them, or refuses.
+// Reconciliation for a state and a date: writes a REC record per live row of that state and RCT behind them, and
+// answers how many REC records there are, or refuses.
 pub fn reconcile(
     master: &[u8],
     rows: usize,
     state: &[u8],
     date: &[u8],
     out: &mut [u8],
-) -> Reconciled
+) -> Result<usize, Refusal>
     ensures { reconciled_as result out.new
         ≡ reconcile_outcome max_rows master.now rows state.now date.now out.old }
 {
-    let refusal = refusals::master_refusal(master, rows);
-    if refusal != 0 {
-        return Reconciled::Refused(refusal);
-    }
+    refusals::master_refusal(master, rows)?;
     if !states::is_state(state) {
-        return Reconciled::Refused(12);
+        return Err(Refusal::WrongState);
     }
     if !calendar::is_date(date) {
-        return Reconciled::Refused(13);
+        return Err(Refusal::WrongDate);
     }
     let cases = count_cases(master, rows, state);
     if out.len() / RECORD_WIDTH <= cases.total {
-        return Reconciled::Refused(11);
+        return Err(Refusal::ShortOutput);
     }
     let records = put_records(out, master, rows, state);
     let control = rct_record(state, date, cases);
     fields::copy_in(out, records * RECORD_WIDTH, &control);
-    Reconciled::Done(records)
+    Ok(records)
 }

@@ -76,13 +76,12 @@ pub fn write_verdicts(
         rejects: 0,
         tally,
     };
-    let mut i: usize = 0;
-    while i < d {
-        let at = i * RECORD_WIDTH;
-        let end = at + RECORD_WIDTH;
+    for (i, rec) in batch[..d * RECORD_WIDTH]
+        .chunks_exact(RECORD_WIDTH)
+        .enumerate()
+    {
         let v = packed::verdict_in(numbers[i]);
-        s = record_verdict(s, i, &batch[at..end], v, numbers, rejects);
-        i += 1;
+        s = record_verdict(s, i, rec, v, numbers, rejects);
     }
     s
 }

@@ -1,16 +1,17 @@
 // Keys: soundness, and byte order, in which letters stand below digits.
 use crate::lists;
 use crate::lists::Subject;
+use std::cmp::Ordering;
 use std::io;
-use text::byte_order::{Order, is_below, is_rising, order_of};
+use text::byte_order::{is_below, is_rising, order_of};
 use vector_text::ebcdic::write;
 use vector_text::print;
 
 fn stand(rt: &impl Print, a: &[u8; 12], b: &[u8; 12]) -> io::Result<()> {
     match order_of(a, b) {
-        Order::Less => print::text(rt, b"less, below ")?,
-        Order::Equal => print::text(rt, b"equal, below ")?,
-        Order::Greater => print::text(rt, b"greater, below ")?,
+        Ordering::Less => print::text(rt, b"less, below ")?,
+        Ordering::Equal => print::text(rt, b"equal, below ")?,
+        Ordering::Greater => print::text(rt, b"greater, below ")?,
     }
     print::answer(rt, is_below(a, b))
 }

@@ -1,7 +1,7 @@
 -- Laws of rows restored place by place. Assumes nothing.
 use Prim.Native.Nat.{ℕ, suc, ◌+◌, ◌-◌, ◌*◌, ◌≤◌, ◌<◌}
 use mathlib.Core.Path.{◌≡◌, refl, sym, ap, ◌∙◌}
-use mathlib.Core.Bool.{Bool, true, false}
+use mathlib.Core.Bool.{true, false}
 use mathlib.Core.List.{List, [], ◌∷◌, ◌++◌, append_assoc, append-nil}
 use mathlib.Core.Option.{Option, none, some}
 use native.Mathlib.Numerals.{add-one}
@@ -20,9 +20,10 @@ use Rattle.casemaster.specs.Search.{RowPut}
 use Rattle.casemaster.proofs.MovedLaws.{row_put}
 use Rattle.journal.specs.Journal.{Entry, entry, ReadEntry, no_entry, one_entry, read_entry, before_others, entries_in}
 use Rattle.takeback.specs.Restored.{places_rise, places_below, restored_from}
-use Rattle.journal.specs.Reading.{reach, EntryOutOfReach, EntryFound, old_at, IsEntryAt, IsEntry}
+use Rattle.journal.specs.Reading.{reach, EntryOutOfReach, EntryFound, old_at, IsEntry}
 use Rattle.takeback.specs.Restoring.{IsLater, CanRestore, PlaceRestored, AllRestored}
 use Rattle.journal.specs.declared.entries.Found.{Found}
+use Rattle.std.specs.Prelude.{Option as CodeOption, None, Some, IsSome}
 use Rattle.takeback.specs.declared.restoring.Position.{Position}
 use Rattle.journal.proofs.FormLaws.{entries_none, entries_bad, entries_next}
 
@@ -71,63 +72,61 @@ entries_split : (e : Entry) (o : Option (List Entry)) (es : List Entry) → befo
 entries_split e none es h = let z : ◌≡◌ {A = ℕ} 0 1 = cc in absurd (omega arith)
 entries_split e (some rest) es h = split_at rest refl (cc)
 
-module _ (journal : List ℕ) (at p : ℕ) (c : CanRestore journal at p) (e : Found) (i : IsEntry at journal e) (l : at < length journal) where
+module _ (journal : List ℕ) (at p : ℕ) (c : CanRestore journal at p) (l : at < length journal) where
+  other : (x : Entry) (bs : List ℕ) → reach ≤ x.place → Split x (entries_in bs) c.entries → ⊥
+  other x bs h (split_at rest f g) = let b = first_place_below reach x rest (rw g at c.below) in omega (arith, b.0)
+
+  out : (r : ReadEntry) → read_entry (drop at journal) ≡ r → EntryOutOfReach r → ⊥
+  out no_entry y h =
+      let n : entries_in (drop at journal) ≡ none = entries_bad (drop at journal) (rw length-drop (omega arith)) y in
+      let a = c.are in
+      let z : ◌≡◌ {A = ℕ} 0 1 = cc in
+      omega arith
+  out (one_entry x bs) y h =
+      other x bs h (entries_split x (entries_in bs) c.entries (sym (entries_next (drop at journal) x bs y) ∙ c.are))
+
   -- the entry is found
-  pub must_find : EntryFound at journal e.place e.new e.row e.next
-  must_find = go e.found i
-    where
-      other : (x : Entry) (bs : List ℕ) → reach ≤ x.place → Split x (entries_in bs) c.entries → ⊥
-      other x bs h (split_at rest f g) = let b = first_place_below reach x rest (rw g at c.below) in omega (arith, b.0)
+  pub must_find : (o : CodeOption Found) → IsEntry at journal o → IsSome o
+  must_find None i = absurd (out (read_entry (drop at journal)) refl i)
+  must_find (Some e) i = refl
 
-      out : (r : ReadEntry) → read_entry (drop at journal) ≡ r → EntryOutOfReach r → ⊥
-      out no_entry y h =
-          let n : entries_in (drop at journal) ≡ none = entries_bad (drop at journal) (rw length-drop (omega arith)) y in
-          let a = c.are in
-          let z : ◌≡◌ {A = ℕ} 0 1 = cc in
-          omega arith
-      out (one_entry x bs) y h =
-          other x bs h (entries_split x (entries_in bs) c.entries (sym (entries_next (drop at journal) x bs y) ∙ c.are))
-
-      go : (t : Bool) → IsEntryAt t at journal e.place e.new e.row e.next → EntryFound at journal e.place e.new e.row e.next
-      go true h = h
-      go false h = absurd (out (read_entry (drop at journal)) refl h)
-
-  first_is : Split (entry e.place (old_at e.new e.row journal)) (entries_in (drop e.next journal)) c.entries
+module _ (journal : List ℕ) (at p : ℕ) (c : CanRestore journal at p) (e : Found) (f : EntryFound at journal e.place e.old e.next) where
+  first_is : Split (entry e.place (old_at e.old journal)) (entries_in (drop e.next journal)) c.entries
   first_is =
-      entries_split (entry e.place (old_at e.new e.row journal)) (entries_in (drop e.next journal)) c.entries
-      (sym (entries_next (drop at journal) (entry e.place (old_at e.new e.row journal)) (drop e.next journal) must_find.is) ∙ c.are)
+      entries_split (entry e.place (old_at e.old journal)) (entries_in (drop e.next journal)) c.entries
+      (sym (entries_next (drop at journal) (entry e.place (old_at e.old journal)) (drop e.next journal) f.is) ∙ c.are)
 
   -- another place: it is later
   pub is_later : (e.place ≡ p → ⊥) → IsLater p c.entries
   is_later n = go first_is
     where
-      go : Split (entry e.place (old_at e.new e.row journal)) (entries_in (drop e.next journal)) c.entries → IsLater p c.entries
+      go : Split (entry e.place (old_at e.old journal)) (entries_in (drop e.next journal)) c.entries → IsLater p c.entries
       go (split_at rest f g) =
-          let r = first_place p (entry e.place (old_at e.new e.row journal)) rest (rw g at c.rise) in
+          let r = first_place p (entry e.place (old_at e.old journal)) rest (rw g at c.rise) in
           let k : p < e.place = place_above p e.place r.0 n in
           rw g k
 
   -- this place: what it leaves, and the entries behind it
   pub here : (at' : ℕ) → at' ≡ e.next → e.place ≡ p
       → (q : CanRestore journal at' (p + 1))
-      × ((row : List ℕ) (rows : List (List ℕ)) → restored_from p c.entries (row ∷ rows) ≡ one_or_none (old_at e.new e.row journal) ++ restored_from (p + 1) q.entries rows)
+      × ((row : List ℕ) (rows : List (List ℕ)) → restored_from p c.entries (row ∷ rows) ≡ one_or_none (old_at e.old journal) ++ restored_from (p + 1) q.entries rows)
   here at' a y = go first_is
     where
-      go : Split (entry e.place (old_at e.new e.row journal)) (entries_in (drop e.next journal)) c.entries
+      go : Split (entry e.place (old_at e.old journal)) (entries_in (drop e.next journal)) c.entries
           → (q : CanRestore journal at' (p + 1))
-          × ((row : List ℕ) (rows : List (List ℕ)) → restored_from p c.entries (row ∷ rows) ≡ one_or_none (old_at e.new e.row journal) ++ restored_from (p + 1) q.entries rows)
+          × ((row : List ℕ) (rows : List (List ℕ)) → restored_from p c.entries (row ∷ rows) ≡ one_or_none (old_at e.old journal) ++ restored_from (p + 1) q.entries rows)
       go (split_at rest f g) =
-          let x = entry e.place (old_at e.new e.row journal) in
+          let x = entry e.place (old_at e.old journal) in
           let r = first_place p x rest (rw g at c.rise) in
           let b = first_place_below reach x rest (rw g at c.below) in
           let w : suc e.place ≡ p + 1 = omega arith in (
             record { entries = rest; are = rw a f; rise = rw w at r.1; below = b.1 },
-            λ row rows. rw (g, y) (here_taken p (old_at e.new e.row journal) rest row rows),
+            λ row rows. rw (g, y) (here_taken p (old_at e.old journal) rest row rows),
           )
 
-by_mark : (b c : Bool) → b ≡ c → (row : ℕ) (journal : List ℕ) (rows : List (List ℕ))
-    → one_or_none (old_at b row journal) ++ rows ≡ one_or_none (old_at c row journal) ++ rows
-by_mark b c e row journal rows = rw e
+by_mark : (b c : CodeOption ℕ) → b ≡ c → (journal : List ℕ) (rows : List (List ℕ))
+    → one_or_none (old_at b journal) ++ rows ≡ one_or_none (old_at c journal) ++ rows
+by_mark b c e journal rows = rw e
 
 nothing_taken : (p : ℕ) (es : List Entry) → restored_from p es [] ≡ []
 unfolding restored_from
@@ -176,34 +175,32 @@ module _ (m : List ℕ) (p : ℕ) (journal : List ℕ) (s : Position) (m' : List
       let e : [] ≡ c.entries = cc in
       rw (← e) tt
 
-  module _ (e : Found) (i : IsEntry s.at journal e) (l : s.at < length journal) (y : e.place ≡ p) (k : s.to ≤ p) (c : CanRestore journal s.at p) where
+  module _ (e : Found) (f : EntryFound s.at journal e.place e.old e.next) (y : e.place ≡ p) (k : s.to ≤ p) (c : CanRestore journal s.at p) where
     -- a new row goes
-    pub new_restored : e.new ≡ true → m' ≡ m → r.to ≡ s.to → r.at ≡ e.next → PlaceRestored m p journal s m' r c.entries
-    new_restored w f t a =
-        let x = here journal s.at p c e i l r.at a y in
-        let g = must_find journal s.at p c e i l in
+    pub new_restored : e.old ≡ None → m' ≡ m → r.to ≡ s.to → r.at ≡ e.next → PlaceRestored m p journal s m' r c.entries
+    new_restored w g t a =
+        let x = here journal s.at p c e f r.at a y in
         record {
           left = [];
           next = x.0;
-          taken = λ rows. x.1 (row_in m p) rows ∙ by_mark e.new true w e.row journal (restored_from (p + 1) x.0.entries rows);
-          rows_are = rw (f, t) (sym (append-nil (rows_of s.to m)));
-          rest_kept = rw f;
-          same_length = rw f;
-          inside = omega (arith, g.inside);
+          taken = λ rows. x.1 (row_in m p) rows ∙ by_mark e.old None w journal (restored_from (p + 1) x.0.entries rows);
+          rows_are = rw (g, t) (sym (append-nil (rows_of s.to m)));
+          rest_kept = rw g;
+          same_length = rw g;
+          inside = omega (arith, f.inside);
           to_low = omega arith;
           to_high = omega arith;
         }
 
     -- an old row in its place
-    pub old_restored : e.new ≡ false → m' ≡ spliced m (s.to * 200) (take (e.row + 200 - e.row) (drop e.row journal)) → p * 200 + 200 ≤ length m
+    pub old_restored : (o : ℕ) → e.old ≡ Some o → m' ≡ spliced m (s.to * 200) (take (o + 200 - o) (drop o journal)) → p * 200 + 200 ≤ length m
         → r.to ≡ s.to + 1 → r.at ≡ e.next → PlaceRestored m p journal s m' r c.entries
-    old_restored w f h t a =
-        let x = here journal s.at p c e i l r.at a y in
-        let g = must_find journal s.at p c e i l in
-        let row : List ℕ = take 200 (drop e.row journal) in
-        let wide : length row ≡ 200 = length-take-le 200 (drop e.row journal) (rw (length-drop e.row journal) (omega (arith, g.row_inside w))) in
-        let u : RowPut m s.to row m' = rw (f, part_width 200 journal e.row) (row_put m s.to row wide (omega arith)) in
-        put-restored m p journal s m' r c.entries row u t k x.0 (omega (arith, g.inside)) (λ rows. x.1 (row_in m p) rows ∙ by_mark e.new false w e.row journal (restored_from (p + 1) x.0.entries rows))
+    old_restored o w g h t a =
+        let x = here journal s.at p c e f r.at a y in
+        let row : List ℕ = take 200 (drop o journal) in
+        let wide : length row ≡ 200 = length-take-le 200 (drop o journal) (rw (length-drop o journal) (omega (arith, f.row_inside o w))) in
+        let u : RowPut m s.to row m' = rw (g, part_width 200 journal o) (row_put m s.to row wide (omega arith)) in
+        put-restored m p journal s m' r c.entries row u t k x.0 (omega (arith, f.inside)) (λ rows. x.1 (row_in m p) rows ∙ by_mark e.old (Some o) w journal (restored_from (p + 1) x.0.entries rows))
 
 -- ---- every place
 

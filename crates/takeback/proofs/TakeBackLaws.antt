@@ -8,8 +8,12 @@ use native.Mathlib.Omega.{arith}
 use lib.Dec.{ltb, eqb}
 use lib.ListN.{length, drop}
 use borrow.Author.Tests.{ltb-true, lt-ltb, eqb-true}
+use Rattle.answers.specs.Refusal.{refusal_number_of}
+use Rattle.answers.specs.declared.refusal.Refusal.{Refusal}
+use Rattle.answers.proofs.AnswerLaws.{outcome_done}
+use Rattle.answers.proofs.RefusalLaws.{outcome_err}
+use Rattle.std.specs.Prelude.{Ok, Err}
 use Rattle.answers.specs.Answer.{refuse_if}
-use Rattle.answers.proofs.AnswerLaws.{outcome_refused, outcome_done}
 use Rattle.text.specs.Blocks.{joined, over}
 use Rattle.text.proofs.FieldsLaws.{and_left, and_right}
 use Rattle.text.proofs.BoolLaws.{and_both}
@@ -18,15 +22,15 @@ use Rattle.layout.specs.Limits.{max_rows}
 use Rattle.layout.proofs.LimitsLaws.{max_rows_lem}
 use Rattle.casemaster.specs.Master.{rows_of, are_sound_rows}
 use Rattle.casemaster.specs.Refusals.{refusal3, refusal4, master_refusal}
-use Rattle.casemaster.proofs.RefusalsLaws.{master_passed, master_refused, master_rows, master_limit}
+use Rattle.casemaster.proofs.RefusalsLaws.{master_passed, master_err, master_rows, master_limit}
 use Rattle.journal.specs.Journal.{Entry, Journal, journal, entries_in, journal_in}
 use Rattle.takeback.specs.Restored.{places_rise, places_below, new_marks, restored_from, restored, fits, can_take_back}
 use Rattle.journal.specs.Reading.{reach}
-use Rattle.takeback.specs.Testing.{CountsRead, IsCounts, IsCountsIf}
+use Rattle.takeback.specs.Testing.{CountsRead, IsCounts}
 use Rattle.takeback.specs.Restoring.{CanRestore, AllRestored}
 use Rattle.takeback.specs.TakeBack.{taken_as, refusal26, take_back_refusal, take_back_run, take_back_outcome}
+use Rattle.std.specs.Prelude.{Option as CodeOption, None, Some, IsSome}
 use Rattle.takeback.specs.declared.testing.Counts.{Counts}
-use Rattle.takeback.specs.declared.take_back.TakenBack.TheVariants.{Done, Refused}
 
 -- ---- the refusals
 
@@ -42,10 +46,10 @@ module _ (limit : ℕ) (master : List ℕ) (rows : ℕ) where
   rows_inside e = omega (arith, master_rows limit master rows e)
 
   module _ (bytes : List ℕ) where
-    pub refused_master : (r : ℕ) → r ≡ master_refusal limit master rows 0 → (r ≡ 0 → ⊥) → r ≡ take_back_refusal limit master rows bytes
+    pub refused_master : (r : Refusal) → refusal_number_of r ≡ master_refusal limit master rows 0
+        → refusal_number_of r ≡ take_back_refusal limit master rows bytes
     unfolding take_back_refusal
-    refused_master r e h =
-        e ∙ sym (master_refused limit master rows (λ f. h (e ∙ f)) (refuse_if (refusal26 master rows bytes) 26 0))
+    refused_master r e = master_err limit master rows r e (refuse_if (refusal26 master rows bytes) 26 0)
 
     pub refusal_none : master_refusal limit master rows 0 ≡ 0 → (t : Bool) → t ≡ can_take_back (journal_in bytes) (rows_of rows master) → t ≡ true
         → 0 ≡ take_back_refusal limit master rows bytes
@@ -67,9 +71,10 @@ module _ (limit : ℕ) (master : List ℕ) (rows : ℕ) where
         go false false false e = absurd (omega arith)
         go false false true e = (refl, refl)
 
-    pub take_refused : (r : ℕ) → r ≡ take_back_refusal limit master rows bytes → (r ≡ 0 → ⊥) → taken_as (Refused r) master ≡ take_back_outcome limit master rows bytes
+    pub take_refused : (r : Refusal) → refusal_number_of r ≡ take_back_refusal limit master rows bytes
+        → taken_as (Err r) master ≡ take_back_outcome limit master rows bytes
     unfolding take_back_outcome
-    take_refused = outcome_refused (take_back_refusal limit master rows bytes) master (take_back_run (journal_in bytes) master rows)
+    take_refused = outcome_err (take_back_refusal limit master rows bytes) master (take_back_run (journal_in bytes) master rows)
 
 -- ---- carried out
 
@@ -102,10 +107,15 @@ taken_tests j rows t =
 false_true : {A : Type 0} → false ≡ true → A
 false_true e = absurd (let z : ◌≡◌ {A = ℕ} 0 1 = cc in omega arith)
 
-module _ (bytes : List ℕ) (rows : List (List ℕ)) (few : length rows < reach) (t : can_take_back (journal_in bytes) rows ≡ true) (c : Counts) (i : IsCounts bytes c) where
-  pub ready : Ready bytes c
+module _ (bytes : List ℕ) (rows : List (List ℕ)) (few : length rows < reach) (t : can_take_back (journal_in bytes) rows ≡ true) where
+  -- the counts are there
+  pub has_counts : (o : CodeOption Counts) → IsCounts bytes o → IsSome o
+  has_counts None i = false_true (sym (i rows few) ∙ t)
+  has_counts (Some c) i = refl
+
+  pub ready : (c : Counts) → CountsRead bytes c.before c.after c.at → Ready bytes c
   unfolding can_take_back
-  ready = go c.found i
+  ready c i = entries i (entries_in (drop c.at bytes)) refl
     where
       entries : CountsRead bytes c.before c.after c.at → (o : Option (List Entry)) → entries_in (drop c.at bytes) ≡ o → Ready bytes c
       entries k none e = false_true (rw (k.is, e) at t)
@@ -119,21 +129,22 @@ module _ (bytes : List ℕ) (rows : List (List ℕ)) (few : length rows < reach)
             inside = k.inside;
           }
 
-      go : (b : Bool) → IsCountsIf b bytes c.before c.after c.at → Ready bytes c
-      go true k = entries k (entries_in (drop c.at bytes)) refl
-      go false k = false_true (sym (k rows few) ∙ t)
+module _ (limit : ℕ) (l : limit < reach) (master : List ℕ) (rows : ℕ) (bytes : List ℕ) (e : take_back_refusal limit master rows bytes ≡ 0) where
+  pub counts_known : (o : CodeOption Counts) → IsCounts bytes o → IsSome o
+  counts_known =
+      let k = no_refusal limit master rows bytes e in
+      has_counts bytes (rows_of rows master) (rw (length-blocks 200 rows master) (in_reach limit master rows l k.0)) k.1
 
-module _ (limit : ℕ) (l : limit < reach) (master : List ℕ) (rows : ℕ) (bytes : List ℕ) (e : take_back_refusal limit master rows bytes ≡ 0) (c : Counts) (i : IsCounts bytes c) where
-  pub known : Ready bytes c
+  pub known : (c : Counts) → CountsRead bytes c.before c.after c.at → Ready bytes c
   known =
       let k = no_refusal limit master rows bytes e in
-      ready bytes (rows_of rows master) (rw (length-blocks 200 rows master) (in_reach limit master rows l k.0)) k.1 c i
+      ready bytes (rows_of rows master) (rw (length-blocks 200 rows master) (in_reach limit master rows l k.0)) k.1
 
-  pub take_done : (after : List ℕ) (count : ℕ) → ((q : CanRestore bytes c.at 0) → AllRestored master rows after count q.entries)
-      → taken_as (Done c.before) after ≡ take_back_outcome limit master rows bytes
+  pub take_done : (c : Counts) → CountsRead bytes c.before c.after c.at → (after : List ℕ) (count : ℕ) → ((q : CanRestore bytes c.at 0) → AllRestored master rows after count q.entries)
+      → taken_as (Ok c.before) after ≡ take_back_outcome limit master rows bytes
   unfolding take_back_outcome
-  take_done after count f =
-      let k = known in
+  take_done c i after count f =
+      let k = known c i in
       let g = f k.can in
       let inside = rows_inside limit master rows (no_refusal limit master rows bytes e).0 in
       let m : after ≡ over (joined (restored_from 0 k.can.entries (rows_of rows master))) master =

@@ -1,13 +1,13 @@
 -- Laws of every place tested, and of the counts. Assumes nothing.
 use Prim.Native.Nat.{ℕ, ◌+◌, ◌-◌, ◌≤◌, ◌<◌}
-use mathlib.Core.Path.{◌≡◌, refl, sym, ap, subst, ◌∙◌}
-use mathlib.Core.Bool.{Bool, true, false, not, ◌&&◌, and-false}
+use mathlib.Core.Path.{◌≡◌, refl, sym, ap, ◌∙◌}
+use mathlib.Core.Bool.{Bool, true, false, ◌&&◌, and-false}
 use mathlib.Core.List.{List, [], ◌∷◌}
 use mathlib.Core.Option.{Option, none, some}
 use native.Mathlib.Omega.{arith}
 use lib.Dec.{ltb, eqb}
 use lib.ListN.{length, drop, length-drop, drop_of_length-le}
-use borrow.Author.Tests.{ltb-true, ltb-false, not-true, not-false, ne_eqb, eq-eqb, eqb-true, eqb-false}
+use borrow.Author.Tests.{ltb-true, ltb-false, ne_eqb, eq-eqb, eqb-true, eqb-false}
 use Rattle.text.specs.Fields.{every}
 use Rattle.text.proofs.FieldsLaws.{and_left, every_drop}
 use Rattle.text.proofs.BlocksLaws.{blocks-next, length-blocks}
@@ -17,9 +17,10 @@ use Rattle.casemaster.proofs.RowsLaws.{each_sound}
 use Rattle.journal.specs.Numbers.{Read, unread, read, read_number}
 use Rattle.journal.specs.Journal.{Entry, Journal, journal, ReadEntry, no_entry, one_entry, read_entry, entries_in, before_others, with_counts, behind_after, behind_before, journal_in}
 use Rattle.takeback.specs.Restored.{new_marks, places_below, fits, can_take_back}
-use Rattle.journal.specs.Reading.{reach, OutOfReach, NumberRead, IsNumber, IsNumberAt}
-use Rattle.takeback.specs.Testing.{passes_from, IsLast, GoesOn, GoesOnOrFails, PlaceTested, CountsRead, IsCounts, IsCountsIf}
+use Rattle.journal.specs.Reading.{reach, OutOfReach, NumberRead, IsNumber}
+use Rattle.takeback.specs.Testing.{passes_from, IsLast, PlacePassed, PlaceTested, CountsRead, IsCounts}
 use Rattle.journal.specs.declared.numbers.Number.{Number}
+use Rattle.std.specs.Prelude.{None}
 use Rattle.takeback.specs.declared.testing.Tested.{Tested}
 use Rattle.takeback.specs.declared.testing.Counts.{Counts}
 use Rattle.journal.proofs.FormLaws.{entries_none, entries_bad, entries_next}
@@ -36,7 +37,7 @@ pub record Testing (m : List ℕ) (n : ℕ) (journal : List ℕ) (before at₀ :
   pub same : passes_from n before p s.marks last (entries_in (drop s.at journal)) (drop p (rows_of n m))
       ≡ passes_from n before 0 0 none (entries_in (drop at₀ journal)) (rows_of n m)
 
-pub testing_none : (m : List ℕ) (n : ℕ) (journal : List ℕ) (before at : ℕ) (s : Tested) → s.at ≡ at → s.marks ≡ 0 → s.held ≡ false → at ≤ length journal
+pub testing_none : (m : List ℕ) (n : ℕ) (journal : List ℕ) (before at : ℕ) (s : Tested) → s.at ≡ at → s.marks ≡ 0 → s.last ≡ None → at ≤ length journal
     → Testing m n journal before at s 0
 testing_none m n journal before at s a w h l =
     record {
@@ -49,7 +50,7 @@ testing_none m n journal before at s a w h l =
     }
 
 module _ (m : List ℕ) (n : ℕ) (journal : List ℕ) (before at₀ : ℕ) (s : Tested) (p : ℕ) (t : Testing m n journal before at₀ s p) where
-  module _ (h : are_sound_rows (rows_of n m) ≡ true) (few : n ≤ reach) (l : p < n) (r : Tested) (f : PlaceTested m p journal s r) where
+  module _ (h : are_sound_rows (rows_of n m) ≡ true) (few : n ≤ reach) (l : p < n) where
     row_is : drop p (rows_of n m) ≡ row_in m p ∷ drop (p + 1) (rows_of n m)
     row_is = blocks-next 200 n m p l
 
@@ -58,25 +59,20 @@ module _ (m : List ℕ) (n : ℕ) (journal : List ℕ) (before at₀ : ℕ) (s :
         let e : every is_sound_row (drop p (rows_of n m)) ≡ true = every_drop is_sound_row p (rows_of n m) (each_sound (rows_of n m) h) in
         and_left (is_sound_row (row_in m p)) (every is_sound_row (drop (p + 1) (rows_of n m))) (rw row_is at e)
 
-    goes : GoesOnOrFails r.ok n before m p journal s r t.last (drop (p + 1) (rows_of n m))
-    goes = f.tested n before t.last (drop (p + 1) (rows_of n m)) few l t.last_is row_sound
-
     -- a test failed
-    pub testing_stop : not r.ok ≡ true → false ≡ passes_from n before 0 0 none (entries_in (drop at₀ journal)) (rows_of n m)
-    testing_stop e =
+    pub testing_stop : PlaceTested m p journal s None → false ≡ passes_from n before 0 0 none (entries_in (drop at₀ journal)) (rows_of n m)
+    testing_stop f =
         let g : passes_from n before p s.marks t.last (entries_in (drop s.at journal)) (row_in m p ∷ drop (p + 1) (rows_of n m)) ≡ false =
-        rw (not-true r.ok e) at goes in
+        f n before t.last (drop (p + 1) (rows_of n m)) few l t.last_is row_sound in
         sym (sym t.same ∙ rw row_is g)
 
-    pub testing_next : not r.ok ≡ false → Testing m n journal before at₀ r (p + 1)
-    testing_next e =
-        let o : r.ok ≡ true = not-false r.ok e in
-        let g : GoesOn n before m p journal s r t.last (drop (p + 1) (rows_of n m)) =
-        subst (λ (b : Bool). GoesOnOrFails b n before m p journal s r t.last (drop (p + 1) (rows_of n m))) o goes in
+    pub testing_next : (r : Tested) → PlacePassed m p journal s r → Testing m n journal before at₀ r (p + 1)
+    testing_next r f =
+        let g = f.tested n before t.last (drop (p + 1) (rows_of n m)) few l t.last_is row_sound in
         record {
           low = omega arith;
-          inside = f.inside o;
-          few = omega (arith, f.few o, t.few);
+          inside = f.inside;
+          few = omega (arith, f.few, t.few);
           last = g.now_last;
           last_is = g.last_is;
           same = sym g.same ∙ sym (ap (passes_from n before p s.marks t.last (entries_in (drop s.at journal))) row_is) ∙ t.same;
@@ -141,37 +137,32 @@ unfolding can_take_back
 after_far before after none rows h = refl
 after_far before after (some es) rows h = start_other (journal before after es) rows h
 
-module _ (bytes : List ℕ) (first : Number) (i : IsNumber 0 bytes first) where
+module _ (bytes : List ℕ) where
   -- no count before
-  pub no_first : not first.found ≡ true → (rows : List (List ℕ)) → length rows < reach → can_take_back (journal_in bytes) rows ≡ false
+  pub no_first : IsNumber 0 bytes None → IsCounts bytes None
   unfolding journal_in can_take_back
-  no_first e rows l = go (read_number bytes) (subst (λ (b : Bool). IsNumberAt b 0 bytes first.value first.next) (not-true first.found e) i)
+  no_first i = λ rows l. go rows l (read_number bytes) i
     where
-      go : (r : Read) → OutOfReach r → can_take_back (behind_before r) rows ≡ false
-      go unread h = refl
-      go (read before behind) h = before_far before (read_number behind) rows h l
+      go : (rows : List (List ℕ)) → length rows < reach → (r : Read) → OutOfReach r → can_take_back (behind_before r) rows ≡ false
+      go rows l unread h = refl
+      go rows l (read before behind) h = before_far before (read_number behind) rows h l
 
-  module _ (e : not first.found ≡ false) where
-    pub has_first : NumberRead 0 bytes first.value first.next
-    has_first = subst (λ (b : Bool). IsNumberAt b 0 bytes first.value first.next) (not-false first.found e) i
-
+  module _ (first : Number) (i : NumberRead 0 bytes first.value first.next) where
     first_is : journal_in bytes ≡ behind_after first.value (read_number (drop first.next bytes))
     unfolding journal_in
-    first_is = rw has_first.is
+    first_is = rw i.is
 
-    pub second_counts : (second : Number) → IsNumber first.next bytes second → (r : Counts) → r.found ≡ second.found → r.before ≡ first.value
-        → r.after ≡ second.value → r.at ≡ second.next → IsCounts bytes r
+    -- no count after
+    pub no_second : IsNumber first.next bytes None → IsCounts bytes None
     unfolding can_take_back
-    second_counts second k r f b a t = rw (f, b, a, t) (go second.found k)
+    no_second h = λ rows l. rw first_is (far (read_number (drop first.next bytes)) h rows l)
       where
         far : (q : Read) → OutOfReach q → (rows : List (List ℕ)) → length rows < reach → can_take_back (behind_after first.value q) rows ≡ false
         far unread h rows l = refl
         far (read after behind) h rows l = after_far first.value after (entries_in behind) rows (λ q. omega arith)
 
-        go : (t : Bool) → IsNumberAt t first.next bytes second.value second.next
-            → IsCountsIf t bytes first.value second.value second.next
-        go true h = record { is = first_is ∙ rw h.is; inside = h.inside }
-        go false h = λ rows l. rw first_is (far (read_number (drop first.next bytes)) h rows l)
+    pub second_counts : (second : Number) → NumberRead first.next bytes second.value second.next → CountsRead bytes first.value second.value second.next
+    second_counts second h = record { is = first_is ∙ rw h.is; inside = h.inside }
 
 -- ---- the whole
 
@@ -179,25 +170,20 @@ no_journal : (rows : List (List ℕ)) → can_take_back none rows ≡ false
 unfolding can_take_back
 no_journal rows = refl
 
-module _ (m : List ℕ) (n : ℕ) (bytes : List ℕ) (c : Counts) (i : IsCounts bytes c) where
+module _ (m : List ℕ) (n : ℕ) (bytes : List ℕ) where
   rows_count : length (rows_of n m) ≡ n
   rows_count = length-blocks 200 n m
 
-  pub taken_no_counts : not c.found ≡ true → n < reach → false ≡ can_take_back (journal_in bytes) (rows_of n m)
-  taken_no_counts e l =
-      sym (subst (λ (b : Bool). IsCountsIf b bytes c.before c.after c.at) (not-true c.found e) i (rows_of n m) (rw rows_count l))
+  pub taken_no_counts : IsCounts bytes None → n < reach → false ≡ can_take_back (journal_in bytes) (rows_of n m)
+  taken_no_counts i l = sym (i (rows_of n m) (rw rows_count l))
 
-  pub has_counts : not c.found ≡ false → CountsRead bytes c.before c.after c.at
-  has_counts e = subst (λ (b : Bool). IsCountsIf b bytes c.before c.after c.at) (not-false c.found e) i
+  module _ (c : Counts) (i : CountsRead bytes c.before c.after c.at) where
+    pub taken_other : (c.after ≡ n → ⊥) → false ≡ can_take_back (journal_in bytes) (rows_of n m)
+    taken_other h = sym (rw i.is (after_far c.before c.after (entries_in (drop c.at bytes)) (rows_of n m) (rw rows_count h)))
 
-  pub taken_other : not c.found ≡ false → (c.after ≡ n → ⊥) → false ≡ can_take_back (journal_in bytes) (rows_of n m)
-  taken_other e h =
-      sym (rw (has_counts e).is (after_far c.before c.after (entries_in (drop c.at bytes)) (rows_of n m) (rw rows_count h)))
-
-  pub taken_passes : not c.found ≡ false → c.after ≡ n
-      → passes_from n c.before 0 0 none (entries_in (drop c.at bytes)) (rows_of n m) ≡ can_take_back (journal_in bytes) (rows_of n m)
-  taken_passes e a = sym (rw (has_counts e).is (go (entries_in (drop c.at bytes))))
-    where
-      go : (o : Option (List Entry)) → can_take_back (with_counts c.before c.after o) (rows_of n m) ≡ passes_from n c.before 0 0 none o (rows_of n m)
-      go none = no_journal (rows_of n m) ∙ sym (pass_none n c.before 0 0 none none (rows_of n m) refl)
-      go (some es) = pass_start (journal c.before c.after es) (rows_of n m) n rows_count a
+    pub taken_passes : c.after ≡ n → passes_from n c.before 0 0 none (entries_in (drop c.at bytes)) (rows_of n m) ≡ can_take_back (journal_in bytes) (rows_of n m)
+    taken_passes a = sym (rw i.is (go (entries_in (drop c.at bytes))))
+      where
+        go : (o : Option (List Entry)) → can_take_back (with_counts c.before c.after o) (rows_of n m) ≡ passes_from n c.before 0 0 none o (rows_of n m)
+        go none = no_journal (rows_of n m) ∙ sym (pass_none n c.before 0 0 none none (rows_of n m) refl)
+        go (some es) = pass_start (journal c.before c.after es) (rows_of n m) n rows_count a

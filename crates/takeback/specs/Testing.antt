@@ -1,6 +1,6 @@
 -- For the contracts of inner functions; no rule of the papers stands here.
 -- Refusal 26 tested place by place: what stands and what is left make the whole. Assumes nothing.
-use Rattle.std.specs.Prelude.{ℕ, ◌+◌, ◌≤◌, ◌<◌, ◌≡◌, Bool, true, false, ◌&&◌, List, ◌∷◌, eqb, length, take, drop}
+use Rattle.std.specs.Prelude.{ℕ, ◌+◌, ◌≤◌, ◌<◌, ◌≡◌, Bool, true, false, ◌&&◌, List, ◌∷◌, eqb, length, take, drop, Option as CodeOption, None, Some}
 use Rattle.std.proofs.Math.Option.{Option, none, some}
 use Rattle.text.specs.Fields.{every}
 use Rattle.text.specs.ByteOrder.{order_of, is_less, rising}
@@ -10,6 +10,7 @@ use Rattle.casemaster.specs.Master.{row_in, keys_of}
 use Rattle.journal.specs.Journal.{Entry, entries_in, journal_in, with_counts}
 use Rattle.takeback.specs.Restored.{places_below, places_rise, new_marks, restored_from, can_take_back}
 use Rattle.journal.specs.Reading.{reach}
+use Rattle.takeback.specs.declared.testing.Key.{Key}
 use Rattle.takeback.specs.declared.testing.Tested.{Tested}
 use Rattle.takeback.specs.declared.testing.Counts.{Counts}
 
@@ -41,44 +42,51 @@ pub record IsKeyNumbers (key : List ℕ) (front back : ℕ) : Type 0 where
   pub back_is : back ≡ bytes_number (take 4 (drop 8 key))
 
 -- the last key left so far, if there is one, by its numbers
-abbrev pub IsLastIn : Bool → ℕ → ℕ → Option (List ℕ) → Type 0
-IsLastIn false front back last = last ≡ none
-IsLastIn true front back last = (key : List ℕ) × (last ≡ some key) × IsKeyNumbers key front back
+abbrev pub IsLastIn : CodeOption Key → Option (List ℕ) → Type 0
+IsLastIn None last = last ≡ none
+IsLastIn (Some k) last = (key : List ℕ) × (last ≡ some key) × IsKeyNumbers key k.front k.back
 
 abbrev pub IsLast : Tested → Option (List ℕ) → Type 0
-IsLast s last = IsLastIn s.held s.front s.back last
+IsLast s last = IsLastIn s.last last
 
 -- the key at an index stands behind the last one, and is now the last
-pub record Followed (bytes : List ℕ) (o at : ℕ) (s r : Tested) : Type 0 where
+pub record FollowedTo (bytes : List ℕ) (o at : ℕ) (s r : Tested) : Type 0 where
   pub at_is : r.at ≡ at
   pub marks_is : r.marks ≡ s.marks
-  pub ok_is : (last : Option (List ℕ)) → IsLast s last → r.ok ≡ is_after last (take 12 (drop o bytes))
+  pub behind : (last : Option (List ℕ)) → IsLast s last → is_after last (take 12 (drop o bytes)) ≡ true
   pub last_is : IsLast r (some (take 12 (drop o bytes)))
 
--- a row of 200 bytes from an index on, sound or not, in the same way
-abbrev pub OldFollowedIf : Bool → List ℕ → ℕ → ℕ → Tested → Tested → Type 0
-OldFollowedIf true bytes o at s r = Followed bytes o at s r
-OldFollowedIf false bytes o at s r = r.ok ≡ false
+-- the same, or it stands behind none
+abbrev pub Followed : List ℕ → ℕ → ℕ → Tested → CodeOption Tested → Type 0
+Followed bytes o at s None = (last : Option (List ℕ)) → IsLast s last → is_after last (take 12 (drop o bytes)) ≡ false
+Followed bytes o at s (Some r) = FollowedTo bytes o at s r
 
-abbrev pub OldFollowed : List ℕ → ℕ → ℕ → Tested → Tested → Type 0
+-- a row of 200 bytes from an index on, sound or not, in the same way
+abbrev pub OldFollowedIf : Bool → List ℕ → ℕ → ℕ → Tested → CodeOption Tested → Type 0
+OldFollowedIf true bytes o at s r = Followed bytes o at s r
+OldFollowedIf false bytes o at s r = r ≡ None
+
+abbrev pub OldFollowed : List ℕ → ℕ → ℕ → Tested → CodeOption Tested → Type 0
 OldFollowed bytes o at s r = OldFollowedIf (is_sound_row (take 200 (drop o bytes))) bytes o at s r
 
--- one place tested: it goes on with the next, and the tests left there say what they said here; or a test failed
+-- one place tested: it goes on with the next, and the tests left there say what they said here
 pub record GoesOn (n before : ℕ) (m : List ℕ) (p : ℕ) (journal : List ℕ) (s r : Tested) (last : Option (List ℕ)) (rows : List (List ℕ)) : Type 0 where
   pub now_last : Option (List ℕ)
   pub last_is : IsLast r now_last
   pub same : passes_from n before p s.marks last (entries_in (drop s.at journal)) (row_in m p ∷ rows)
       ≡ passes_from n before (p + 1) r.marks now_last (entries_in (drop r.at journal)) rows
 
-abbrev pub GoesOnOrFails : Bool → ℕ → ℕ → List ℕ → ℕ → List ℕ → Tested → Tested → Option (List ℕ) → List (List ℕ) → Type 0
-GoesOnOrFails true n before m p journal s r last rows = GoesOn n before m p journal s r last rows
-GoesOnOrFails false n before m p journal s r last rows = passes_from n before p s.marks last (entries_in (drop s.at journal)) (row_in m p ∷ rows) ≡ false
-
-pub record PlaceTested (m : List ℕ) (p : ℕ) (journal : List ℕ) (s r : Tested) : Type 0 where
-  pub inside : r.ok ≡ true → r.at ≤ length journal
-  pub few : r.ok ≡ true → r.marks ≤ s.marks + 1
+pub record PlacePassed (m : List ℕ) (p : ℕ) (journal : List ℕ) (s r : Tested) : Type 0 where
+  pub inside : r.at ≤ length journal
+  pub few : r.marks ≤ s.marks + 1
   pub tested : (n before : ℕ) (last : Option (List ℕ)) (rows : List (List ℕ)) → n ≤ reach → p < n → IsLast s last
-      → is_sound_row (row_in m p) ≡ true → GoesOnOrFails r.ok n before m p journal s r last rows
+      → is_sound_row (row_in m p) ≡ true → GoesOn n before m p journal s r last rows
+
+-- or a test failed
+abbrev pub PlaceTested : List ℕ → ℕ → List ℕ → Tested → CodeOption Tested → Type 0
+PlaceTested m p journal s None = (n before : ℕ) (last : Option (List ℕ)) (rows : List (List ℕ)) → n ≤ reach → p < n → IsLast s last
+    → is_sound_row (row_in m p) ≡ true → passes_from n before p s.marks last (entries_in (drop s.at journal)) (row_in m p ∷ rows) ≡ false
+PlaceTested m p journal s (Some r) = PlacePassed m p journal s r
 
 -- ---- the counts
 
@@ -86,10 +94,7 @@ pub record CountsRead (journal : List ℕ) (before after at : ℕ) : Type 0 wher
   pub is : journal_in journal ≡ with_counts before after (entries_in (drop at journal))
   pub inside : at ≤ length journal
 
--- no counts, or one out of reach: no master of fewer rows can be taken back
-abbrev pub IsCountsIf : Bool → List ℕ → ℕ → ℕ → ℕ → Type 0
-IsCountsIf true journal before after at = CountsRead journal before after at
-IsCountsIf false journal before after at = (rows : List (List ℕ)) → length rows < reach → can_take_back (journal_in journal) rows ≡ false
-
-abbrev pub IsCounts : List ℕ → Counts → Type 0
-IsCounts journal r = IsCountsIf r.found journal r.before r.after r.at
+-- or no counts, or one out of reach: no master of fewer rows can be taken back
+abbrev pub IsCounts : List ℕ → CodeOption Counts → Type 0
+IsCounts journal None = (rows : List (List ℕ)) → length rows < reach → can_take_back (journal_in journal) rows ≡ false
+IsCounts journal (Some c) = CountsRead journal c.before c.after c.at

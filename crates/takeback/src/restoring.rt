@@ -44,15 +44,13 @@ fn entry_restored(m: &mut [u8], p: usize, journal: &[u8], s: Position) -> Positi
 {
     let at = s.at;
     let to = s.to;
-    let e = entries::entry_at(journal, at);
-    let place = e.place;
-    let o = e.row;
-    if place != p {
+    let e = entries::entry_at(journal, at).unwrap();
+    if e.place != p {
         return row_kept(m, p, journal, s);
     }
-    if e.new {
+    let Some(o) = e.old else {
         return Position { at: e.next, to };
-    }
+    };
     let end = o + ROW_WIDTH;
     fields::copy_in(m, to * ROW_WIDTH, &journal[o..end]);
     Position {
@@ -82,10 +80,8 @@ pub fn restore(m: &mut [u8], n: usize, journal: &[u8], at: usize) -> usize
     ensures { (c : CanRestore journal.now at 0) → AllRestored m.old n m.new result c.entries }
 {
     let mut s = Position { at, to: 0 };
-    let mut p: usize = 0;
-    while p < n {
+    for p in 0..n {
         s = place_restored(m, p, journal, s);
-        p += 1;
     }
     s.to
 }

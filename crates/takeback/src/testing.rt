@@ -1,5 +1,5 @@
 // Refusal 26: a journal tested against a master, place by place, in one walk over both.
-ghost use Rattle.std.specs.Prelude.{◌≡◌, true, false, List, ℕ, ◌+◌, ◌*◌, ◌≤◌, ◌<◌, length, drop};
+ghost use Rattle.std.specs.Prelude.{◌≡◌, true, List, ℕ, ◌+◌, ◌*◌, ◌≤◌, ◌<◌, length, drop};
 ghost use Rattle.std.proofs.Math.Option.{Option, none};
 ghost use Rattle.casemaster.specs.Master.{rows_of, are_sound_rows};
 ghost use Rattle.journal.specs.Journal.{entries_in, journal_in};
@@ -12,106 +12,90 @@ use casemaster::refusals;
 use journal::{entries, numbers};
 use text::{byte_order, words};
 
-// How far the test has come: whether it passed so far, the index of the next entry, the marks 00 met, and the key of the last row that
-// would be left, if there is one, as the numbers of its first eight bytes and of its last four.
+// A key of twelve bytes, as the numbers of its first eight and of its last four.
 #[derive(Clone, Copy)]
-pub struct Tested {
-    pub ok: bool,
-    pub at: usize,
-    pub marks: usize,
-    pub held: bool,
+pub struct Key {
     pub front: u64,
     pub back: u64,
 }
 
-// A test that failed.
-fn failed(s: Tested) -> Tested
-    ensures { result.ok ≡ false }
-{
-    Tested {
-        ok: false,
-        at: s.at,
-        marks: s.marks,
-        held: s.held,
-        front: s.front,
-        back: s.back,
-    }
+// How far the test has come: the index of the next entry, the marks 00 met, and the key of the last row that would be left, if there is
+// one.
+#[derive(Clone, Copy)]
+pub struct Tested {
+    pub at: usize,
+    pub marks: usize,
+    pub last: Option<Key>,
 }
 
 // Whether a key stands behind the last one, if there is one.
-fn is_after(held: bool, front1: u64, back1: u64, front2: u64, back2: u64) -> bool
-    ensures { (last : Option (List ℕ)) (key : List ℕ) → IsLastIn held front1 back1 last → IsKeyNumbers key front2 back2
-        → result ≡ is_after last key }
+fn is_after(last: Option<Key>, key: Key) -> bool
+    ensures { (before : Option (List ℕ)) (bytes : List ℕ) → IsLastIn last before → IsKeyNumbers bytes key.front key.back
+        → result ≡ is_after before bytes }
 {
-    if held {
-        byte_order::is_twelve_below_in(front1, back1, front2, back2)
-    } else {
-        true
+    match last {
+        Some(last) => { byte_order::is_twelve_below_in(last.front, last.back, key.front, key.back) }
+        None => true,
     }
 }
 
-// The key from index o on as the last one, which it must stand behind.
-fn followed(bytes: &[u8], o: usize, s: Tested, at: usize) -> Tested
+// The key from index o on as the last one, if it stands behind that.
+fn followed(bytes: &[u8], o: usize, s: Tested, at: usize) -> Option<Tested>
     requires { o + 12 ≤ length bytes.now }
     ensures { Followed bytes.now o at s result }
 {
-    let front = words::eight_number(bytes, o);
-    let back = words::four_number(bytes, o + 8);
-    Tested {
-        ok: is_after(s.held, s.front, s.back, front, back),
+    let key = Key {
+        front: words::eight_number(bytes, o),
+        back: words::four_number(bytes, o + 8),
+    };
+    if !is_after(s.last, key) {
+        return None;
+    }
+    Some(Tested {
         at,
         marks: s.marks,
-        held: true,
-        front,
-        back,
-    }
+        last: Some(key),
+    })
 }
 
 // The old row from index o on, which must be sound: a master of this row alone, which 3 and 4 let pass.
-fn old_followed(journal: &[u8], o: usize, s: Tested, at: usize) -> Tested
+fn old_followed(journal: &[u8], o: usize, s: Tested, at: usize) -> Option<Tested>
     requires { o + 200 ≤ length journal.now }
     ensures { OldFollowed journal.now o at s result }
 {
     let end = o + ROW_WIDTH;
-    if refusals::master_refusal(&journal[o..end], 1) != 0 {
-        return failed(s);
+    if refusals::master_refusal(&journal[o..end], 1).is_err() {
+        return None;
     }
     followed(journal, o, s, at)
 }
 
 // One place, where an entry is left.
-fn entry_tested(m: &[u8], p: usize, journal: &[u8], s: Tested) -> Tested
+fn entry_tested(m: &[u8], p: usize, journal: &[u8], s: Tested) -> Option<Tested>
     requires { (p * 200 + 200 ≤ length m.now) × (s.at < length journal.now) × (s.marks ≤ p) }
     ensures { PlaceTested m.now p journal.now s result }
 {
     let at = s.at;
-    let e = entries::entry_at(journal, at);
+    let e = entries::entry_at(journal, at)?;
     let place = e.place;
-    let o = e.row;
-    if !e.found {
-        return failed(s);
-    }
     if place < p {
-        return failed(s);
+        return None;
     }
     if p < place {
         return followed(m, p * ROW_WIDTH, s, at);
     }
-    if e.new {
-        return Tested {
-            ok: true,
+    match e.old {
+        Some(o) => old_followed(journal, o, s, e.next),
+        None => Some(Tested {
             at: e.next,
             marks: s.marks + 1,
-            held: s.held,
-            front: s.front,
-            back: s.back,
-        };
+            last: s.last,
+        }),
     }
-    old_followed(journal, o, s, e.next)
 }
 
-// One place.
-fn place_tested(m: &[u8], p: usize, journal: &[u8], s: Tested) -> Tested
+// One place; none where the test fails.
+fn place_tested(m: &[u8], p: usize, journal: &[u8], s: Tested) -> Option<Tested>
     requires { (p * 200 + 200 ≤ length m.now) × (s.at ≤ length journal.now) × (s.marks ≤ p) }
     ensures { PlaceTested m.now p journal.now s result }
 {
@@ -128,20 +112,15 @@ fn all_tested(m: &[u8], n: usize, journal: &[u8], before: usize, at: usize) -> b
     ensures { result ≡ passes_from n before 0 0 none (entries_in (drop at journal.now)) (rows_of n m.now) }
 {
     let mut s = Tested {
-        ok: true,
         at,
         marks: 0,
-        held: false,
-        front: 0,
-        back: 0,
+        last: None,
     };
-    let mut p: usize = 0;
-    while p < n {
-        s = place_tested(m, p, journal, s);
-        if !s.ok {
+    for p in 0..n {
+        let Some(next) = place_tested(m, p, journal, s) else {
             return false;
-        }
-        p += 1;
+        };
+        s = next;
     }
     let end = s.at;
     if end < journal.len() {
@@ -153,33 +132,22 @@ fn all_tested(m: &[u8], n: usize, journal: &[u8], before: usize, at: usize) -> b
 // The two counts at the front of a journal, and the index of its first entry.
 #[derive(Clone, Copy)]
 pub struct Counts {
-    pub found: bool,
     pub before: usize,
     pub after: usize,
     pub at: usize,
 }
 
 // The counts, if they stand there and have at most four groups each.
-pub fn counts_of(journal: &[u8]) -> Counts
+pub fn counts_of(journal: &[u8]) -> Option<Counts>
     ensures { IsCounts journal.now result }
 {
-    let first = numbers::number_at(journal, 0);
-    let next = first.next;
-    if !first.found {
-        return Counts {
-            found: false,
-            before: 0,
-            after: 0,
-            at: 0,
-        };
-    }
-    let second = numbers::number_at(journal, next);
-    Counts {
-        found: second.found,
+    let first = numbers::number_at(journal, 0)?;
+    let second = numbers::number_at(journal, first.next)?;
+    Some(Counts {
         before: first.value,
         after: second.value,
         at: second.next,
-    }
+    })
 }
 
 // Whether a journal fits a master of n sound rows, has its places in rising order and would leave sound rows.
@@ -187,13 +155,8 @@ pub fn can_take_back(m: &[u8], n: usize, journal: &[u8]) -> bool
     requires { (n * 200 ≤ length m.now) × (are_sound_rows (rows_of n m.now) ≡ true) × (n < reach) }
     ensures { result ≡ can_take_back (journal_in journal.now) (rows_of n m.now) }
 {
-    let c = counts_of(journal);
-    let at = c.at;
-    if !c.found {
+    let Some(c) = counts_of(journal) else {
         return false;
-    }
-    if c.after != n {
-        return false;
-    }
-    all_tested(m, n, journal, c.before, at)
+    };
+    c.after == n && all_tested(m, n, journal, c.before, c.at)
 }

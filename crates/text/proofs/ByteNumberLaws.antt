@@ -3,11 +3,12 @@ use mathlib.Core.Path.{◌≡◌, refl, sym, ap, ◌∙◌}
 use mathlib.Core.Bool.{◌&&◌, ◌||◌}
 use mathlib.Core.List.{List, [], ◌∷◌, ◌++◌, append-nil}
 use Prim.Native.Nat.{ℕ, zero, suc, ◌+◌, ◌*◌, ◌^◌, ◌≤◌, ◌<◌, suc-le-suc}
-use native.Mathlib.Nat.{zero-lt-suc, pow-suc, add-mul, mul-le-mul_right}
+use native.Mathlib.Nat.{zero-lt-suc, pow-suc, pow-le-pow_right, lt_of_lt_of_le}
+use native.Mathlib.Numerals.{add-one}
 use native.Mathlib.Omega.{arith}
-use lib.Dec.{ltb, eqb}
+use lib.Dec.{ltb, eqb, lit<}
 use lib.ListN.{length, take, drop, get_or, length-drop}
-use lib.Seq.{drop-cons, drop-drop, length-take-le, take-add, take_all}
+use lib.Seq.{length-take-le, take-suc, take-add, take_all}
 use borrow.Author.Tests.{lt-ltb, le-ltb, eq-eqb, ne_eqb}
 use Rattle.text.specs.ByteOrder.{less, greater, order_of, is_less}
 use Rattle.text.specs.ByteNumbers.{AreBytes, bytes_onto, bytes_number}
@@ -29,60 +30,26 @@ bytes_drop zero s h = h
 bytes_drop (suc n) [] h = tt
 bytes_drop (suc n) (b ∷ s) h = bytes_drop n s h.1
 
--- ---- the number of bytes
-
--- onto a number: it is moved up by as many bytes
-onto_moved : (n : ℕ) (s : List ℕ) → bytes_onto n s ≡ n * 256 ^ length s + bytes_onto 0 s
-onto_moved n [] = omega arith
-onto_moved n (b ∷ s) =
-    rw (pow-suc 256 (length s), onto_moved (n * 256 + b) s, onto_moved (0 * 256 + b) s)
-    (omega (arith, add-mul (n * 256) b (256 ^ length s)))
+-- ---- the number of bytes read one behind the other
 
 onto_append : (n : ℕ) (s t : List ℕ) → bytes_onto n (s ++ t) ≡ bytes_onto (bytes_onto n s) t
 onto_append n [] t = refl
 onto_append n (b ∷ s) t = onto_append (n * 256 + b) s t
 
--- bytes in two parts
-number_parts : (s t : List ℕ) → bytes_number (s ++ t) ≡ bytes_number s * 256 ^ length t + bytes_number t
+-- one byte more
+pub number_more : (s : List ℕ) (k n : ℕ) → k < length s → n ≡ bytes_number (take k s) → n * 256 + get_or s k 0 ≡ bytes_number (take (k + 1) s)
 unfolding bytes_number
-number_parts s t = onto_append 0 s t ∙ onto_moved (bytes_onto 0 s) t
+number_more s k n h e = rw (add-one k, take-suc s k 0 h, onto_append 0 (take k s) (get_or s k 0 ∷ []), e)
 
-bytes_below : (s : List ℕ) → AreBytes s → bytes_number s < 256 ^ length s
-unfolding bytes_number
-bytes_below [] h = omega arith
-bytes_below (b ∷ s) h =
-    let m : b + 1 ≤ 256 = omega arith in
-    rw (pow-suc 256 (length s), onto_moved (0 * 256 + b) s)
-    (omega (arith, bytes_below s h.1, mul-le-mul_right (256 ^ length s) m))
+pub byte_more : (n b k : ℕ) → n < 256 ^ k → b < 256 → n * 256 + b < 256 ^ (k + 1)
+byte_more n b k h l = rw (add-one k, pow-suc 256 k) (omega arith)
 
--- ---- four bytes from index i on
-
-module _ (s : List ℕ) (i : ℕ) (h : i + 4 ≤ length s) where
-  length_four : length (take 4 (drop i s)) ≡ 4
-  length_four = length-take-le 4 (drop i s) (rw length-drop (omega arith))
-
-  four_at : take 4 (drop i s) ≡ get_or s i 0 ∷ get_or s (i + 1) 0 ∷ get_or s (i + 2) 0 ∷ get_or s (i + 3) 0 ∷ []
-  four_at =
-      next 3 i (i + 1) (omega arith) (omega arith)
-      ∙ ap (λ (z : List ℕ). get_or s i 0 ∷ z)
-      (next 2 (i + 1) (i + 2) (omega arith) (omega arith)
-      ∙ ap (λ (z : List ℕ). get_or s (i + 1) 0 ∷ z)
-      (next 1 (i + 2) (i + 3) (omega arith) (omega arith)
-      ∙ ap (λ (z : List ℕ). get_or s (i + 2) 0 ∷ z) (next 0 (i + 3) (i + 4) (omega arith) (omega arith))))
-    where
-      next : (k j m : ℕ) → suc j ≡ m → j < length s → take (suc k) (drop j s) ≡ get_or s j 0 ∷ take k (drop m s)
-      next k j m e l = rw (drop-cons s j 0 l, e)
-
-  pub four_number : ((get_or s i 0 * 256 + get_or s (i + 1) 0) * 256 + get_or s (i + 2) 0) * 256 + get_or s (i + 3) 0 ≡ bytes_number (take 4 (drop i s))
-  unfolding bytes_number
-  four_number = rw four_at (omega arith)
-
--- eight bytes from four and four
-pub eight_number : (s : List ℕ) (i : ℕ) → i + 8 ≤ length s
-    → bytes_number (take 4 (drop i s)) * 4294967296 + bytes_number (take 4 (drop (i + 4) s)) ≡ bytes_number (take 8 (drop i s))
-eight_number s i h =
-    let e = number_parts (take 4 (drop i s)) (take 4 (drop (i + 4) s)) in
-    sym (ap bytes_number (take-add 4 4 (drop i s) ∙ rw (drop-drop 4 i s)) ∙ (rw (length_four s (i + 4) (omega arith)) at e))
+-- a number of fewer than eight bytes leaves room for one byte more
+pub bytes_fit : (n k : ℕ) → n < 256 ^ k → k < 8 → n * 256 + 255 < 256 ^ 8
+bytes_fit n k h l =
+    let o : k + 1 ≤ 8 = omega arith in
+    let p : 256 ^ (k + 1) ≤ 256 ^ 8 = pow-le-pow_right (lit< tt) o in
+    lt_of_lt_of_le (byte_more n 255 k h (lit< tt)) p
 
 -- ---- byte order
 
@@ -158,11 +125,14 @@ pub key_order : (a b : List ℕ) → length a ≡ 12 → length b ≡ 12 → Are
     || (eqb (bytes_number (take 8 a)) (bytes_number (take 8 b)) && ltb (bytes_number (take 4 (drop 8 a))) (bytes_number (take 4 (drop 8 b)))))
 key_order a b e f p q =
     let h = length-take-le 8 a (omega arith) ∙ sym (length-take-le 8 b (omega arith)) in
-    let k = length_four a 8 (omega arith) ∙ sym (length_four b 8 (omega arith)) in
+    let k = length_back a e ∙ sym (length_back b f) in
     let w : order_of a b ≡ order_of (take 8 a ++ take 4 (drop 8 a)) (take 8 b ++ take 4 (drop 8 b)) = rw (whole a e, whole b f) in
     ap is_less w
     ∙ parts_order (take 8 a) (take 8 b) (take 4 (drop 8 a)) (take 4 (drop 8 b)) h k (bytes_take 8 a p) (bytes_take 8 b q)
     (bytes_take 4 (drop 8 a) (bytes_drop 8 a p)) (bytes_take 4 (drop 8 b) (bytes_drop 8 b q))
   where
+    length_back : (s : List ℕ) → length s ≡ 12 → length (take 4 (drop 8 s)) ≡ 4
+    length_back s l = length-take-le 4 (drop 8 s) (rw length-drop (omega arith))
+
     whole : (s : List ℕ) → length s ≡ 12 → take 8 s ++ take 4 (drop 8 s) ≡ s
     whole s l = sym (take-add 8 4 s) ∙ take_all 12 s (omega arith)

@@ -1,19 +1,22 @@
 -- Laws of byte order, of keys that rise in it, and of a block put in its place. Assumes nothing.
 use mathlib.Core.Path.{◌≡◌, refl, sym, ap, ◌∙◌}
-use mathlib.Core.Logic.{◌⊎◌, inl, inr}
-use mathlib.Core.Bool.{Bool, true, false, false≢true}
+use mathlib.Core.Logic.{◌⊎◌, ◌≢◌, inl, inr}
+use mathlib.Core.Bool.{Bool, true, false, cond, false≢true}
 use mathlib.Core.List.{List, [], ◌∷◌, ◌++◌, map}
 use Prim.Native.Nat.{ℕ, zero, suc, ◌+◌, ◌-◌, ◌*◌, ◌≤◌, ◌<◌}
 use native.Mathlib.Nat.{not-suc-le-zero, le_of_suc-le-suc}
 use native.Mathlib.Numerals.{add-one}
 use native.Mathlib.Omega.{arith}
-use lib.Dec.{ltb}
+use lib.Dec.{eqb, ltb}
 use lib.ListN.{length, take, drop, get_or, length-map, get_or-map, drop_of_length-le}
 use lib.Seq.{drop-cons, take-take, take-nil}
 use borrow.Author.Tests.{lt-ltb, le-ltb, ltb-true, ltb-false, eq-eqb, ne_eqb}
 use Rattle.text.specs.Blocks.{blocks}
 use Rattle.text.specs.Fields.{same_bytes}
-use Rattle.text.specs.ByteOrder.{less, equal, greater, order_of, is_less, is_equal, below_first, rising, with_block}
+use Rattle.std.specs.Ordering.{nat_cmp, is_lt, ordering_then}
+use Rattle.std.specs.declared.cmp.Ordering.TheVariants.{Less, Equal, Greater}
+use Rattle.std.specs.Cmp.Lexicographic.{slice_cmp}
+use Rattle.text.specs.ByteOrder.{order_in, less, equal, greater, order_of, is_less, is_equal, below_first, rising, with_block}
 use Rattle.text.proofs.BlocksLaws.{blocks_get, length-blocks}
 use Rattle.text.proofs.FieldsLaws.{and_left, and_right}
 
@@ -32,34 +35,6 @@ module _ (x y : ℕ) (xs ys : List ℕ) where
   unfolding order_of
   order_eq e = rw (le-ltb x y (omega arith), le-ltb y x (omega arith))
 
--- what stands in front of both leaves their order
-pub order_front : (p s t : List ℕ) → order_of (p ++ s) (p ++ t) ≡ order_of s t
-order_front [] s t = refl
-order_front (x ∷ p) s t = order_eq x x (p ++ s) (p ++ t) refl ∙ order_front p s t
-
--- two keys of one length, from byte i on
-module _ (a b : List ℕ) (e : length a ≡ length b) (i : ℕ) where
-  order_step : i < length a → order_of (drop i a) (drop i b) ≡ order_of (get_or a i 0 ∷ drop (i + 1) a) (get_or b i 0 ∷ drop (i + 1) b)
-  order_step h = rw (drop-cons a i 0 h, drop-cons b i 0 (omega arith), add-one i)
-
-  pub order_below : i < length a → get_or a i 0 < get_or b i 0 → order_of (drop i a) (drop i b) ≡ less
-  order_below h l = order_step h ∙ order_lt (get_or a i 0) (get_or b i 0) (drop (i + 1) a) (drop (i + 1) b) l
-
-  pub order_above : i < length a → get_or b i 0 < get_or a i 0 → order_of (drop i a) (drop i b) ≡ greater
-  order_above h l = order_step h ∙ order_gt (get_or a i 0) (get_or b i 0) (drop (i + 1) a) (drop (i + 1) b) l
-
-  pub order_same : i < length a → get_or a i 0 ≡ get_or b i 0 → order_of (drop i a) (drop i b) ≡ order_of (drop (i + 1) a) (drop (i + 1) b)
-  order_same h l = order_step h ∙ order_eq (get_or a i 0) (get_or b i 0) (drop (i + 1) a) (drop (i + 1) b) l
-
-  pub order_end : length a ≤ i → order_of (drop i a) (drop i b) ≡ equal
-  unfolding order_of
-  order_end h = rw (drop_of_length-le a h, drop_of_length-le b {i = i} (omega arith))
-
-pub order_refl : (a : List ℕ) → order_of a a ≡ equal
-unfolding order_of
-order_refl [] = refl
-order_refl (x ∷ xs) = order_eq x x xs xs refl ∙ order_refl xs
-
 -- by the two heads: below, above or the same
 pub data Heads (x y : ℕ) : Type 0 where
   lower : x < y → Heads x y
@@ -73,6 +48,49 @@ heads x y = go (ltb x y) (ltb y x) refl refl
     go true b e f = lower (ltb-true x y e)
     go false true e f = upper (ltb-true y x f)
     go false false e f = same (omega (arith, ltb-false x y e, ltb-false y x f))
+
+-- what stands in front of both leaves their order
+pub order_front : (p s t : List ℕ) → order_of (p ++ s) (p ++ t) ≡ order_of s t
+order_front [] s t = refl
+order_front (x ∷ p) s t = order_eq x x (p ++ s) (p ++ t) refl ∙ order_front p s t
+
+-- two keys of one length, from byte i on
+module _ (a b : List ℕ) (e : length a ≡ length b) (i : ℕ) where
+  order_step : i < length a → order_of (drop i a) (drop i b) ≡ order_of (get_or a i 0 ∷ drop (i + 1) a) (get_or b i 0 ∷ drop (i + 1) b)
+  order_step h = rw (drop-cons a i 0 h, drop-cons b i 0 (omega arith), add-one i)
+
+  pub order_differs : i < length a → (get_or a i 0 ≢ get_or b i 0)
+      → order_of (drop i a) (drop i b) ≡ order_in (nat_cmp (get_or a i 0) (get_or b i 0))
+  order_differs h n = order_step h ∙ go (heads (get_or a i 0) (get_or b i 0))
+    where
+      x : ℕ
+      x = get_or a i 0
+
+      y : ℕ
+      y = get_or b i 0
+
+      xs : List ℕ
+      xs = drop (i + 1) a
+
+      ys : List ℕ
+      ys = drop (i + 1) b
+
+      go : Heads x y → order_of (x ∷ xs) (y ∷ ys) ≡ order_in (nat_cmp x y)
+      go (lower p) = order_lt x y xs ys p ∙ rw (lt-ltb x y p)
+      go (upper p) = order_gt x y xs ys p ∙ rw (le-ltb x y (omega arith), ne_eqb x y n)
+      go (same p) = absurd (n p)
+
+  pub order_same : i < length a → get_or a i 0 ≡ get_or b i 0 → order_of (drop i a) (drop i b) ≡ order_of (drop (i + 1) a) (drop (i + 1) b)
+  order_same h l = order_step h ∙ order_eq (get_or a i 0) (get_or b i 0) (drop (i + 1) a) (drop (i + 1) b) l
+
+  pub order_end : length a ≤ i → order_of (drop i a) (drop i b) ≡ equal
+  unfolding order_of
+  order_end h = rw (drop_of_length-le a h, drop_of_length-le b {i = i} (omega arith))
+
+pub order_refl : (a : List ℕ) → order_of a a ≡ equal
+unfolding order_of
+order_refl [] = refl
+order_refl (x ∷ xs) = order_eq x x xs xs refl ∙ order_refl xs
 
 -- equal keys are the same bytes
 pub equal_same : (a b : List ℕ) → is_equal (order_of a b) ≡ true → a ≡ b
@@ -293,3 +311,23 @@ module _ (k : ℕ) (new block : List ℕ) (behind : List (List ℕ)) where
 
   pub block_above : order_of (take k new) (take k block) ≡ greater → with_block k new (block ∷ behind) ≡ block ∷ with_block k new behind
   block_above h = rw h
+
+-- ---- beside the library's order
+
+-- of two byte strings that rise the later one is not below the earlier, as the library compares them
+pub not_below : (s t : List ℕ) → is_less (order_of s t) ≡ true → is_lt (slice_cmp nat_cmp t s) ≡ false
+unfolding is_less order_of
+not_below [] [] h = cc
+not_below [] (y ∷ t) h = refl
+not_below (x ∷ s) [] h = cc
+not_below (x ∷ s) (y ∷ t) h = go (ltb x y) refl (ltb y x) refl h (not_below s t)
+  where
+    go : (a : Bool) → ltb x y ≡ a → (b : Bool) → ltb y x ≡ b → is_less (cond a less (cond b greater (order_of s t))) ≡ true
+        → (is_less (order_of s t) ≡ true → is_lt (slice_cmp nat_cmp t s) ≡ false)
+        → is_lt (ordering_then (cond b Less (cond (eqb y x) Equal Greater)) (slice_cmp nat_cmp t s)) ≡ false
+    go true e true f k r = absurd (omega (arith, ltb-true x y e, ltb-true y x f))
+    go true e false f k r = rw (ne_eqb y x (λ g. omega (arith, ltb-true x y e, g))) refl
+    go false e true f k r = cc
+    go false e false f k r =
+        elim (eqb y x) as (λ q. is_lt (ordering_then (cond q Equal Greater) (slice_cmp nat_cmp t s)) ≡ false)
+        [ true ↦ r k | false ↦ refl ]

@@ -1,15 +1,16 @@
 -- Laws of tests over a run of bytes, from any index on, whatever the test; and of columns and what is placed in them, whatever
 -- their place and width. Assumes nothing.
 use mathlib.Core.Path.{◌≡◌, refl, sym, ap, ◌∙◌}
-use mathlib.Core.Bool.{Bool, true, false, ◌&&◌}
+use mathlib.Core.Bool.{Bool, true, false, ◌&&◌, ◌||◌, and_assoc, and-true}
 use mathlib.Core.List.{List, [], ◌∷◌, ◌++◌, append_assoc}
 use Prim.Native.Nat.{ℕ, zero, suc, ◌+◌, ◌-◌, ◌≤◌, ◌<◌}
 use native.Mathlib.Numerals.{add-one}
 use native.Mathlib.Omega.{arith}
 use lib.Dec.{eqb, lit<}
-use lib.ListN.{length, get_or, take, drop, length-append, length-take, length-drop, drop_of_length-le}
+use lib.ListN.{length, get_or, take, drop, length-append, length-take, length-drop}
 use lib.Seq.{drop-cons, drop-drop, length-take-le, take_at, drop_at, take-take, get_or-take, get_or-drop}
 use borrow.Author.Tests.{eqb-true}
+use Rattle.std.specs.List.{fold, list_any}
 use Rattle.text.specs.Characters.{is_digit}
 use Rattle.text.specs.Fields.{every, at_least_one, columns, placed, Inside, all_digits, are_digits}
 use Rattle.text.specs.Blocks.{spliced}
@@ -30,23 +31,21 @@ module _ (f : ℕ → Bool) (s : List ℕ) (i : ℕ) where
   pub every_step : i < length s → every f (drop i s) ≡ (f (get_or s i 0) && every f (drop (i + 1) s))
   every_step h = rw (drop-cons s i 0 h, add-one i)
 
-  pub every_end : length s ≤ i → every f (drop i s) ≡ true
-  every_end h = rw (drop_of_length-le s h)
-
   pub every_head : i < length s → every f (drop i s) ≡ true → f (get_or s i 0) ≡ true
   every_head h t = and_left (f (get_or s i 0)) (every f (drop (i + 1) s)) (sym (every_step h) ∙ t)
 
   pub every_tail : i < length s → every f (drop i s) ≡ true → every f (drop (i + 1) s) ≡ true
   every_tail h t = and_right (f (get_or s i 0)) (every f (drop (i + 1) s)) (sym (every_step h) ∙ t)
 
-  pub any_pass : i < length s → f (get_or s i 0) ≡ true → at_least_one f (drop i s) ≡ true
-  any_pass h t = rw (drop-cons s i 0 h, t)
+-- the library's test that some byte passes
+pub any-at_least_one : (f : ℕ → Bool) (s : List ℕ) → list_any f s ≡ at_least_one f s
+any-at_least_one f [] = refl
+any-at_least_one f (b ∷ bs) = ap (λ (t : Bool). f b || t) (any-at_least_one f bs)
 
-  pub any_fail : i < length s → f (get_or s i 0) ≡ false → at_least_one f (drop i s) ≡ at_least_one f (drop (i + 1) s)
-  any_fail h t = rw (drop-cons s i 0 h, t, add-one i)
-
-  pub any_end : length s ≤ i → at_least_one f (drop i s) ≡ false
-  any_end h = rw (drop_of_length-le s h)
+-- a test of each byte, gathered from the first byte on
+pub every-fold : (f : ℕ → Bool) (ok : Bool) (s : List ℕ) → fold (λ a b. a && f b) ok s ≡ (ok && every f s)
+every-fold f ok [] = sym (and-true ok)
+every-fold f ok (b ∷ bs) = every-fold f (ok && f b) bs ∙ and_assoc ok (f b) (every f bs)
 
 -- a test that each byte passes, each of any columns passes
 pub every_take : (f : ℕ → Bool) (n : ℕ) (s : List ℕ) → every f s ≡ true → every f (take n s) ≡ true

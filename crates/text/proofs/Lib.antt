@@ -2,6 +2,7 @@ pub mod BlocksLaws
 pub mod BoolLaws
 pub mod ByteNumberLaws
 pub mod ByteOrderLaws
+pub mod ChunksLaws
 pub mod ColumnsLaws
 pub mod ColumnsWritten
 pub mod EachByteLaws

@@ -1,16 +1,25 @@
--- Laws of the test for the same bytes: it goes from one index to the next, and it passes exactly where the bytes are equal.
+-- Laws of the test for the same bytes: it is made pair by pair, and it passes exactly where the bytes are equal.
 -- Assumes nothing.
-use mathlib.Core.Path.{◌≡◌, refl, sym, ap}
-use mathlib.Core.Bool.{Bool, true, false, ◌&&◌, and_assoc, and-false}
+use mathlib.Core.Path.{◌≡◌, refl, sym, ap, ◌∙◌}
+use mathlib.Core.Bool.{Bool, true, false, ◌&&◌, and_assoc, and-true, and-false}
 use mathlib.Core.List.{List, [], ◌∷◌, ◌++◌}
-use Prim.Native.Nat.{ℕ, suc, ◌+◌, ◌≤◌, ◌<◌}
-use native.Mathlib.Numerals.{add-one}
+use Prim.Native.Nat.{ℕ, suc}
 use native.Mathlib.Omega.{arith}
 use borrow.Author.Tests.{eq-eqb, eqb-true}
 use lib.Dec.{eqb}
-use lib.ListN.{length, get_or, drop, drop_of_length-le}
-use lib.Seq.{drop-cons}
+use lib.ListN.{length}
+use Rattle.std.specs.List.{fold, zip}
 use Rattle.text.specs.Fields.{same_bytes}
+
+-- the test of each pair of two lists of one length, gathered from the first pair on
+pub same-fold : (ok : Bool) (a b : List ℕ) → length a ≡ length b
+    → fold (λ (t : Bool) (p : ℕ × ℕ). t && eqb p.0 p.1) ok (zip a b) ≡ (ok && same_bytes a b)
+unfolding same_bytes
+same-fold ok [] [] e = sym (and-true ok)
+same-fold ok [] (y ∷ b) e = absurd (omega (arith, e))
+same-fold ok (x ∷ a) [] e = absurd (omega (arith, e))
+same-fold ok (x ∷ a) (y ∷ b) e =
+    same-fold (ok && eqb x y) a b (omega (arith, e)) ∙ and_assoc ok (eqb x y) (same_bytes a b)
 
 pub same_lengths : (a b : List ℕ) → (length a ≡ length b → ⊥) → same_bytes a b ≡ false
 unfolding same_bytes
@@ -18,15 +27,6 @@ same_lengths [] [] h = absurd (h refl)
 same_lengths [] (y ∷ b) h = refl
 same_lengths (x ∷ a) [] h = refl
 same_lengths (x ∷ a) (y ∷ b) h = rw (same_lengths a b (λ e. h (ap suc e))) (and-false (eqb x y))
-
-pub same_step : (a b : List ℕ) (i : ℕ) → i < length a → i < length b
-    → same_bytes (drop i a) (drop i b) ≡ (eqb (get_or a i 0) (get_or b i 0) && same_bytes (drop (i + 1) a) (drop (i + 1) b))
-unfolding same_bytes
-same_step a b i h k = rw (drop-cons a i 0 h, drop-cons b i 0 k, add-one i)
-
-pub same_end : (a b : List ℕ) (i : ℕ) → length a ≤ i → length b ≤ i → same_bytes (drop i a) (drop i b) ≡ true
-unfolding same_bytes
-same_end a b i h k = rw (drop_of_length-le a h, drop_of_length-le b k)
 
 -- ---- the test and the equation
 

@@ -1,8 +1,8 @@
 -- Document 01, "A case's row": byte order, in which keys rise strictly, and a block put in its place by the key at its front.
 -- Assumes nothing.
 use Rattle.std.specs.Prelude.{ℕ, List, [], ◌∷◌, Bool, true, false, cond, ◌&&◌, ltb, take}
-use Rattle.text.specs.declared.byte_order.Order.{Order as OrderAnswer}
-use Rattle.text.specs.declared.byte_order.Order.TheVariants.{Less, Equal, Greater}
+use Rattle.std.specs.declared.cmp.Ordering.{Ordering}
+use Rattle.std.specs.declared.cmp.Ordering.TheVariants.{Less, Equal, Greater}
 
 -- how one byte string stands to another
 pub data Order : Type 0 where
@@ -11,7 +11,7 @@ pub data Order : Type 0 where
   greater : Order
 
 -- what each answer of the code stands for
-abbrev pub order_in : OrderAnswer → Order
+abbrev pub order_in : Ordering → Order
 order_in Less = less
 order_in Equal = equal
 order_in Greater = greater

@@ -5,33 +5,19 @@ ghost use Rattle.text.specs.Blocks.{blocks};
 ghost use Rattle.text.specs.ByteOrder.{order_in, order_of, is_less, rising};
 
 use crate::words;
+use std::cmp::Ordering;
 
-// How one byte string stands to another in byte order.
-#[derive(Clone, Copy)]
-pub enum Order {
-    Less,
-    Equal,
-    Greater,
-}
-
-// The byte order of two byte strings of one length.
-pub fn order_of(a: &[u8], b: &[u8]) -> Order
+// The byte order of two byte strings of one length. The library's order of slices takes longer on strings as short as keys.
+pub fn order_of(a: &[u8], b: &[u8]) -> Ordering
     requires { length a.now ≡ length b.now }
     ensures { order_in result ≡ order_of a.now b.now }
 {
-    let mut i = 0;
-    while i < a.len() {
-        let x = a[i];
-        let y = b[i];
-        if x < y {
-            return Order::Less;
+    for (x, y) in a.iter().zip(b) {
+        if x != y {
+            return x.cmp(y);
         }
-        if y < x {
-            return Order::Greater;
-        }
-        i += 1;
     }
-    Order::Equal
+    Ordering::Equal
 }
 
 // Whether twelve bytes are below twelve others, both given as the numbers of the first eight and of the last four.
@@ -66,11 +52,7 @@ pub fn is_below(a: &[u8], b: &[u8]) -> bool
     if a.len() == 12 {
         return is_twelve_below(a, b);
     }
-    match order_of(a, b) {
-        Order::Less => true,
-        Order::Equal => false,
-        Order::Greater => false,
-    }
+    order_of(a, b).is_lt()
 }
 
 // Whether the keys of the first n blocks of some width rise strictly; a key is a block's first bytes.
@@ -78,14 +60,12 @@ pub fn is_rising(m: &[u8], n: usize, width: usize, key: usize) -> bool
     requires { (n * width ≤ length m.now) × (key ≤ width) }
     ensures { result ≡ rising (map (take key) (blocks width n m.now)) }
 {
-    let mut i: usize = 1;
-    while i < n {
+    for i in 1..n {
         let before = (i - 1) * width;
         let at = i * width;
         if !is_below(&m[before..before + key], &m[at..at + key]) {
             return false;
         }
-        i += 1;
     }
     true
 }

@@ -4,6 +4,8 @@ ghost use Rattle.text.specs.Characters.{is_byte};
 ghost use Rattle.text.specs.Fields.{columns, placed, Inside, every, is_blank, is_zero, all_digits, are_digits, number, digit_field, same_bytes};
 ghost use Rattle.text.specs.Blocks.{spliced};
 
+use crate::characters;
+
 // Columns first to last, counted from 1 as the charts print them.
 #[derive(Clone, Copy)]
 pub struct Columns {
@@ -26,11 +28,8 @@ pub fn copy_in(dst: &mut [u8], at: usize, src: &[u8])
     requires { at + length src.now ≤ length dst.old }
     ensures { dst.new ≡ spliced dst.old at src.now }
 {
-    let mut i = 0;
-    while i < src.len() {
-        dst[at + i] = src[i];
-        i += 1;
-    }
+    let end = at + src.len();
+    dst[at..end].copy_from_slice(src);
 }
 
 // Writes src, which is as wide as they are, into some columns.
@@ -55,13 +54,7 @@ pub fn copy(dst: &mut [u8], to: Columns, src: &[u8], from: Columns)
 pub fn all_are(s: &[u8], b: u8) -> bool
     ensures { result ≡ every (is_byte b) s.now }
 {
-    let mut ok = true;
-    let mut i = 0;
-    while i < s.len() {
-        ok = ok & (s[i] == b);
-        i += 1;
-    }
-    ok
+    s.iter().fold(true, |ok, x| ok & (*x == b))
 }
 
 // Whether every byte is a space.
@@ -82,21 +75,14 @@ pub fn is_zero(s: &[u8]) -> bool
 pub fn all_digits(s: &[u8]) -> bool
     ensures { result ≡ all_digits s.now }
 {
-    let mut ok = true;
-    let mut i = 0;
-    while i < s.len() {
-        let b = s[i];
-        ok = ok & (0xF0 <= b) & (b <= 0xF9);
-        i += 1;
-    }
-    ok
+    s.iter().fold(true, |ok, b| ok & characters::is_digit(*b))
 }
 
 // Whether s is n digits.
 pub fn are_digits(s: &[u8], n: usize) -> bool
     ensures { result ≡ are_digits n s.now }
 {
-    if s.len() == n { all_digits(s) } else { false }
+    s.len() == n && all_digits(s)
 }
 
 // The number that digits write, of which there are at most eighteen.
@@ -105,12 +91,9 @@ pub fn number_of(s: &[u8]) -> u64
     ensures { (result ≡ number s.now) × (result < 10 ^ length s.now) }
 {
     let mut n: u64 = 0;
-    let mut i = 0;
-    while i < s.len() {
-        let b = s[i];
-        let d = (b - 0xF0) as u64;
+    for b in s {
+        let d = (*b - 0xF0) as u64;
         n = n * 10 + d;
-        i += 1;
     }
     n
 }
@@ -128,11 +111,8 @@ pub fn put_number(dst: &mut [u8], c: Columns, n: u64)
     requires { Inside c.first c.last dst.old }
     ensures { dst.new ≡ placed c.first c.last (digit_field (c.last + 1 - c.first) n) dst.old }
 {
-    let first = c.first;
-    let mut i = c.last;
     let mut left = n;
-    while first <= i {
-        i -= 1;
+    for i in (c.first - 1..c.last).rev() {
         dst[i] = 0xF0 + (left % 10) as u8;
         left = left / 10;
     }
@@ -142,14 +122,5 @@ pub fn put_number(dst: &mut [u8], c: Columns, n: u64)
 pub fn same(a: &[u8], b: &[u8]) -> bool
     ensures { result ≡ same_bytes a.now b.now }
 {
-    if a.len() != b.len() {
-        return false;
-    }
-    let mut ok = true;
-    let mut i = 0;
-    while i < a.len() {
-        ok = ok & (a[i] == b[i]);
-        i += 1;
-    }
-    ok
+    a.len() == b.len() && a.iter().zip(b).fold(true, |ok, (x, y)| ok & (*x == *y))
 }

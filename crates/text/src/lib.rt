@@ -1,6 +1,7 @@
-// Byte strings: characters, byte order, and fields at any place and of any width; counting and listing.
+// Byte strings: characters, byte order, blocks, and fields at any place and of any width; counting and listing.
 #![tactic(auto)]
 
+pub mod blocks;
 pub mod byte_order;
 pub mod characters;
 pub mod counting;

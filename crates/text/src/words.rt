@@ -1,14 +1,27 @@
-// Four and eight bytes as one number, the first the highest, and tests of all eight at once.
-ghost use Rattle.std.specs.Prelude.{◌≡◌, List, ℕ, ◌+◌, ◌≤◌, ◌<◌, length, take, drop};
+// Up to eight bytes as one number, the first the highest, and tests of all eight at once.
+ghost use Rattle.std.specs.Prelude.{◌≡◌, List, ℕ, ◌+◌, ◌≤◌, ◌<◌, ◌^◌, length, take, drop};
 ghost use Rattle.text.specs.Fields.{is_blank, is_zero, all_digits};
 ghost use Rattle.text.specs.ByteNumbers.{bytes_number, AreBytes};
+
+// The N bytes from index i on as a number.
+pub fn bytes_number<const N: usize>(a: &[u8], i: usize) -> u64
+    requires { (N ≤ 8) × (i + N ≤ length a.now) }
+    ensures { (result ≡ bytes_number (take N (drop i a.now))) × (result < 256 ^ N) }
+{
+    let end = i + N;
+    let mut n: u64 = 0;
+    for b in &a[i..end] {
+        n = n * 256 + (*b as u64);
+    }
+    n
+}
 
 // The four bytes from index i on as a number.
 pub fn four_number(a: &[u8], i: usize) -> u64
     requires { i + 4 ≤ length a.now }
     ensures { (result ≡ bytes_number (take 4 (drop i a.now))) × (result < 4294967296) }
 {
-    (((a[i] as u64) * 256 + (a[i + 1] as u64)) * 256 + (a[i + 2] as u64)) * 256 + (a[i + 3] as u64)
+    bytes_number::<4>(a, i)
 }
 
 // The eight bytes from index i on as a number.
@@ -16,7 +29,7 @@ pub fn eight_number(a: &[u8], i: usize) -> u64
     requires { i + 8 ≤ length a.now }
     ensures { result ≡ bytes_number (take 8 (drop i a.now)) }
 {
-    four_number(a, i) * 4294967296 + four_number(a, i + 4)
+    bytes_number::<8>(a, i)
 }
 
 // Whether the eight bytes of a number are digits: F in the high half of each, and in the low half no more than 9, so that 6 added to it

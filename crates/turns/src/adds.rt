@@ -7,9 +7,9 @@ ghost use Rattle.layout.specs.Record.{is_type};
 ghost use Rattle.turns.specs.Adds.{adds_without_row, add_count};
 
 use casemaster::search;
-use casemaster::search::Place;
+use layout::record::TransactionType;
 use layout::records::RECORD_WIDTH;
-use layout::{chart_a1, record, records};
+use layout::{record, records};
 use text::counting::one_if;
 
 // Whether the record at place i is of type A.
@@ -17,7 +17,9 @@ fn is_add(batch: &[u8], i: usize) -> bool
     requires { i * 245 + 245 ≤ length batch.now }
     ensures { result ≡ is_type Characters.A (take 245 (drop (i * 245) batch.now)) }
 {
-    batch[i * RECORD_WIDTH + chart_a1::TYPE_AT] == record::ADD
+    let at = i * RECORD_WIDTH;
+    let end = at + RECORD_WIDTH;
+    record::is_type(&batch[at..end], TransactionType::Add)
 }
 
 // How many of the first d records are of type A.
@@ -26,10 +28,8 @@ pub fn count_adds(batch: &[u8], d: usize) -> usize
     ensures { (result ≡ add_count (blocks 245 d batch.now)) × (result ≤ d) }
 {
     let mut count: usize = 0;
-    let mut i: usize = 0;
-    while i < d {
+    for i in 0..d {
         count += one_if(is_add(batch, i));
-        i += 1;
     }
     count
 }
@@ -45,8 +45,8 @@ fn has_row(m: &[u8], n: usize, batch: &[u8], i: usize) -> usize
     }
     let key = records::key_at(batch, i);
     match search::place_of(m, n, &key) {
-        Place::At(_) => 1,
-        Place::Gap(_) => 0,
+        Ok(_) => 1,
+        Err(_) => 0,
     }
 }
 
@@ -58,13 +58,11 @@ pub fn fit(m: &[u8], n: usize, batch: &[u8], d: usize, adds: usize, most: usize)
     ensures { result ≡ leb (n + adds_without_row (rows_of n m.now) (blocks 245 d batch.now)) most }
 {
     let mut rows = n + adds;
-    let mut i: usize = 0;
-    while i < d {
+    for i in 0..d {
         if rows <= most {
             return true;
         }
         rows -= has_row(m, n, batch, i);
-        i += 1;
     }
     rows <= most
 }

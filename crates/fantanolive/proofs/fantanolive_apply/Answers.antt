@@ -3,14 +3,14 @@ use Rattle.fantanolive.proofs.CallsLaws.{apply_left_lem}
 use Rattle.batch.specs.Call.{call_of}
 use Rattle.fantanolive.proofs.fantanolive_apply.Goals as goal
 
-pub returns-in-Done : goal.returns-in-Done
-returns-in-Done c =
+pub returns-in-Ok : goal.returns-in-Ok
+returns-in-Ok c =
     let a = c.args in
     let g = call_of a.master.now a.rows a.batch.now a.locals.now a.year a.verdicts.now a.rejects.now in
-    apply_left_lem g _ _ _ _ _ _ c.apply.ensures c.in-Done.is
+    apply_left_lem g _ _ _ _ _ _ c.apply.ensures c.in-Ok.is
 
-pub returns-in-Refused : goal.returns-in-Refused
-returns-in-Refused c =
+pub returns-in-Err : goal.returns-in-Err
+returns-in-Err c =
     let a = c.args in
     let g = call_of a.master.now a.rows a.batch.now a.locals.now a.year a.verdicts.now a.rejects.now in
-    apply_left_lem g _ _ _ _ _ _ c.apply.ensures c.in-Refused.is
+    rw c.number.ensures (apply_left_lem g _ _ _ _ _ _ c.apply.ensures c.in-Err.is)

@@ -2,8 +2,8 @@
 use Rattle.fantanolive.proofs.CallsLaws.{find_left_lem}
 use Rattle.fantanolive.proofs.fantanolive_find.Goals as goal
 
-pub returns-in-At : goal.returns-in-At
-returns-in-At c = find_left_lem _ _ _ _ _ _ c.find.ensures c.in-At.is
+pub returns-in-Ok : goal.returns-in-Ok
+returns-in-Ok c = find_left_lem _ _ _ _ _ _ c.find.ensures c.in-Ok.is
 
-pub returns-in-Refused : goal.returns-in-Refused
-returns-in-Refused c = find_left_lem _ _ _ _ _ _ c.find.ensures c.in-Refused.is
+pub returns-in-Err : goal.returns-in-Err
+returns-in-Err c = rw c.number.ensures (find_left_lem _ _ _ _ _ _ c.find.ensures c.in-Err.is)

@@ -2,8 +2,8 @@
 use Rattle.fantanolive.proofs.CallsLaws.{reconcile_left_lem}
 use Rattle.fantanolive.proofs.fantanolive_reconcile.Goals as goal
 
-pub returns-in-Done : goal.returns-in-Done
-returns-in-Done c = reconcile_left_lem _ _ _ _ _ _ _ _ _ c.reconcile.ensures c.in-Done.is
+pub returns-in-Ok : goal.returns-in-Ok
+returns-in-Ok c = reconcile_left_lem _ _ _ _ _ _ _ _ _ c.reconcile.ensures c.in-Ok.is
 
-pub returns-in-Refused : goal.returns-in-Refused
-returns-in-Refused c = reconcile_left_lem _ _ _ _ _ _ _ _ _ c.reconcile.ensures c.in-Refused.is
+pub returns-in-Err : goal.returns-in-Err
+returns-in-Err c = rw c.number.ensures (reconcile_left_lem _ _ _ _ _ _ _ _ _ c.reconcile.ensures c.in-Err.is)

@@ -3,12 +3,12 @@ use native.Mathlib.Omega.{arith}
 use Rattle.apply_output.proofs.LineLaws.{appended-over}
 use Rattle.apply_output.proofs.line.put_line.Goals as goal
 
-pub returns-in-Done : goal.returns-in-Done
-returns-in-Done c =
+pub returns-in-Ok : goal.returns-in-Ok
+returns-in-Ok c =
     let put = c.put_done in
-    rw (c.in-Done.is, ← c.state_of.ensures.0) (record { out_after = appended-over _ put.new.out _ put.result put.ensures; value = omega (arith, put.ensures.ends) })
+    rw (c.in-Ok.is, ← c.state_of.ensures.0) (record { out_after = appended-over _ put.new.out _ put.result put.ensures; value = omega (arith, put.ensures.ends) })
 
-pub returns-in-Refused : goal.returns-in-Refused
-returns-in-Refused c =
+pub returns-in-Err : goal.returns-in-Err
+returns-in-Err c =
     let put = c.put_refused in
-    rw c.in-Refused.is (record { out_after = appended-over _ put.new.out _ put.result put.ensures; value = omega (arith, put.ensures.ends) })
+    rw (c.in-Err.is, ← c.number.ensures) (record { out_after = appended-over _ put.new.out _ put.result put.ensures; value = omega (arith, put.ensures.ends) })

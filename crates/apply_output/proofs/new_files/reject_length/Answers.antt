@@ -8,7 +8,7 @@ use Rattle.apply_output.proofs.new_files.reject_length.Goals as goal
 pub record_count-requires : goal.record_count-requires
 record_count-requires c =
     let n : length c.args.verdicts.now ≡ 100 = search rules in
-    rw c.first_numbers-numbers.ensures (simp length-take (omega arith))
+    rw c.first-numbers.ensures (simp length-take (omega arith))
 
 pub returns : goal.returns
-returns c = rw (← c.detail_count.ensures, ← c.first_numbers-numbers.ensures, ← c.record_count.ensures) c.blocks_length.ensures
+returns c = rw (← c.detail_count.ensures, ← c.first-numbers.ensures, ← c.record_count.ensures) c.blocks_length.ensures

@@ -35,7 +35,7 @@ record_at-control-requires c =
 pub work-s-requires : goal.work-s-requires
 unfolding control_of
 work-s-requires c =
-    record { rejects_value = (c.requires.rejects_value, c.field-state.ensures ∙ ap (columns 1 2) c.record_at-control.ensures); batch_in_bounds = c.requires.batch_in_bounds }
+    record { rejects_value = (rw c.new.ensures c.requires.rejects_value, c.field-state.ensures ∙ ap (columns 1 2) c.record_at-control.ensures); batch_in_bounds = c.requires.batch_in_bounds }
 
 pub finish-requires : goal.finish-requires
 unfolding control_of
@@ -44,7 +44,7 @@ finish-requires c =
     let g = call_of a.m.now a.n a.batch.now a.locals.now a.year a.verdicts.now a.rejects.now in
     let k = known g (passed g c.requires.rejects_value) in
     let e : c.field-state.result.now ≡ submitting_state a.batch.now = c.field-state.ensures ∙ ap (columns 1 2) c.record_at-control.ensures in
-    let left = c.work-s.ensures.worked in (
+    let left = (rw c.new.ensures at c.work-s.ensures).worked in (
       ap length e ∙ state_two g.limit g.batch k.batch_passed,
       omega (arith, k.space, left.rejects_few, c.work-s.auto.rejects),
       left.counted,
@@ -58,17 +58,18 @@ returns c =
     let g = call_of a.m.now a.n a.batch.now a.locals.now a.year a.verdicts.now a.rejects.now in
     let k = known g (passed g c.requires.rejects_value) in
     let e : c.field-state.result.now ≡ submitting_state a.batch.now = c.field-state.ensures ∙ ap (columns 1 2) c.record_at-control.ensures in
+    let w = rw c.new.ensures at c.work-s.ensures in
     let p = c.work-s.result.progress in
     let m = c.work-s.new.m in
     let v = c.work-s.new.verdicts in
     let rj = c.work-s.new.rejects in
     record {
       is =
-          ran g k m p.rows v rj p.rejects p.tally c.finish.new.rejects c.finish.result c.work-s.ensures.worked
+          ran g k m p.rows v rj p.rejects p.tally c.finish.new.rejects c.finish.result w.worked
           c.work-s.auto.verdicts c.work-s.auto.rejects (state_two g.limit g.batch k.batch_passed)
           (c.finish.ensures.rejects_after ∙ ap (λ (z : List ℕ). spliced rj (p.rejects * 245) (control_record z (counts_in p.tally))) e)
           c.finish.ensures.result_value.0;
       wrote =
-          run_wrote g a.wanted a.journal.now p.rows m _ _ c.finish.result.written c.work-s.ensures.worked.rows_are
-          c.work-s.ensures.wrote c.finish.ensures.result_value.1;
+          run_wrote g a.wanted a.journal.now p.rows m _ _ c.finish.result.written w.worked.rows_are
+          w.wrote c.finish.ensures.result_value.1;
     }

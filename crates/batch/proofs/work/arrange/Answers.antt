@@ -17,12 +17,12 @@ new_rows-new-requires c =
     let r = c.requires in (
       r.rows_in,
       r.sound,
-      own_in a.state.now a.year a.list.now a.batch.now a.m.now a.n a.numbers.now r _ _ c.order_details-own.ensures,
+      own_in a.setting.state.now a.setting.year a.setting.locals.list.now a.batch.now a.m.now a.n a.numbers.now r _ _ c.order_details-own.ensures,
       r.two,
     )
 
 pub returns : goal.returns
 returns c =
     let a = c.args in
-    arranged a.state.now a.year a.list.now a.batch.now a.m.now a.n a.numbers.now c.requires _ _ c.order_details-own.ensures
+    arranged a.setting.state.now a.setting.year a.setting.locals.list.now a.batch.now a.m.now a.n a.numbers.now c.requires _ _ c.order_details-own.ensures
     _ c.new_rows-new.ensures

@@ -13,12 +13,12 @@ shift_rows-requires c = c.requires.rows_in
 pub start_journal-at-requires : goal.start_journal-at-requires
 start_journal-at-requires c =
     let a = c.args in
-    counts_room a.state.now a.year a.list.now a.batch.now a.own a.new a.n a.m.now a.numbers.now a.wanted a.journal.now c.requires
+    counts_room a.setting.state.now a.setting.year a.setting.locals.list.now a.batch.now a.own a.new a.n a.m.now a.numbers.now a.wanted a.journal.now c.requires
 
 pub walk_keys-written-requires : goal.walk_keys-written-requires
 walk_keys-written-requires c =
     let a = c.args in
-    let raised = c.shift_rows.ensures in record { walk_ready = walk_ready a.state.now a.year a.list.now a.batch.now a.own a.new a.n a.m.now a.numbers.now a.wanted a.journal.now c.requires _ raised; journal_room = room_ready a.state.now a.year a.list.now a.batch.now a.own a.new a.n a.m.now a.numbers.now a.wanted a.journal.now c.requires _ raised _ _ c.start_journal-at.ensures }
+    let raised = c.shift_rows.ensures in record { walk_ready = walk_ready a.setting.state.now a.setting.year a.setting.locals.list.now a.batch.now a.own a.new a.n a.m.now a.numbers.now a.wanted a.journal.now c.requires _ raised; journal_room = room_ready a.setting.state.now a.setting.year a.setting.locals.list.now a.batch.now a.own a.new a.n a.m.now a.numbers.now a.wanted a.journal.now c.requires _ raised _ _ c.start_journal-at.ensures }
 
 pub shape_of-m : goal.shape_of-m
 shape_of-m c = c.walk_keys-written.auto.m ∙ c.shift_rows.auto.m
@@ -26,5 +26,5 @@ shape_of-m c = c.walk_keys-written.auto.m ∙ c.shift_rows.auto.m
 pub returns : goal.returns
 returns c =
     let a = c.args in
-    moved a.state.now a.year a.list.now a.batch.now a.own a.new a.n a.m.now a.numbers.now a.wanted a.journal.now c.requires _ c.shift_rows.ensures
+    moved a.setting.state.now a.setting.year a.setting.locals.list.now a.batch.now a.own a.new a.n a.m.now a.numbers.now a.wanted a.journal.now c.requires _ c.shift_rows.ensures
     _ _ c.start_journal-at.ensures _ _ _ _ c.walk_keys-written.ensures (c.walk_keys-written.auto.m ∙ c.shift_rows.auto.m)

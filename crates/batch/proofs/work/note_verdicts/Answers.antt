@@ -30,5 +30,5 @@ write_verdicts-requires c =
 pub returns : goal.returns
 returns c =
     let a = c.args in
-    noted a.state.now a.year a.list.now a.batch.now a.own a.rows a.numbers.now a.rejects.now _ _ c.work_alone.ensures
+    noted a.setting.state.now a.setting.year a.setting.locals.list.now a.batch.now a.own a.rows a.numbers.now a.rejects.now _ _ c.work_alone.ensures
     c.put_back.ensures _ _ _ c.write_verdicts.ensures.0 c.write_verdicts.ensures.3

@@ -8,6 +8,7 @@ returns c =
     rw (
       c.copy-4.ensures,
       c.put.ensures,
+      c.from.ensures,
       c.copy-3.ensures,
       c.copy-2.ensures,
       c.copy.ensures,

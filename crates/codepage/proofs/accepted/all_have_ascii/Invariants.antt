@@ -1,14 +1,10 @@
 -- `accepted::all_have_ascii` meets its contract. The invariant: the whole passes where what was read and the rest do. Assumes nothing.
 use mathlib.Core.Bool.{◌&&◌}
 use mathlib.Core.Path.{◌≡◌}
-use Prim.Native.Nat.{◌-◌, ◌≤◌}
-use lib.ListN.{length, drop}
+use lib.ListN.{drop}
 use Rattle.codepage.specs.CodePage.{ascii_of}
 use Rattle.codepage.specs.Accepted.{every_has_counterpart}
 use Rattle.codepage.proofs.accepted.all_have_ascii.Given as goal
 
-abbrev pub invariant-loop-i : goal.invariant-loop-i
-invariant-loop-i l = (l.i ≤ length l.input) × (every_has_counterpart ascii_of l.input ≡ (l.ok && every_has_counterpart ascii_of (drop l.i l.input)))
-
-abbrev pub decreases-loop-i : goal.decreases-loop-i
-decreases-loop-i l = length l.input - l.i
+abbrev pub invariant-loop-b : goal.invariant-loop-b
+invariant-loop-b l = every_has_counterpart ascii_of l.input ≡ (l.ok && every_has_counterpart ascii_of (drop l.b-index l.input))

@@ -15,6 +15,5 @@ read_amount-b-requires c = rw c.field-2.ensures (length-columns 87 97 c.args.lin
 
 pub returns : goal.returns
 returns c =
-    amounts_are c.args.line.now _ _ _ _ _ (c.read_amount-a.ensures ∙ ap amount_cents c.field.ensures)
-    (c.read_amount-b.ensures ∙ ap amount_cents c.field-2.ensures) c.is_bad.ensures c.is_bad-2.ensures
-    c.cents_or_zero-collection.ensures c.cents_or_zero-adjustment.ensures refl
+    amounts_are c.args.line.now _ _ _ _ refl (c.read_amount-a.ensures ∙ ap amount_cents c.field.ensures)
+    (c.read_amount-b.ensures ∙ ap amount_cents c.field-2.ensures) c.unwrap_or-collection.ensures c.unwrap_or-adjustment.ensures (rw (c.is_some.ensures, c.is_some-2.ensures))

@@ -1,35 +1,24 @@
-use mathlib.Core.Path.{sym, ap, ◌∙◌, refl, ◌≡◌}
-use Rattle.contactrecord.specs.Wording.{starts_with}
-use lib.ListN.{length, drop, take, length-drop}
-use lib.Seq.{take_all}
-use Rattle.contactrecord.proofs.WordingLaws.{contains_pass, contains_fail, contains_end}
-use mathlib.Core.Bool.{true, false}
-use borrow.Author.Rules.{rules}
-use native.Mathlib.Omega.{arith}
-use Prim.Native.Nat.{◌-◌}
+-- `holds_text`: the text is compared with each part as long; one of no bytes is contained wherever there is a place. Assumes nothing.
+use Rattle.std.proofs.Common.{◌≡◌, eqb, false, not, ap, length, sym, ◌∙◌, ◌<◌, rules, arith, tests}
+use borrow.Author.Tests.{eqb-true}
+use Rattle.std.proofs.lemmas.Bool.Decides.{nat_tests}
+use Rattle.std.proofs.lemmas.Iterator.Search.{any_from_yields_List}
+use Rattle.text.specs.Fields.{same_bytes}
+use Rattle.contactrecord.proofs.WordingLaws.{contains_any, contains_none, windows_yielded}
 use Rattle.contactrecord.proofs.wording.holds_text.Goals as goal
 
-pub loop-i-init : goal.loop-i-init
-loop-i-init c = (search rules, refl)
-
-pub returns-then-starts_with : goal.returns-then-starts_with
-returns-then-starts_with c =
-    let a = c.args in
-    let l = c.loop-i in
-    let w : take (length a.s.now - l.i) (drop l.i a.s.now) ≡ drop l.i a.s.now = take_all (length a.s.now - l.i) (drop l.i a.s.now) (omega (arith, length-drop l.i a.s.now)) in
-    let t : starts_with a.text.now (drop l.i a.s.now) ≡ true = ap (starts_with a.text.now) (sym w) ∙ sym c.starts_with.ensures ∙ c.if-starts_with.true in
-    sym (l.invariant.1 ∙ contains_pass a.text.now a.s.now l.i (search rules) t)
-
-pub loop-i-preserved : goal.loop-i-preserved
-loop-i-preserved c =
-    let a = c.args in
-    let l = c.loop-i in
-    let w : take (length a.s.now - l.i) (drop l.i a.s.now) ≡ drop l.i a.s.now = take_all (length a.s.now - l.i) (drop l.i a.s.now) (omega (arith, length-drop l.i a.s.now)) in
-    let t : starts_with a.text.now (drop l.i a.s.now) ≡ false = ap (starts_with a.text.now) (sym w) ∙ sym c.starts_with.ensures ∙ c.if-starts_with.false in
-    (search rules, l.invariant.1 ∙ contains_fail a.text.now a.s.now l.i (search rules) t)
+pub returns-then-is_empty : goal.returns-then-is_empty
+returns-then-is_empty c =
+    let text = c.args.text.now in
+    let none : length text ≡ 0 = eqb-true (length text) 0 (sym c.is_empty.ensures ∙ c.if-is_empty.true) in
+    ap not c.is_empty-then-is_empty.ensures ∙ sym (contains_none text c.args.s.now none)
 
 pub returns : goal.returns
 returns c =
-    let a = c.args in
-    let l = c.loop-i in
-    sym (l.invariant.1 ∙ contains_end a.text.now a.s.now l.i (search rules))
+    let s = c.args.s.now in
+    let text = c.args.text.now in
+    let e : eqb (length text) 0 ≡ false = sym c.is_empty.ensures ∙ c.if-is_empty.false in
+    let some : 0 < length text = grind (arith, nat_tests) in
+    any_from_yields_List (λ w. same_bytes w text) _ _ _ c.any.ensures.ran
+    (windows_yielded c.windows.result (length text) s some c.windows.ensures.size c.windows.ensures.rest) (λ x b q k. search (rules, tests))
+    ∙ contains_any text s some

@@ -9,8 +9,8 @@ returns-then-are_good c =
     let e = sym c.are_good.ensures ∙ c.if-are_good.true in
     rw e c.is_rising.ensures
 
-pub returns : goal.returns
+pub returns-else-are_good : goal.returns-else-are_good
 unfolding is_table
-returns c =
+returns-else-are_good c =
     let e = sym c.are_good.ensures ∙ c.if-are_good.false in
-    rw e
+    rw e c.if-are_good.false

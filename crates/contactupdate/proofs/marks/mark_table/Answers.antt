@@ -1,39 +1,47 @@
+use Rattle.std.proofs.Common.{length, refl, sym, ◌∙◌, arith, rules, lit<}
+use lib.ListN.{length-set}
+use Rattle.std.proofs.lemmas.List.{length_push}
+use Rattle.text.proofs.ChunksLaws.{chunk_here, chunks_end}
 use Rattle.contacttable.proofs.TableLaws.{contact_at, length_contact, contact_good}
 use Rattle.contactrecord.proofs.ContactLaws.{good_key}
 use Rattle.contactupdate.proofs.MarksLaws.{marked_next, marked_end}
-use lib.ListN.{length-set}
-use mathlib.Core.Path.{refl, sym, ◌∙◌}
-use borrow.Author.Rules.{rules}
-use native.Mathlib.Omega.{arith}
 use Rattle.contactupdate.proofs.marks.mark_table.Goals as goal
 
-pub loop-i-init : goal.loop-i-init
-loop-i-init c = (search rules, c.requires.1, refl)
+pub loop-rec-init : goal.loop-rec-init
+loop-rec-init c = (search rules, search rules, c.requires.1, refl)
 
 pub key_number-requires : goal.key_number-requires
 key_number-requires c =
-    let l = c.loop-i in (
-      length_contact c.args.count c.args.table.now l.i c.loop-i-test.true c.requires.0,
-      good_key (contact_at c.args.table.now l.i)
-          (contact_good c.args.count c.args.table.now l.i c.requires.2 c.loop-i-test.true),
+    let a = c.args in
+    let l = c.loop-rec in
+    let k = c.chunks_exact-rec-items in
+    let h = chunk_here 220 (lit< tt) a.count a.table.now c.requires.0 k.result k.ensures.size k.ensures.rest _ c.into_iter-rec-iterator.ensures.into_iter_gives l.yielded _ l.yielded_by c.next.result c.next.new.self c.next.ensures.steps c.in-Some.rec c.in-Some.is in
+    let i = length l.yielded in
+    rw h.1 (
+      length_contact a.count a.table.now i h.0 c.requires.0,
+      good_key (contact_at a.table.now i) (contact_good a.count a.table.now i c.requires.2 h.0),
     )
 
 pub bounds-held-key_number : goal.bounds-held-key_number
-bounds-held-key_number c = omega (arith, c.loop-i.invariant.1, c.key_number.ensures.1)
+bounds-held-key_number c = omega (arith, c.loop-rec.invariant.2, c.key_number.ensures.1)
 
-pub loop-i-preserved : goal.loop-i-preserved
-loop-i-preserved c =
-    let l = c.loop-i in
-    let k = c.key_number in (
+pub loop-rec-preserved : goal.loop-rec-preserved
+loop-rec-preserved c =
+    let a = c.args in
+    let l = c.loop-rec in
+    let k = c.chunks_exact-rec-items in
+    let h = chunk_here 220 (lit< tt) a.count a.table.now c.requires.0 k.result k.ensures.size k.ensures.rest _ c.into_iter-rec-iterator.ensures.into_iter_gives l.yielded _ l.yielded_by c.next.result c.next.new.self c.next.ensures.steps c.in-Some.rec c.in-Some.is in
+    let i = length l.yielded in (
       search rules,
-      length-set l.held k.result 1 ∙ l.invariant.1,
-      (rw k.ensures.0 (sym (marked_next c.args.count c.args.table.now l.i l.held c.loop-i-test.true))) ∙ l.invariant.2,
+      search rules,
+      length-set l.held c.key_number.result 1 ∙ l.invariant.2,
+      rw (length_push l.yielded c.in-Some.rec, c.key_number.ensures.0, h.1) (sym (marked_next a.count a.table.now i l.held h.0) ∙ l.invariant.3),
     )
-
-pub shape_of-held : goal.shape_of-held
-shape_of-held c = c.loop-i.invariant.1 ∙ sym c.requires.1
 
 pub returns : goal.returns
 returns c =
-    let l = c.loop-i in
-    sym (marked_end c.args.count c.args.table.now l.i l.held c.loop-i-test.false) ∙ l.invariant.2
+    let a = c.args in
+    let l = c.loop-rec in
+    let k = c.chunks_exact-rec-items in
+    let e = chunks_end 220 (lit< tt) a.count a.table.now c.requires.0 k.result k.ensures.size k.ensures.rest _ c.into_iter-rec-iterator.ensures.into_iter_gives l.yielded _ l.yielded_by c.next.result c.next.new.self c.next.ensures.steps c.in-None.is in
+    sym (marked_end a.count a.table.now (length l.yielded) l.held (omega (arith, e))) ∙ l.invariant.3

@@ -3,11 +3,7 @@ use Rattle.contactupdate.specs.KeyNumbers.{held_in}
 use Rattle.contactupdate.specs.Merging.{held_finally}
 use Rattle.contactupdate.proofs.MergingLaws.{Merging}
 use Rattle.contacttable.specs.Table.{contacts_of}
-use Prim.Native.Nat.{◌≤◌}
 use Rattle.contactupdate.proofs.merging.merge.Given as goal
 
 abbrev pub invariant-loop-k : goal.invariant-loop-k
-invariant-loop-k l = (l.k ≤ 54000) × Merging (held_in (contacts_of l.count l.initial.table)) (held_finally l.initial.table l.count l.file l.lasts) 54000 l.total l.initial.table l.k l.o l.p l.table
-
-abbrev pub decreases-loop-k : goal.decreases-loop-k
-decreases-loop-k l = l.k
+invariant-loop-k l = Merging (held_in (contacts_of l.count l.initial.table)) (held_finally l.initial.table l.count l.file l.lasts) 54000 l.total l.initial.table l.k l.o l.p l.table

@@ -72,4 +72,4 @@ returns c =
     let g = table_flagged a.table.now a.count c.mark_table.new.held t c.mark_table.ensures in
     let w = c.work in
     update_done max_rows a.table.now a.count a.file.now a.faulty.now f t c.mark_table.new.held g (omega (arith, c.count_lacking.ensures.0, c.if-room-count_lacking.false)) c.if-faulty-n.false
-    w.result w.new.table w.new.faulty w.ensures.0 w.ensures.1 w.ensures.2
+    w.result w.new.table w.new.faulty w.ensures.0 w.ensures.1 w.ensures.2 w.ensures.3

@@ -2,14 +2,11 @@
 -- the columns of the names and bits that are left, is the answer. Assumes nothing.
 use mathlib.Core.Path.{◌≡◌}
 use mathlib.Core.List.{◌++◌}
-use Prim.Native.Nat.{◌-◌, ◌*◌, ◌≤◌}
+use Prim.Native.Nat.{◌*◌}
 use lib.ListN.{length, take, drop}
 use Rattle.exclusionsets.specs.Exclusions.{exclusion_names, names_shown, exclusion_columns}
 use Rattle.exclusionsets.proofs.exclusions.exclusion_columns.Given as goal
 
 abbrev pub invariant-loop-n : goal.invariant-loop-n
 invariant-loop-n l =
-    (l.n ≤ 8) × (length l.out ≡ 24) × (exclusion_columns l.set ≡ take (l.n * 3) l.out ++ names_shown l.left (drop l.n exclusion_names))
-
-abbrev pub decreases-loop-n : goal.decreases-loop-n
-decreases-loop-n l = 8 - l.n
+    (length l.out ≡ 24) × (exclusion_columns l.set ≡ take (l.n * 3) l.out ++ names_shown l.left (drop l.n exclusion_names))

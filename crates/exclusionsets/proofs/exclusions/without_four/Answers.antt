@@ -1,17 +1,12 @@
 -- `exclusions::without_four` meets its contract: what goes is blank, and no word. Assumes nothing.
-use mathlib.Core.Path.{◌≡◌, sym, ap, ◌∙◌}
+use mathlib.Core.Path.{sym, ap, ◌∙◌}
 use mathlib.Core.List.{[]}
-use Prim.Native.Nat.{◌-◌}
-use native.Mathlib.Omega.{arith}
-use lib.ListN.{length}
-use lib.Seq.{take-length}
+use Rattle.text.specs.Fields.{is_blank}
 use Rattle.exclusionsets.specs.Exclusions.{words_from}
-use Rattle.exclusionsets.proofs.ExclusionsLaws.{words_shorter}
+use Rattle.exclusionsets.proofs.ExclusionsLaws.{words_front}
 use Rattle.exclusionsets.proofs.exclusions.without_four.Goals as goal
 
-pub returns-then-is_blank : goal.returns-then-is_blank
-returns-then-is_blank c =
-    let s = c.args.s.now in
-    let e = sym c.is_blank.ensures ∙ c.if-is_blank.true in
-    let z : length s - 4 - 0 ≡ length s - 4 = omega arith in
-    rw z (words_shorter s (length s - 4) (length s) (omega arith) e ∙ ap (words_from []) (take-length s))
+pub returns-in-Some : goal.returns-in-Some
+returns-in-Some c =
+    let f = c.in-Some.ensures.cases in
+    ap (words_from []) f.0 ∙ words_front c.args.s.now _ (sym (c.if-is_blank.ensures ∙ ap is_blank f.1))

@@ -2,8 +2,8 @@
 use Rattle.fantanolive.proofs.ContactsCallsLaws.{codes_left_lem}
 use Rattle.fantanolive.proofs.contacts_calls.fantanolive_contacts_codes.Goals as goal
 
-pub returns-in-Done : goal.returns-in-Done
-returns-in-Done c = codes_left_lem _ _ _ _ _ _ _ _ c.codes_of.ensures c.in-Done.is
+pub returns-in-Ok : goal.returns-in-Ok
+returns-in-Ok c = codes_left_lem _ _ _ _ _ _ _ _ c.codes_of.ensures c.in-Ok.is
 
-pub returns-in-Refused : goal.returns-in-Refused
-returns-in-Refused c = codes_left_lem _ _ _ _ _ _ _ _ c.codes_of.ensures c.in-Refused.is
+pub returns-in-Err : goal.returns-in-Err
+returns-in-Err c = rw c.number.ensures (codes_left_lem _ _ _ _ _ _ _ _ c.codes_of.ensures c.in-Err.is)

@@ -3,10 +3,10 @@
 use Rattle.fantanolive.proofs.ContactsCallsLaws.{update_left_lem}
 use Rattle.fantanolive.proofs.contacts_calls.fantanolive_contacts_update.Goals as goal
 
-pub returns-in-Done : goal.returns-in-Done
-returns-in-Done c =
-    update_left_lem _ _ _ _ _ _ _ _ _ c.update.ensures c.in-Done.is
+pub returns-in-Ok : goal.returns-in-Ok
+returns-in-Ok c =
+    update_left_lem _ _ _ _ _ _ _ _ _ c.update.ensures c.in-Ok.is
 
-pub returns-in-Refused : goal.returns-in-Refused
-returns-in-Refused c =
-    update_left_lem _ _ _ _ _ _ _ _ _ c.update.ensures c.in-Refused.is
+pub returns-in-Err : goal.returns-in-Err
+returns-in-Err c =
+    rw c.number.ensures (update_left_lem _ _ _ _ _ _ _ _ _ c.update.ensures c.in-Err.is)

@@ -2,8 +2,8 @@
 use Rattle.fantanolive.proofs.JournalCallsLaws.{take_back_left_lem}
 use Rattle.fantanolive.proofs.journal_calls.fantanolive_take_back.Goals as goal
 
-pub returns-in-Done : goal.returns-in-Done
-returns-in-Done c = take_back_left_lem _ _ _ _ _ _ _ c.take_back.ensures c.in-Done.is
+pub returns-in-Ok : goal.returns-in-Ok
+returns-in-Ok c = take_back_left_lem _ _ _ _ _ _ _ c.take_back.ensures c.in-Ok.is
 
-pub returns-in-Refused : goal.returns-in-Refused
-returns-in-Refused c = take_back_left_lem _ _ _ _ _ _ _ c.take_back.ensures c.in-Refused.is
+pub returns-in-Err : goal.returns-in-Err
+returns-in-Err c = rw c.number.ensures (take_back_left_lem _ _ _ _ _ _ _ c.take_back.ensures c.in-Err.is)

@@ -3,12 +3,12 @@ use Rattle.merging.specs.Merge.{merge_call}
 use Rattle.fantanolive.proofs.MergingCallsLaws.{merge_left_lem}
 use Rattle.fantanolive.proofs.merging_calls.fantanolive_merge.Goals as goal
 
-pub returns-in-Done : goal.returns-in-Done
-returns-in-Done c =
+pub returns-in-Ok : goal.returns-in-Ok
+returns-in-Ok c =
     let a = c.args in
-    merge_left_lem (merge_call a.first.now a.second.now a.out.now) _ _ _ _ c.merge.ensures c.in-Done.is
+    merge_left_lem (merge_call a.first.now a.second.now a.out.now) _ _ _ _ c.merge.ensures c.in-Ok.is
 
-pub returns-in-Refused : goal.returns-in-Refused
-returns-in-Refused c =
+pub returns-in-Err : goal.returns-in-Err
+returns-in-Err c =
     let a = c.args in
-    merge_left_lem (merge_call a.first.now a.second.now a.out.now) _ _ _ _ c.merge.ensures c.in-Refused.is
+    rw c.number.ensures (merge_left_lem (merge_call a.first.now a.second.now a.out.now) _ _ _ _ c.merge.ensures c.in-Err.is)

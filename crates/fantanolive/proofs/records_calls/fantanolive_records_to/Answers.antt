@@ -2,12 +2,12 @@
 use Rattle.fantanolive.proofs.RecordsCallsLaws.{records_left_lem}
 use Rattle.fantanolive.proofs.records_calls.fantanolive_records_to.Goals as goal
 
-pub returns-in-Done : goal.returns-in-Done
-returns-in-Done c =
+pub returns-in-Ok : goal.returns-in-Ok
+returns-in-Ok c =
     let a = c.args in
-    records_left_lem a.row.now a.wanted.now a.locals.now a.out.now _ _ _ _ c.records_to.ensures c.in-Done.is
+    records_left_lem a.row.now a.wanted.now a.locals.now a.out.now _ _ _ _ c.records_to.ensures c.in-Ok.is
 
-pub returns-in-Refused : goal.returns-in-Refused
-returns-in-Refused c =
+pub returns-in-Err : goal.returns-in-Err
+returns-in-Err c =
     let a = c.args in
-    records_left_lem a.row.now a.wanted.now a.locals.now a.out.now _ _ _ _ c.records_to.ensures c.in-Refused.is
+    rw c.number.ensures (records_left_lem a.row.now a.wanted.now a.locals.now a.out.now _ _ _ _ c.records_to.ensures c.in-Err.is)

@@ -2,8 +2,8 @@
 use Rattle.fantanolive.proofs.TotallingCallsLaws.{totals_left_lem}
 use Rattle.fantanolive.proofs.totalling_calls.fantanolive_totals.Goals as goal
 
-pub returns-in-Done : goal.returns-in-Done
-returns-in-Done c = totals_left_lem _ _ _ _ c.total.ensures c.in-Done.is
+pub returns-in-Ok : goal.returns-in-Ok
+returns-in-Ok c = totals_left_lem _ _ _ _ c.total.ensures c.in-Ok.is
 
-pub returns-in-Refused : goal.returns-in-Refused
-returns-in-Refused c = totals_left_lem _ _ _ _ c.total.ensures c.in-Refused.is
+pub returns-in-Err : goal.returns-in-Err
+returns-in-Err c = rw c.number.ensures (totals_left_lem _ _ _ _ c.total.ensures c.in-Err.is)

@@ -1,12 +1,7 @@
 -- `numbers::number_at`: the groups read and what stands behind them say what the bytes say from the first group on; a fifth group is out of
 -- reach. Assumes nothing.
 use Rattle.journal.proofs.ReadingLaws.{Reading}
-use Prim.Native.Nat.{◌-◌}
-use lib.ListN.{length}
 use Rattle.journal.proofs.numbers.number_at.Given as goal
 
 abbrev pub invariant-loop-i : goal.invariant-loop-i
 invariant-loop-i l = Reading l.s l.at l.n l.scale l.i
-
-abbrev pub decreases-loop-i : goal.decreases-loop-i
-decreases-loop-i l = length l.s - l.i

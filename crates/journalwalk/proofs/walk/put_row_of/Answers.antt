@@ -1,13 +1,12 @@
 -- `walk::put_row_of`: a state with a row has it written, one without leaves all bytes. Assumes nothing.
-use mathlib.Core.List.{[]}
 use Rattle.keywalk.proofs.WalkStepLaws.{row_put, none_put, row_room}
 use Rattle.journalwalk.proofs.walk.put_row_of.Goals as goal
 
 pub put_row-requires : goal.put_row-requires
-put_row-requires c = row_room _ _ _ c.if-held.true _ c.requires
+put_row-requires c = row_room _ c.in-Some.row _ (rw c.in-Some.is at c.requires)
 
-pub returns-then-held : goal.returns-then-held
-returns-then-held c = row_put _ _ _ _ _ c.if-held.true c.put_row.ensures
+pub returns-in-Some : goal.returns-in-Some
+returns-in-Some c = rw c.in-Some.is (row_put _ _ _ _ c.put_row.ensures)
 
-pub returns : goal.returns
-returns c = none_put _ _ _ [] _ c.if-held.false
+pub returns-in-None : goal.returns-in-None
+returns-in-None c = rw c.in-None.is (none_put _ _)

@@ -24,11 +24,9 @@ case_at-case-requires c =
 
 pub work_key-next-requires : goal.work_key-next-requires
 work_key-next-requires c =
-    let a = c.args in record {
-      key_ready = key_ready a.state.now a.year a.list.now a.batch.now a.numbers.now a.s.position a.own c.run_at-run.result
-          c.requires.position_lt_own.1 c.run_at-run.ensures;
-      ordered_if = c.requires.position_lt_own.2;
-    }
+    let a = c.args in
+    key_ready a.setting.state.now a.setting.year a.setting.locals.list.now a.batch.now a.numbers.now a.s.position a.own c.run_at-run.result
+    c.requires.position_lt_own.1 c.run_at-run.ensures
 
 pub overflow_add-to : goal.overflow_add-to
 overflow_add-to c =
@@ -38,7 +36,7 @@ overflow_add-to c =
 pub put_key_entry-written-requires : goal.put_key_entry-written-requires
 put_key_entry-written-requires c =
     let a = c.args in
-    let f = fixed_of a.state.now a.year a.list.now a.batch.now a.own a.end in
+    let f = fixed_of a.setting.state.now a.setting.year a.setting.locals.list.now a.batch.now a.own a.end in
     let s = stand_of a.s a.m.now a.numbers.now in
     let steps : KeySteps f s _ _ _ _ _ _ _ _ =
     record {
@@ -60,7 +58,7 @@ overflow_add-to-2 c =
 pub put_row_of-placed-requires : goal.put_row_of-placed-requires
 put_row_of-placed-requires c =
     let a = c.args in
-    let f = fixed_of a.state.now a.year a.list.now a.batch.now a.own a.end in
+    let f = fixed_of a.setting.state.now a.setting.year a.setting.locals.list.now a.batch.now a.own a.end in
     let s = stand_of a.s a.m.now a.numbers.now in
     let steps : KeySteps f s _ _ _ _ _ _ _ _ =
     record {
@@ -82,7 +80,7 @@ overflow_add-result c =
 pub returns : goal.returns
 returns c =
     let a = c.args in
-    let f = fixed_of a.state.now a.year a.list.now a.batch.now a.own a.end in
+    let f = fixed_of a.setting.state.now a.setting.year a.setting.locals.list.now a.batch.now a.own a.end in
     let s = stand_of a.s a.m.now a.numbers.now in
     let steps : KeySteps f s _ _ _ _ _ _ _ _ =
     record {

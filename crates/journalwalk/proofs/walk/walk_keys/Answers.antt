@@ -9,7 +9,7 @@ pub loop-s-init : goal.loop-s-init
 loop-s-init c =
     let a = c.args in
     let w = c.requires.walk_ready in
-    let f = fixed_of a.state.now a.year a.list.now a.batch.now a.own a.end in
+    let f = fixed_of a.setting.state.now a.setting.year a.setting.locals.list.now a.batch.now a.own a.end in
     let s = start_of a.from a.m.now a.numbers.now in
     (w, (walking_start f s w refl refl, journaling_start f s a.wanted a.journal.now a.at refl refl c.requires.journal_room))
 
@@ -21,10 +21,10 @@ walk_key-s-requires c =
     let g = l.invariant.1.0 in
     let n = l.invariant.1.1 in
     let t = c.loop-s-test.true in
-    let f = fixed_of a.state.now a.year a.list.now a.batch.now a.own a.end in
+    let f = fixed_of a.setting.state.now a.setting.year a.setting.locals.list.now a.batch.now a.own a.end in
     let s = start_of a.from a.m.now a.numbers.now in
     record {
-      position_lt_own = (t, walking_sorted f s w _ g, c.is_ordered-ordered.ensures);
+      position_lt_own = (t, walking_sorted f s w _ g);
       to_le_from = (g.low, g.within, omega (arith, g.len, w.rows_in), walking_rises f s w _ g);
       stays_before = walking_room f s w _ g t;
       key_room = journaling_room f s a.wanted a.journal.now a.at w _ g _ _ n t;
@@ -43,7 +43,7 @@ loop-s-preserved c =
     let n = l.invariant.1.1 in
     let k = c.walk_key-s in
     let t = c.loop-s-test.true in
-    let f = fixed_of a.state.now a.year a.list.now a.batch.now a.own a.end in
+    let f = fixed_of a.setting.state.now a.setting.year a.setting.locals.list.now a.batch.now a.own a.end in
     let s = start_of a.from a.m.now a.numbers.now in
     (w, (walking_next f s w _ g t _ k.ensures.walked k.auto.m, journaling_next f s a.wanted a.journal.now a.at w _ g _ _ n t _ _ _ k.ensures))
 
@@ -60,6 +60,6 @@ pub returns : goal.returns
 returns c =
     let a = c.args in
     let l = c.loop-s in
-    let f = fixed_of a.state.now a.year a.list.now a.batch.now a.own a.end in
+    let f = fixed_of a.setting.state.now a.setting.year a.setting.locals.list.now a.batch.now a.own a.end in
     let s = start_of a.from a.m.now a.numbers.now in
     journaling_done f s a.wanted a.journal.now a.at l.invariant.0 _ l.invariant.1.0 _ _ l.invariant.1.1 c.loop-s-test.false

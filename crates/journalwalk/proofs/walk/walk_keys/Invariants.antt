@@ -9,9 +9,9 @@ use Rattle.journalwalk.proofs.walk.walk_keys.Given as goal
 
 abbrev pub invariant-loop-s : goal.invariant-loop-s
 invariant-loop-s l =
-    (w : WalkReady (fixed_of l.state l.year l.list l.batch l.own l.end) (start_of l.from l.initial.m l.initial.numbers))
-    × (Walking (fixed_of l.state l.year l.list l.batch l.own l.end) (start_of l.from l.initial.m l.initial.numbers) w (stand_of l.s l.m l.numbers)
-    × Journaling (fixed_of l.state l.year l.list l.batch l.own l.end) (start_of l.from l.initial.m l.initial.numbers) l.wanted l.initial.journal l.at (stand_of l.s l.m l.numbers) l.journal l.s.written)
+    (w : WalkReady (fixed_of l.setting.state.now l.setting.year l.setting.locals.list.now l.batch l.own l.end) (start_of l.from l.initial.m l.initial.numbers))
+    × (Walking (fixed_of l.setting.state.now l.setting.year l.setting.locals.list.now l.batch l.own l.end) (start_of l.from l.initial.m l.initial.numbers) w (stand_of l.s l.m l.numbers)
+    × Journaling (fixed_of l.setting.state.now l.setting.year l.setting.locals.list.now l.batch l.own l.end) (start_of l.from l.initial.m l.initial.numbers) l.wanted l.initial.journal l.at (stand_of l.s l.m l.numbers) l.journal l.s.written)
 
 abbrev pub decreases-loop-s : goal.decreases-loop-s
 decreases-loop-s l = l.own - l.s.position

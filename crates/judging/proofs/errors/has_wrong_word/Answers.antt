@@ -1,11 +1,19 @@
 -- `errors::has_wrong_word` meets its contract: a word is wrong where reading fails. Assumes nothing.
-use mathlib.Core.Path.{sym, ap, ◌∙◌}
-use Rattle.exclusionsets.specs.Exclusions.{exclusions_of, set_read}
+use mathlib.Core.Bool.{Bool, true, false, not}
+use mathlib.Core.Path.{◌≡◌, refl, ap, ◌∙◌}
+use Prim.Native.Nat.{ℕ}
+use Rattle.std.specs.Prelude as library
 use Rattle.text.specs.Options.{is_none}
+use Rattle.exclusionsets.specs.Exclusions.{exclusions_of, set_read}
 use Rattle.judging.proofs.errors.has_wrong_word.Goals as goal
 
-pub returns-in-Set : goal.returns-in-Set
-returns-in-Set c = sym (ap is_none (sym (c.read_exclusions.ensures ∙ ap exclusions_of c.field.ensures) ∙ ap set_read c.in-Set.is))
+failed : (o : library.Option ℕ) (b : Bool) → library.is_some o ≡ not b → b ≡ is_none (set_read o)
+failed library.None true e = refl
+failed library.None false e = cc
+failed (library.Some set) true e = cc
+failed (library.Some set) false e = refl
 
-pub returns-in-Failure : goal.returns-in-Failure
-returns-in-Failure c = sym (ap is_none (sym (c.read_exclusions.ensures ∙ ap exclusions_of c.field.ensures) ∙ ap set_read c.in-Failure.is))
+pub returns : goal.returns
+returns c =
+    failed c.read_exclusions.result c.is_none.result c.is_none.ensures
+    ∙ ap is_none (c.read_exclusions.ensures ∙ ap exclusions_of c.field.ensures)

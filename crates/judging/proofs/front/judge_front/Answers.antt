@@ -13,7 +13,7 @@ returns c =
     let f = c.judge_first-f in (
       record {
         set_is =
-            front-set a.state.now a.year a.list.now a.rec.now f.result f.ensures _ _ _ _ _
+            front-set a.setting.state.now a.setting.year a.setting.locals.list.now a.rec.now f.result f.ensures _ _ _ _ _
             c.set_first.ensures.0 c.set_06_to_08.ensures.0 c.set_10_to_13.ensures.0
             c.set_14_to_16.ensures.0
             (c.flag.ensures.0 ∙ ap (λ (b : Bool). number_of_codes (code 18 b)) c.has_18.ensures);

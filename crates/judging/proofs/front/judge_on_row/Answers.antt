@@ -6,7 +6,7 @@ use Rattle.judging.specs.Errors.{holds17}
 use native.Mathlib.Omega.{arith}
 use mathlib.Core.Path.{ap, ◌∙◌}
 use mathlib.Core.Bool.{Bool, not, ◌&&◌}
-use Rattle.judging.specs.State.{row_if}
+use Rattle.judging.specs.State.{row_in}
 use Rattle.judging.proofs.FrontLaws.{row-set, row_09, row_17}
 use Rattle.judging.proofs.front.judge_on_row.Goals as goal
 
@@ -14,7 +14,7 @@ pub returns : goal.returns
 returns c =
     let a = c.args in (
       (λ state year list i names g.
-          let row = row_if a.held a.row.now in
+          let row = row_in a.row in
           let judged = not a.f.kind && not a.f.key in
           let e9 = ap (λ (b : Bool). judged && b) c.has_09-missing.ensures ∙ row_09 state year list a.rec.now a.f i names row in
           let e17 : (judged && (not a.f.name && (not c.has_09-missing.result && c.has_17-other.result))) ≡ holds17 (setting_of state year list names) row a.rec.now =

@@ -2,4 +2,4 @@
 use Rattle.judging.proofs.warnings.warned.Goals as goal
 
 pub returns : goal.returns
-returns c = c.warned_on_row.ensures c.args.list.now c.has_51.ensures
+returns c = c.warned_on_row.ensures c.args.locals.list.now c.has_51.ensures

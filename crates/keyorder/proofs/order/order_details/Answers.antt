@@ -11,7 +11,7 @@ own_end-requires c =
     let l = c.requires.1 in
     let w = t.width in (
       omega (arith, l, w),
-      tagged_rises a.state.now a.year a.list.now (blocks 245 a.d a.batch.now) a.d a.numbers.now _ t (omega (arith, l, w)),
+      tagged_rises a.setting.state.now a.setting.year a.setting.locals.list.now (blocks 245 a.d a.batch.now) a.d a.numbers.now _ t (omega (arith, l, w)),
     )
 
 pub returns : goal.returns

@@ -9,5 +9,5 @@ returns c =
     let a = c.args in
     let m = c.tag_details in
     let o = c.sort in
-    tagged_sorted a.state.now a.year a.list.now (blocks 245 a.d a.batch.now) a.d a.numbers.now m.new.numbers o.new.numbers
+    tagged_sorted a.setting.state.now a.setting.year a.setting.locals.list.now (blocks 245 a.d a.batch.now) a.d a.numbers.now m.new.numbers o.new.numbers
     (length-blocks 245 a.d a.batch.now) c.requires.1 m.ensures m.auto.numbers o.ensures

@@ -3,45 +3,33 @@ use native.Mathlib.Omega.{arith}
 use lib.ListN.{length-set}
 use lib.Seq.{get_or-set_other}
 use Rattle.keywork.proofs.WorkedLaws.{alone_none, alone_turn}
-use borrow.Author.Rules.{rules}
 use Rattle.keywork.proofs.worked.work_alone.Goals as goal
 
 pub loop-q-init : goal.loop-q-init
 loop-q-init c =
     let a = c.args in
-    (omega arith, omega (arith, c.requires.0), refl, (λ k h. refl), alone_none a.state.now a.year a.list.now a.batch.now a.p a.numbers.now a.e)
+    (refl, (λ k h. refl), alone_none a.setting.state.now a.setting.year a.setting.locals.list.now a.batch.now a.p a.numbers.now a.e)
 
-pub bounds-numbers-q : goal.bounds-numbers-q
-bounds-numbers-q c = omega (arith, c.loop-q-test.true, c.loop-q.invariant.2, c.requires.1)
-
-pub work_tagged-after-requires : goal.work_tagged-after-requires
-work_tagged-after-requires c =
+pub work_tagged-requires : goal.work_tagged-requires
+work_tagged-requires c =
     let l = c.loop-q in
-    (search rules, rw (l.invariant.3 l.q (omega arith)) (c.requires.2 l.q l.invariant.0 c.loop-q-test.true), c.is_ordered-ordered.ensures)
-
-pub bounds-numbers-q-in-loop-q : goal.bounds-numbers-q-in-loop-q
-bounds-numbers-q-in-loop-q c = omega (arith, c.loop-q-test.true, c.loop-q.invariant.2, c.requires.1)
+    rw (l.invariant.1 l.q (omega arith)) (c.requires.2 l.q l.auto.q c.loop-q-test.true)
 
 pub loop-q-preserved : goal.loop-q-preserved
 loop-q-preserved c =
-    let w = c.work_tagged-after in
+    let w = c.work_tagged in
     let t = c.loop-q-test.true in
     let l = c.loop-q in
     let a = c.args in (
-      omega (arith, l.invariant.0),
-      omega (arith, t),
-      length-set l.numbers l.q w.result.number ∙ l.invariant.2,
-      (λ k h. get_or-set_other l.numbers l.q k w.result.number 0 (λ (z : k ≡ l.q). omega arith) ∙ l.invariant.3 k (omega arith)),
-      alone_turn a.state.now a.year a.list.now a.batch.now a.p a.numbers.now a.e l.q l.numbers _ w.result
-          l.invariant.0 t c.requires.1 (l.invariant.3 l.q (omega arith)) l.invariant.4 w.ensures,
+      length-set l.numbers l.q w.result ∙ l.invariant.0,
+      (λ k h. get_or-set_other l.numbers l.q k w.result 0 (λ (z : k ≡ l.q). omega arith) ∙ l.invariant.1 k (omega arith)),
+      alone_turn a.setting.state.now a.setting.year a.setting.locals.list.now a.batch.now a.p a.numbers.now a.e l.q l.numbers _ w.result
+          l.auto.q t c.requires.1 (l.invariant.1 l.q (omega arith)) l.invariant.2 (rw c.no_case-none.ensures at w.ensures),
     )
-
-pub shape_of-numbers : goal.shape_of-numbers
-shape_of-numbers c = c.loop-q.invariant.2
 
 pub returns : goal.returns
 returns c =
     let a = c.args in
     let l = c.loop-q in
-    let e : l.q ≡ a.e = omega (arith, c.loop-q-test.false, l.invariant.1) in
-    rw e at l.invariant.4
+    let e : l.q ≡ a.e = omega (arith, c.loop-q-test.false, l.auto.q-end c.requires.0) in
+    rw e at l.invariant.2

@@ -1,22 +1,25 @@
 -- `locals::is_local_list` meets its contract: codes are digits where the whole list is, and they rise as `is_rising` says. Assumes nothing.
-use borrow.Author.Tests.{ne_eqb, not-true, not-false}
+use mathlib.Core.Bool.{true≢false}
+use mathlib.Core.Path.{refl, sym, ◌∙◌}
+use borrow.Author.Tests.{ne_eqb}
 use Rattle.layout.specs.Locals.{is_local_list}
 use Rattle.layout.proofs.LocalsLaws.{local_list}
 use Rattle.layout.proofs.locals.is_local_list.Goals as goal
+use Rattle.layout.proofs.locals.is_local_list.Goals.{then-list-eq0, else-list-eq0}
 
-pub returns-then-list-ne0 : goal.returns-then-list-ne0
+pub returns-then-all_digits : goal.returns-then-all_digits
+returns-then-all_digits c =
+    elim c.if-list-eq0.branch [
+      | then-list-eq0 w ↦
+          rw (local_list c.args.list.now w.if-list-eq0.true, ← w.all_digits.ensures, ← w.value-is, c.if-all_digits.true) c.is_rising.ensures
+      | else-list-eq0 w ↦ absurd (true≢false (sym c.if-all_digits.true ∙ w.value-is ∙ ne_eqb _ _ w.if-list-eq0.false))
+    ]
+
+pub returns-else-all_digits : goal.returns-else-all_digits
 unfolding is_local_list
-returns-then-list-ne0 c = rw (ne_eqb _ _ c.if-list-ne0.true)
-
-pub returns-then-not-all_digits : goal.returns-then-not-all_digits
-returns-then-not-all_digits c =
-    let s = c.args.list.now in
-    let d = c.all_digits in
-    rw (local_list s c.if-list-ne0.false, ← d.ensures, not-true d.result c.if-not-all_digits.true-raw)
-
-pub returns : goal.returns
-returns c =
-    let s = c.args.list.now in
-    let d = c.all_digits in
-    rw (local_list s c.if-list-ne0.false, ← d.ensures, not-false d.result c.if-not-all_digits.false-raw)
-    c.is_rising.ensures
+returns-else-all_digits c =
+    elim c.if-list-eq0.branch [
+      | then-list-eq0 w ↦
+          rw (local_list c.args.list.now w.if-list-eq0.true, ← w.all_digits.ensures, ← w.value-is, c.if-all_digits.false) refl
+      | else-list-eq0 w ↦ rw (w.value-is, ne_eqb _ _ w.if-list-eq0.false) refl
+    ]

@@ -1,17 +1,17 @@
-use mathlib.Core.Path.{sym, ◌∙◌}
+-- `name::has_letter` meets its contract: the test of each byte until one passes. Assumes nothing.
+use mathlib.Core.Path.{◌∙◌}
 use borrow.Author.Rules.{rules}
+use borrow.Author.Tests.{tests}
+use Rattle.std.proofs.lemmas.Iterator.{YieldsList-from_slice}
+use Rattle.std.proofs.lemmas.Iterator.Search.{any_from_yields_List}
 use Rattle.text.specs.Characters.{is_letter}
 use Rattle.layout.specs.Name.{has_letter}
-use Rattle.text.proofs.FieldsLaws.{any_pass, any_fail, any_end}
+use Rattle.text.proofs.FieldsLaws.{any-at_least_one}
 use Rattle.layout.proofs.name.has_letter.Goals as goal
-
-pub returns-then-is_letter : goal.returns-then-is_letter
-unfolding has_letter
-returns-then-is_letter c = sym (c.loop-i.invariant.1 ∙ any_pass is_letter c.args.s.now c.loop-i.i (search rules) (sym c.is_letter.ensures ∙ c.if-is_letter.true))
-
-pub loop-i-preserved : goal.loop-i-preserved
-loop-i-preserved c = (search rules, c.loop-i.invariant.1 ∙ any_fail is_letter c.args.s.now c.loop-i.i (search rules) (sym c.is_letter.ensures ∙ c.if-is_letter.false))
 
 pub returns : goal.returns
 unfolding has_letter
-returns c = sym (c.loop-i.invariant.1 ∙ any_end is_letter c.args.s.now c.loop-i.i (search rules))
+returns c =
+    let s = c.args.s.now in
+    any_from_yields_List is_letter _ _ _ c.any.ensures.ran (YieldsList-from_slice s cc) (λ b r q k. search (rules, tests))
+    ∙ any-at_least_one is_letter s

@@ -5,9 +5,6 @@ use Rattle.layout.proofs.name.is_lettered_name.Goals as goal
 
 pub returns-then-are_four_letters : goal.returns-then-are_four_letters
 returns-then-are_four_letters c =
-    let x = c.args.s.now in
+    let s = c.args.s.now in
     let t = sym c.are_four_letters.ensures ∙ c.if-are_four_letters.true in
-    rw (four_name x c.requires t, four_letter x t)
-
-pub returns : goal.returns
-returns c = rw (c.has_letter.ensures, c.is_name_by_byte.ensures)
+    rw (c.if-are_four_letters.true, four_name s c.requires t, four_letter s t)

@@ -1,8 +1,6 @@
--- `record::is_known_type` meets its contract: the same ten tests as the definition. Assumes nothing.
-use mathlib.Core.Path.{refl}
-use Rattle.layout.specs.Record.{is_known_type}
+-- `record::is_known_type` meets its contract: its type is one of the ten. Assumes nothing.
+use Rattle.layout.proofs.TypeLaws.{known_by}
 use Rattle.layout.proofs.record.is_known_type.Goals as goal
 
 pub returns : goal.returns
-unfolding is_known_type
-returns c = refl
+returns c = rw c.is_some.ensures (known_by c.args.rec.now _ c.type_of.ensures)

@@ -2,11 +2,11 @@
 use Rattle.layout.specs.StateCodes.{state_codes, count_below}
 use lib.ListN.{drop}
 use mathlib.Core.Path.{◌≡◌}
-use Prim.Native.Nat.{◌+◌, ◌-◌, ◌≤◌}
+use Prim.Native.Nat.{◌+◌, ◌≤◌}
 use Rattle.layout.proofs.states.count_below.Given as goal
 
-abbrev pub invariant-loop-i : goal.invariant-loop-i
-invariant-loop-i l = (l.i ≤ 54) × (l.n ≤ l.i) × (l.n + count_below l.x (drop l.i state_codes) ≡ count_below l.x state_codes)
-
-abbrev pub decreases-loop-i : goal.decreases-loop-i
-decreases-loop-i l = 54 - l.i
+abbrev pub invariant-loop-code : goal.invariant-loop-code
+invariant-loop-code l = record {
+  few : l.n ≤ l.code-index;
+  counted : l.n + count_below l.x (drop l.code-index state_codes) ≡ count_below l.x state_codes;
+}

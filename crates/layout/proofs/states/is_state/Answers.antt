@@ -2,25 +2,14 @@
 -- Assumes nothing.
 use mathlib.Core.Path.{sym, ◌∙◌}
 use native.Mathlib.Omega.{arith}
+use borrow.Author.Tests.{ne_eqb}
 use Rattle.layout.proofs.StatesLaws.{state_of-code, state_other}
 use Rattle.layout.proofs.states.is_state.Goals as goal
 
-pub returns-then-s-ne2 : goal.returns-then-s-ne2
-returns-then-s-ne2 c = sym (state_other _ c.if-s-ne2.true)
+pub returns-then-s-eq2 : goal.returns-then-s-eq2
+returns-then-s-eq2 c =
+    let s = c.args.s.now in
+    c.is_code.ensures ∙ rw c.from_be_bytes.ensures (sym (state_of-code s c.if-s-eq2.true (omega (arith, c.type_inv.s 1))))
 
-pub overflow_cast-s : goal.overflow_cast-s
-overflow_cast-s c = omega (arith, c.shared_slice_known-2-1.given 0)
-
-pub overflow_mul-s : goal.overflow_mul-s
-overflow_mul-s c = omega (arith, c.shared_slice_known-2-1.given 0)
-
-pub overflow_cast-s-2 : goal.overflow_cast-s-2
-overflow_cast-s-2 c = omega (arith, c.shared_slice_known-3-1.given 1)
-
-pub overflow_add-s : goal.overflow_add-s
-overflow_add-s c = omega (arith, c.shared_slice_known-3-1.given 0, c.shared_slice_known-3-1.given 1)
-
-pub returns : goal.returns
-returns c =
-    c.is_code.ensures ∙
-    sym (state_of-code _ c.if-s-ne2.false (omega (arith, c.shared_slice_known-3-1.given 1)))
+pub returns-else-s-eq2 : goal.returns-else-s-eq2
+returns-else-s-eq2 c = rw (ne_eqb _ _ c.if-s-eq2.false) (sym (state_other c.args.s.now c.if-s-eq2.false))

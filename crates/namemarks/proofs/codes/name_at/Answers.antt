@@ -1,10 +1,6 @@
--- `codes::name_at`: four bytes, the first the highest, write the name's number. Assumes nothing.
-use Rattle.namemarks.proofs.CodesLaws.{name_number_lem}
-use borrow.Author.Rules.{rules}
+-- `codes::name_at`: the four bytes read are the name's. Assumes nothing.
+use Rattle.namemarks.proofs.CodesLaws.{name_in_lem}
 use Rattle.namemarks.proofs.codes.name_at.Goals as goal
 
 pub returns : goal.returns
-returns c = (
-  name_number_lem _ _ _ _ _ _ c.requires c.wide-a.ensures.0 c.wide-b.ensures.0 c.wide-c.ensures.0 c.wide-d.ensures.0,
-  search rules,
-)
+returns c = (rw (name_in_lem c.args.batch.now c.args.i) c.bytes_number.ensures.0, c.bytes_number.ensures.1)

@@ -7,7 +7,7 @@ use Prim.Native.Nat.{ℕ, ◌/◌, ◌<◌}
 use native.Mathlib.Omega.{arith}
 use lib.ListN.{length}
 use borrow.Author.Rules.{rules}
-use borrow.Author.Tests.{not-true, not-false}
+use Rattle.std.proofs.lemmas.Result.{err_from_is_err_and}
 use Rattle.layout.specs.Limits.{max_rows}
 use Rattle.reconciliation.specs.Reconcile.{rec_records}
 use Rattle.text.specs.Blocks.{joined, over}
@@ -23,49 +23,50 @@ use Rattle.casemaster.proofs.RefusalsLaws.{master_rows}
 use Rattle.casemaster.specs.Refusals.{master_refusal}
 use Rattle.reconciliation.proofs.reconcile.reconcile.Goals as goal
 
-pub returns-then-refusal-ne0 : goal.returns-then-refusal-ne0
-returns-then-refusal-ne0 c =
+pub returns-in_err-master_refusal : goal.returns-in_err-master_refusal
+returns-in_err-master_refusal c =
     let a = c.args in
-    reconcile_master max_rows a.master.now a.rows a.state.now a.date.now a.out.now c.master_refusal-refusal.result c.master_refusal-refusal.ensures c.if-refusal-ne0.true
+    let p = err_from_is_err_and c.from_residual.result c.from_residual.ensures.1 in
+    rw (p.1, p.2) (reconcile_master max_rows a.master.now a.rows a.state.now a.date.now a.out.now _ c.in_err-master_refusal.ensures)
 
 pub returns-then-not-is_state : goal.returns-then-not-is_state
 returns-then-not-is_state c =
     let a = c.args in
-    let e : master_refusal max_rows a.master.now a.rows 0 ≡ 0 = sym c.master_refusal-refusal.ensures ∙ c.if-refusal-ne0.false in
-    reconcile_12 max_rows a.master.now a.rows a.state.now a.date.now a.out.now e (sym c.is_state.ensures ∙ not-true _ c.if-not-is_state.true-raw)
+    let e : master_refusal max_rows a.master.now a.rows 0 ≡ 0 = sym c.in_ok-master_refusal.ensures in
+    reconcile_12 max_rows a.master.now a.rows a.state.now a.date.now a.out.now e (sym c.if-not-is_state.ensures)
 
 pub returns-then-not-is_date : goal.returns-then-not-is_date
 returns-then-not-is_date c =
     let a = c.args in
-    let e : master_refusal max_rows a.master.now a.rows 0 ≡ 0 = sym c.master_refusal-refusal.ensures ∙ c.if-refusal-ne0.false in
-    let s : is_state a.state.now ≡ true = sym c.is_state.ensures ∙ not-false _ c.if-not-is_state.false-raw in
-    reconcile_13 max_rows a.master.now a.rows a.state.now a.date.now a.out.now e s (sym c.is_date.ensures ∙ not-true _ c.if-not-is_date.true-raw)
+    let e : master_refusal max_rows a.master.now a.rows 0 ≡ 0 = sym c.in_ok-master_refusal.ensures in
+    let s : is_state a.state.now ≡ true = sym c.if-not-is_state.ensures in
+    reconcile_13 max_rows a.master.now a.rows a.state.now a.date.now a.out.now e s (sym c.if-not-is_date.ensures)
 
 pub count_cases-cases-requires : goal.count_cases-cases-requires
 count_cases-cases-requires c =
     let a = c.args in
-    omega (arith, master_rows max_rows a.master.now a.rows (sym c.master_refusal-refusal.ensures ∙ c.if-refusal-ne0.false))
+    omega (arith, master_rows max_rows a.master.now a.rows (sym c.in_ok-master_refusal.ensures))
 
 pub returns-then-out-cases : goal.returns-then-out-cases
 returns-then-out-cases c =
     let a = c.args in
-    let e : master_refusal max_rows a.master.now a.rows 0 ≡ 0 = sym c.master_refusal-refusal.ensures ∙ c.if-refusal-ne0.false in
-    let s : is_state a.state.now ≡ true = sym c.is_state.ensures ∙ not-false _ c.if-not-is_state.false-raw in
-    let d : is_date a.date.now ≡ true = sym c.is_date.ensures ∙ not-false _ c.if-not-is_date.false-raw in
+    let e : master_refusal max_rows a.master.now a.rows 0 ≡ 0 = sym c.in_ok-master_refusal.ensures in
+    let s : is_state a.state.now ≡ true = sym c.if-not-is_state.ensures in
+    let d : is_date a.date.now ≡ true = sym c.if-not-is_date.ensures in
     reconcile_11 max_rows a.master.now a.rows a.state.now a.date.now a.out.now e s d (omega (arith, c.count_cases-cases.ensures.total_value, c.if-out-cases.true))
 
 pub put_records-records-requires : goal.put_records-records-requires
 put_records-records-requires c =
     let a = c.args in (
-      omega (arith, master_rows max_rows a.master.now a.rows (sym c.master_refusal-refusal.ensures ∙ c.if-refusal-ne0.false)),
+      omega (arith, master_rows max_rows a.master.now a.rows (sym c.in_ok-master_refusal.ensures)),
       omega (arith, c.count_cases-cases.ensures.total_value, c.if-out-cases.false),
     )
 
 pub rct_record-control-requires : goal.rct_record-control-requires
 rct_record-control-requires c =
     let a = c.args in (
-      state_wide a.state.now (sym c.is_state.ensures ∙ not-false _ c.if-not-is_state.false-raw),
-      date_wide a.date.now (sym c.is_date.ensures ∙ not-false _ c.if-not-is_date.false-raw),
+      state_wide a.state.now (sym c.if-not-is_state.ensures),
+      date_wide a.date.now (sym c.if-not-is_date.ensures),
     )
 
 pub overflow_mul-records : goal.overflow_mul-records
@@ -79,9 +80,9 @@ copy_in-requires c =
 pub returns : goal.returns
 returns c =
     let a = c.args in
-    let e : master_refusal max_rows a.master.now a.rows 0 ≡ 0 = sym c.master_refusal-refusal.ensures ∙ c.if-refusal-ne0.false in
-    let s : is_state a.state.now ≡ true = sym c.is_state.ensures ∙ not-false _ c.if-not-is_state.false-raw in
-    let d : is_date a.date.now ≡ true = sym c.is_date.ensures ∙ not-false _ c.if-not-is_date.false-raw in
+    let e : master_refusal max_rows a.master.now a.rows 0 ≡ 0 = sym c.in_ok-master_refusal.ensures in
+    let s : is_state a.state.now ≡ true = sym c.if-not-is_state.ensures in
+    let d : is_date a.date.now ≡ true = sym c.if-not-is_date.ensures in
     let k = c.count_cases-cases.ensures in
     let p = c.put_records-records in
     let n = holds_count 245 p.ensures in

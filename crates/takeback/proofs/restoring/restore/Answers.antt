@@ -8,19 +8,11 @@ loop-p-init c =
     let a = c.args in
     restoring_none a.m.now a.n a.journal.now a.at _ refl refl c.requires.n_in_bounds.1 c.requires.can_restore
 
-pub place_restored-s-requires : goal.place_restored-s-requires
-place_restored-s-requires c =
-    let l = c.loop-p in
-    record { p_in_bounds = (omega (arith, c.requires.n_in_bounds.0, l.invariant.same_length, c.loop-p-test.true), l.invariant.to_low, l.invariant.inside); can_restore = l.invariant.left }
-
 pub loop-p-preserved : goal.loop-p-preserved
 loop-p-preserved c =
     let a = c.args in
     let l = c.loop-p in
     restoring_next a.m.now a.n a.journal.now a.at l.m l.s l.p l.invariant c.loop-p-test.true _ _ c.place_restored-s.ensures
-
-pub shape_of-m : goal.shape_of-m
-shape_of-m c = c.loop-p.invariant.same_length
 
 pub returns : goal.returns
 returns c =

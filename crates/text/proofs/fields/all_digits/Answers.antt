@@ -1,24 +1,18 @@
-use mathlib.Core.Bool.{and_assoc, and-true}
-use mathlib.Core.Path.{sym, ◌∙◌}
-use Prim.Native.Nat.{◌+◌}
-use lib.Dec.{leb}
-use lib.ListN.{drop, get_or}
+-- `fields::all_digits` meets its contract: the test of each byte, gathered. Assumes nothing.
+use mathlib.Core.Bool.{true, ◌&&◌}
+use mathlib.Core.Path.{◌∙◌}
 use borrow.Author.Rules.{rules}
-use Rattle.text.specs.Characters.{is_digit, within}
-use Rattle.text.specs.Fields.{every, all_digits}
-use Rattle.text.proofs.FieldsLaws.{every_step, every_end}
+use borrow.Author.Tests.{tests}
+use Rattle.std.proofs.lemmas.Iterator.{YieldsList-from_slice}
+use Rattle.std.proofs.lemmas.Iterator.Consumers.{fold_from_yields_List}
+use Rattle.text.specs.Characters.{is_digit}
+use Rattle.text.specs.Fields.{all_digits}
+use Rattle.text.proofs.FieldsLaws.{every-fold}
 use Rattle.text.proofs.fields.all_digits.Goals as goal
-
-pub loop-i-preserved : goal.loop-i-preserved
-unfolding is_digit
-loop-i-preserved c =
-    let s = c.args.s.now in
-    let l = c.loop-i in
-    let b = get_or s l.i 0 in
-    (search rules, l.invariant.1 ∙ rw (every_step is_digit s l.i (search rules)) (sym (rw (and_assoc l.ok (leb 240 b) (leb b 249)) (and_assoc l.ok (within 240 249 b) (every is_digit (drop (l.i + 1) s))))))
 
 pub returns : goal.returns
 unfolding all_digits
 returns c =
-    let l = c.loop-i in
-    sym (l.invariant.1 ∙ rw (every_end is_digit c.args.s.now l.i (search rules)) (and-true l.ok))
+    let s = c.args.s.now in
+    fold_from_yields_List _ (λ ok b. ok && is_digit b) true _ c.fold.ensures.ran (YieldsList-from_slice s cc) (λ ok x r q k. search (rules, tests))
+    ∙ every-fold is_digit true s

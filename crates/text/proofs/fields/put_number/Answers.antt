@@ -1,7 +1,6 @@
-use mathlib.Core.Path.{◌≡◌, refl, sym, ap, ◌∙◌}
+use mathlib.Core.Path.{◌≡◌, sym, ap, ◌∙◌}
 use mathlib.Core.List.{◌++◌, append-nil}
 use Prim.Native.Nat.{ℕ, suc, ◌+◌, ◌-◌, ◌<◌}
-use borrow.Author.Rules.{rules}
 use native.Mathlib.Omega.{arith}
 use lib.ListN.{length, take, drop, take-append-drop}
 use Rattle.text.specs.Fields.{digit_field}
@@ -14,7 +13,7 @@ loop-i-init c =
     let d = c.args.dst.now in
     let last = c.args.c.last in
     let z : last - last ≡ 0 = omega arith in
-    (search rules, search rules, refl, rw z (omega arith), rw (z, append-nil (take last d)) (sym (take-append-drop last d)))
+    record { inside = omega arith; left_is = rw z (omega arith); written = rw (z, append-nil (take last d)) (sym (take-append-drop last d)) }
 
 pub loop-i-preserved : goal.loop-i-preserved
 loop-i-preserved c =
@@ -26,13 +25,12 @@ loop-i-preserved c =
     let e : l.i ≡ suc (l.i - 1) = omega arith in
     let v : a.c.last - (l.i - 1) ≡ suc w = omega arith in
     let h : l.i - 1 < length d = omega arith in
-    let p : l.dst ≡ take (suc (l.i - 1)) d ++ digit_field w a.n ++ r = l.invariant.4 ∙ ap (λ (j : ℕ). take j d ++ digit_field w a.n ++ r) e in (
-      search rules,
-      search rules,
-      search rules,
-      rw (v, l.invariant.3) (less_digit w a.n),
-      rw (p, v, l.invariant.3) (digit_written w a.n (l.i - 1) d r h),
-    )
+    let p : l.dst ≡ take (suc (l.i - 1)) d ++ digit_field w a.n ++ r = l.invariant.written ∙ ap (λ (j : ℕ). take j d ++ digit_field w a.n ++ r) e in
+    record {
+      inside = omega arith;
+      left_is = rw (v, l.invariant.left_is) (less_digit w a.n);
+      written = rw (p, v, l.invariant.left_is) (digit_written w a.n (l.i - 1) d r h);
+    }
 
 pub returns : goal.returns
 returns c =
@@ -40,4 +38,4 @@ returns c =
     let a = c.args.c in
     let i : l.i ≡ a.first - 1 = omega arith in
     let w : a.last - l.i ≡ a.last + 1 - a.first = omega arith in
-    l.invariant.4 ∙ rw (w, i)
+    l.invariant.written ∙ rw (w, i)

@@ -9,6 +9,6 @@ pub returns : goal.returns
 returns c =
     let x = c.args in
     let a = x.a.now in
-    let b = bytes_of a (λ i h. omega (arith, c.shared_slice_known-1.given i)) in
+    let b = bytes_of a (λ i h. omega (arith, c.type_inv.a i)) in
     rw c.eight_number.ensures
     (eight_spaces (take 8 (drop x.i a)) (simp (length-take, length-drop) (omega arith)) (bytes_take 8 (drop x.i a) (bytes_drop x.i a b)))

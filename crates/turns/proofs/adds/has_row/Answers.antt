@@ -1,14 +1,11 @@
 -- `adds::has_row`: the search says exactly whether the rows have one of that key, and another type than A never counts. Assumes nothing.
 use mathlib.Core.List.{List}
-use mathlib.Core.Path.{sym, subst, ◌∙◌}
+use mathlib.Core.Path.{sym, ◌∙◌}
 use Prim.Native.Nat.{ℕ, ◌*◌}
 use lib.ListN.{take, drop}
 use borrow.Author.Rules.{rules}
 use borrow.Author.Tests.{not-true, not-false}
 use Rattle.casemaster.specs.Master.{rows_of}
-use Rattle.casemaster.specs.Search.{IsPlace}
-use Rattle.casemaster.specs.declared.search.Place.{Place}
-use Rattle.layout.specs.Record.{record_key}
 use Rattle.turns.proofs.NewLaws.{row_other, row_found, row_missing}
 use Rattle.casemaster.proofs.RowsLaws.{rows_rise}
 use Rattle.turns.proofs.adds.has_row.Goals as goal
@@ -28,19 +25,15 @@ pub place_of-requires : goal.place_of-requires
 place_of-requires c =
     (c.requires.0, search rules, rows_rise (rows_of c.args.n c.args.m.now) c.requires.1)
 
-pub returns-in-At : goal.returns-in-At
-returns-in-At c =
+pub returns-in-Ok : goal.returns-in-Ok
+returns-in-Ok c =
     let a = c.args in
-    let rows = rows_of a.n a.m.now in
     let rec = take 245 (drop (a.i * 245) a.batch.now) in
-    let p = subst (λ (k : List ℕ). IsPlace c.place_of.result k rows) c.key_at-key.ensures c.place_of.ensures in
-    row_found rows rec (sym c.is_add.ensures ∙ not-false _ c.if-not-is_add.false-raw) _ (subst (λ (z : Place). IsPlace z (record_key rec) rows) c.in-At.is p)
+    row_found (rows_of a.n a.m.now) rec (sym c.is_add.ensures ∙ not-false _ c.if-not-is_add.false-raw) _ (rw c.key_at-key.ensures at c.in-Ok.ensures)
 
-pub returns-in-Gap : goal.returns-in-Gap
-returns-in-Gap c =
+pub returns-in-Err : goal.returns-in-Err
+returns-in-Err c =
     let a = c.args in
-    let rows = rows_of a.n a.m.now in
     let rec = take 245 (drop (a.i * 245) a.batch.now) in
-    let p = subst (λ (k : List ℕ). IsPlace c.place_of.result k rows) c.key_at-key.ensures c.place_of.ensures in
-    let g = subst (λ (z : Place). IsPlace z (record_key rec) rows) c.in-Gap.is p in
-    row_missing rows rec (sym c.is_add.ensures ∙ not-false _ c.if-not-is_add.false-raw) g.missing
+    let g = rw c.key_at-key.ensures at c.in-Err.ensures in
+    row_missing (rows_of a.n a.m.now) rec (sym c.is_add.ensures ∙ not-false _ c.if-not-is_add.false-raw) g.missing
