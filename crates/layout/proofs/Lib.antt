@@ -1,3 +1,4 @@
+pub mod CodeNumberLaws
 pub mod CodesLaws
 pub mod KeyLaws
 pub mod KeyNumberLaws

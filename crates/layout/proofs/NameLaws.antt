@@ -15,6 +15,18 @@ use Rattle.text.specs.Fields.{is_blank}
 use Rattle.text.proofs.FieldsLaws.{and_left, and_right}
 use Rattle.layout.specs.Name.{is_name_byte, is_name_rest, is_name, has_letter}
 
+-- ---- the first byte
+
+pub name_none : (s : List ℕ) → length s ≡ 0 → is_name s ≡ false
+unfolding is_name
+name_none [] e = refl
+name_none (b ∷ bs) e = absurd (omega arith)
+
+pub name_fails : (s : List ℕ) → is_name_byte (get_or s 0 0) ≡ false → is_name s ≡ false
+unfolding is_name
+name_fails [] t = refl
+name_fails (b ∷ bs) t = rw t
+
 -- ---- up to the first byte that is no letter and no hyphen
 
 -- no letter and no hyphen
@@ -78,9 +90,9 @@ module _ (s : List ℕ) (i : ℕ) (e : Some i ≡ cond (ltb (first_other s) (len
           by false d = absurd (n (f ∙ rw d))
 
   -- it is the first
-  pub name_fails : i ≡ 0 → is_name s ≡ false
+  pub name_fails_at : i ≡ 0 → is_name s ≡ false
   unfolding is_name
-  name_fails z = go s other_at.0 other_at.1
+  name_fails_at z = go s other_at.0 other_at.1
     where
       go : (t : List ℕ) → i ≡ first_other t → i < length t → is_name t ≡ false
       go [] f h = refl

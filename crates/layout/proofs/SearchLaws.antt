@@ -1,13 +1,13 @@
 -- Laws of rising numbers, membership and binary search, over any list. Assumes nothing.
-use mathlib.Core.Path.{◌≡◌, refl, sym}
-use mathlib.Core.Bool.{Bool, true, false, or-true}
+use mathlib.Core.Path.{◌≡◌, refl, sym, ◌∙◌}
+use mathlib.Core.Bool.{Bool, true, false, cond, or-true}
 use mathlib.Core.List.{List, [], ◌∷◌}
 use mathlib.Core.Logic.{◌⊎◌, inl, inr, ⊎_elim}
-use Prim.Native.Nat.{ℕ, zero, suc, ◌+◌, ◌≤◌, ◌<◌, zero-le, suc-le-suc}
+use Prim.Native.Nat.{ℕ, zero, suc, ◌+◌, ◌-◌, ◌*◌, ◌≤◌, ◌<◌, zero-le, suc-le-suc}
 use native.Mathlib.Nat.{le_of_suc-le-suc, not-suc-le-zero, lt_trans, zero-lt-suc, eq-or-lt_of_le}
 use native.Mathlib.Omega.{arith}
-use borrow.Author.Tests.{ltb-true, eq-eqb, ne_eqb, eqb-true, eqb-false}
-use lib.Dec.{ltb, eqb}
+use borrow.Author.Tests.{ltb-true, leb-true, leb-false, eq-eqb, ne_eqb, eqb-true, eqb-false}
+use lib.Dec.{leb, ltb, eqb}
 use lib.ListN.{length, get_or}
 use Rattle.layout.specs.StateCodes.{rising_numbers, is_in}
 use Rattle.text.proofs.FieldsLaws.{and_left, and_right}
@@ -87,10 +87,42 @@ module _ {l : List ℕ} {x lo hi : ℕ} (t : rising_numbers l ≡ true) (b : Bra
             ⊎_elim (λ (r : mid ≡ k). rw (← r) h) (λ (r : mid < k). lt_trans h (earlier_below l t mid k r kl)) (eq-or-lt_of_le mk);
       }
 
+-- the entries before the middle are left out where the middle is x at most, else as many at the end
+pub halved : {l : List ℕ} {x : ℕ} → rising_numbers l ≡ true → (lo left half y one : ℕ) → Bracket l x lo (lo + left) → half < left
+    → half + half ≤ left → y ≡ get_or l (lo + half) 0 → one ≡ cond (leb y x) 1 0
+    → Bracket l x (lo + half * one) (lo + half * one + (left - half))
+halved {l} {x} t lo left half y one b h w ey eo = go (leb y x) refl
+  where
+    go : (r : Bool) → leb y x ≡ r → Bracket l x (lo + half * one) (lo + half * one + (left - half))
+    go true e =
+        let o : one ≡ 1 = eo ∙ rw e in
+        let m = from t b (lo + half) (omega arith) (omega arith) (rw (← ey) (leb-true y x e)) in
+        record {
+          order = omega arith;
+          end = rw o (omega (arith, b.end));
+          before = rw o (λ k kl. m.before k (omega arith));
+          behind = rw o (λ k mk kl. m.behind k (omega (arith, w)) kl);
+        }
+    go false e =
+        let o : one ≡ 0 = eo ∙ rw e in
+        let m = down t b (lo + half) (omega arith) (omega arith) (rw (← ey) (leb-false y x e)) in
+        record {
+          order = omega arith;
+          end = rw o (omega (arith, b.end));
+          before = rw o (λ k kl. m.before k (omega arith));
+          behind = rw o (λ k mk kl. m.behind k (omega (arith, w)) kl);
+        }
+
 at_least : (n k : ℕ) → (n ≤ k) ⊎ (k < n)
 at_least zero k = inl zero-le
 at_least (suc n) zero = inr (zero-lt-suc n)
 at_least (suc n) (suc k) = ⊎_elim (λ (h : n ≤ k). inl (suc-le-suc h)) (λ (h : k < n). inr (suc-le-suc h)) (at_least n k)
+
+-- the search ends where nothing is between: x is not in the list
+pub missing : {l : List ℕ} {x lo hi : ℕ} → Bracket l x lo hi → hi ≤ lo → is_in x l ≡ false
+missing {l} {x} {lo} {hi} b e =
+    in_none x l (λ k kl r.
+    ⊎_elim (λ (h : lo ≤ k). omega (arith, b.behind k (omega arith) kl)) (λ (h : k < lo). omega (arith, b.before k h)) (at_least lo k))
 
 -- the search ends with one entry: x is in the list where it is that entry
 pub found : {l : List ℕ} {x lo hi : ℕ} → Bracket l x lo hi → lo < hi → hi ≤ lo + 1 → is_in x l ≡ eqb (get_or l lo 0) x
