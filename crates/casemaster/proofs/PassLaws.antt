@@ -120,6 +120,11 @@ all_passed f n m i h =
     let r = pass_end 12 200 n m (i + 1) h in
     rw (every_block_end 200 f n m (i + 1) h) (rw z at r)
 
+-- the row at i passes and is the last
+pub last-passes : (f : List ℕ → Bool) (n : ℕ) (m : List ℕ) (i : ℕ) → i < n → f (row_in m i) ≡ true → i + 1 ≡ n
+    → (every f (drop i (rows_of n m)) && rising (drop i (keys_of (rows_of n m)))) ≡ true
+last-passes f n m i l t e = rw (← row-passes f n m i l t) (all_passed f n m i (omega arith))
+
 module _ (n : ℕ) (m : List ℕ) (i : ℕ) (l : i + 1 < n) (b : Bool) (e : IsBelowNext i m b) where
   -- its key is not below that of the next
   pub order_fails : b ≡ false → rising (drop i (keys_of (rows_of n m))) ≡ false

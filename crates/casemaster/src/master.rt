@@ -51,7 +51,8 @@ pub fn shift_rows(m: &mut [u8], n: usize, by: usize)
 }
 
 // Whether the first n rows are sound and in strictly rising order of key, in one pass. The two numbers of a row's key are read when it is
-// compared with the one before, and again serve for its own soundness.
+// compared with the one before, and again serve for its own soundness. The pass ends inside the loop, so that the row's own test has one
+// call.
 pub fn are_sound_rows(m: &[u8], n: usize, form: Form) -> bool
     requires { n * 200 ≤ length m.now }
     ensures { result ≡ are_sound_in form (rows_of n m.now) }
@@ -60,21 +61,23 @@ pub fn are_sound_rows(m: &[u8], n: usize, form: Form) -> bool
         return true;
     }
     let (rows, _) = m.as_chunks::<ROW_WIDTH>();
+    let mut known = states::FIRST_CODE;
     let mut front = words::eight_number(&rows[0], 0);
     let mut back = words::four_number(&rows[0], 8);
-    if !row::is_sound_row_in(&rows[0], states::FIRST_CODE, front, back, form) {
-        return false;
-    }
-    for next in &rows[1..n] {
+    for (i, row) in rows[..n].iter().enumerate() {
+        if !row::is_sound_row_in(row, known, front, back, form) {
+            return false;
+        }
+        if i + 1 == n {
+            return true;
+        }
+        let next = &rows[i + 1];
         let next_front = words::eight_number(next, 0);
         let next_back = words::four_number(next, 8);
         if !byte_order::is_twelve_below_in(front, back, next_front, next_back) {
             return false;
         }
-        let known = key::state_in(front);
-        if !row::is_sound_row_in(next, known, next_front, next_back, form) {
-            return false;
-        }
+        known = key::state_in(front);
         front = next_front;
         back = next_back;
     }
