@@ -90,6 +90,13 @@ all_passed n keys i l = (
   rising_end (blocks 12 n keys) i (rw (length-blocks 12 n keys) (omega arith)),
 )
 
+-- the key at i passes and is the last
+pub last-passes : (n : ℕ) (keys : List ℕ) (i : ℕ) → i < n → is_sound_key (key_in_list keys i) ≡ true → i + 1 ≡ n
+    → (every is_sound_key (drop i (blocks 12 n keys)) && rising (drop i (blocks 12 n keys))) ≡ true
+last-passes n keys i l t e =
+    let p = all_passed n keys i (omega arith) in
+    rw (← key_passes n keys i l t, p.0) p.1
+
 module _ (n : ℕ) (keys : List ℕ) (i : ℕ) (l : i + 1 < n) where
   abbrev here : List ℕ
   here = get_or (blocks 12 n keys) i []

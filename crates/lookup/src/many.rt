@@ -22,7 +22,8 @@ const KEY_WIDTH: usize = 12;
 const NO_PLACE: u32 = 4294967295;
 
 // Whether the first n keys are sound and rise strictly, in one pass. The two numbers of a key are read when it is compared with the one
-// before, and again serve for its own soundness; the state of the key before is not looked up again.
+// before, and again serve for its own soundness; a state known already is not looked up again. The pass ends inside the loop, so that the
+// key's own test has one call.
 fn are_sound_rising(keys: &[u8], n: usize) -> bool
     requires { n * 12 ≤ length keys.now }
     ensures { result ≡ (every is_sound_key (blocks 12 n keys.now) && rising (blocks 12 n keys.now)) }
@@ -30,21 +31,23 @@ fn are_sound_rising(keys: &[u8], n: usize) -> bool
     if n < 1 {
         return true;
     }
+    let mut known = states::FIRST_CODE;
     let mut front = words::eight_number(keys, 0);
     let mut back = words::four_number(keys, 8);
-    if !key::is_sound_key_in(states::FIRST_CODE, front, back) {
-        return false;
-    }
-    for i in 1..n {
-        let at = i * KEY_WIDTH;
+    for i in 0..n {
+        if !key::is_sound_key_in(known, front, back) {
+            return false;
+        }
+        if i + 1 == n {
+            return true;
+        }
+        let at = (i + 1) * KEY_WIDTH;
         let next_front = words::eight_number(keys, at);
         let next_back = words::four_number(keys, at + 8);
         if !byte_order::is_twelve_below_in(front, back, next_front, next_back) {
             return false;
         }
-        if !key::is_sound_key_in(key::state_in(front), next_front, next_back) {
-            return false;
-        }
+        known = key::state_in(front);
         front = next_front;
         back = next_back;
     }
