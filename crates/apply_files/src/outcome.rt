@@ -1,7 +1,7 @@
 // The run over the bytes of the four files.
-ghost use Rattle.std.specs.Prelude.{◌≡◌, ◌≤◌, length};
+ghost use Rattle.std.specs.Prelude.{◌≡◌, true, ◌≤◌, length};
 ghost use Rattle.batch.specs.Apply.{applied_as};
-ghost use Rattle.apply_output.specs.Stop.{run_as};
+ghost use Rattle.apply_output.specs.Stop.{run_as, is_named};
 ghost use Rattle.apply_files.specs.Run.{length_in, lent_length, year_outcome, by_year, run_outcome};
 ghost use Rattle.apply_files.specs.Year.{year_in};
 
@@ -92,9 +92,10 @@ pub fn outcome_of(
     verdicts: &mut [u64; 100],
     rejects: &mut [u8; 24745],
 ) -> Result<Applied, Stop>
-    ensures { run_as result master.new verdicts.new rejects.new
+    ensures outcome { run_as result master.new verdicts.new rejects.new
         ≡ run_outcome m b l y master.old batch.now locals.now year.now
         verdicts.old rejects.old }
+    ensures named { is_named result ≡ true }
 {
     if limits::are_refused(m, b, l, y) {
         return Err(Stop::Files);

@@ -1,16 +1,24 @@
--- What apply-batch answers: what the call does, or 0 where a file is missing or too long. Assumes nothing.
-use Rattle.std.specs.Prelude.{ℕ, List, Result, Ok, Err}
+-- What apply-batch answers: what the call does, or 0 where a file is missing or too long; and the line and files of any number. Assumes nothing.
+use Rattle.std.specs.Prelude.{ℕ, List, Bool, true, false, Result, Ok, Err}
 use Rattle.answers.specs.Answer.{Answer, refused}
 use Rattle.answers.specs.Refusal.{refusal_number_of}
 use Rattle.batch.specs.Apply.{ApplyResult, ApplyOutcome, apply_answer}
 use Rattle.batch.specs.declared.apply.Applied.{Applied}
 use Rattle.apply_output.specs.declared.stop.Stop.{Stop}
-use Rattle.apply_output.specs.declared.stop.Stop.TheVariants.{Files, Refused}
+use Rattle.apply_output.specs.declared.stop.Stop.TheVariants.{Files, Refused, Number}
 
 -- the number that is printed
 abbrev pub stop_number : Stop → ℕ
 stop_number Files = 0
 stop_number (Refused refusal) = refusal_number_of refusal
+stop_number (Number n) = n
+
+-- what a run answers: a number under its name
+abbrev pub is_named : Result Applied Stop → Bool
+is_named (Ok applied) = true
+is_named (Err Files) = true
+is_named (Err (Refused refusal)) = true
+is_named (Err (Number n)) = false
 
 -- what each answer of a run stands for
 abbrev pub run_answer : Result Applied Stop → Answer ApplyResult

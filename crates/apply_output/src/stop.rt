@@ -10,6 +10,8 @@ pub enum Stop {
     // A file is missing, can't be read or is longer than its space, which is printed as 0.
     Files,
     Refused(Refusal),
+    // A number that is told as it is, whether a refusal has it or not. No run answers it.
+    Number(u64),
 }
 
 impl Stop {
@@ -20,6 +22,7 @@ impl Stop {
         match self {
             Stop::Files => 0,
             Stop::Refused(refusal) => refusal.number(),
+            Stop::Number(number) => number,
         }
     }
 }

@@ -1,5 +1,5 @@
 -- `outcome::outcome_of`: what isn't refused is handed on as the files' bytes, and a master.bin that passes fits the 200 rows. Assumes nothing.
-use mathlib.Core.Path.{◌≡◌, sym, ◌∙◌}
+use mathlib.Core.Path.{◌≡◌, refl, sym, ◌∙◌}
 use native.Mathlib.Omega.{arith}
 use lib.ListN.{length}
 use borrow.Author.Rules.{rules}
@@ -10,7 +10,7 @@ use Rattle.apply_files.proofs.outcome.outcome_of.Goals as goal
 
 pub returns-then-are_refused : goal.returns-then-are_refused
 unfolding run_outcome
-returns-then-are_refused c = rw (sym c.are_refused.ensures ∙ c.if-are_refused.true)
+returns-then-are_refused c = rw (sym c.are_refused.ensures ∙ c.if-are_refused.true) (record { outcome = refl; named = refl })
 
 pub with_year_text-requires : goal.with_year_text-requires
 with_year_text-requires c =
@@ -34,7 +34,7 @@ returns-in_err-with_year_text c =
       ← c.first-year_bytes.ensures,
       ← c.length_of-4.ensures,
     )
-    c.in_err-with_year_text.ensures
+    (record { outcome = c.in_err-with_year_text.ensures; named = refl })
 
 pub returns : goal.returns
 unfolding run_outcome
@@ -49,4 +49,4 @@ returns c =
       ← c.first-year_bytes.ensures,
       ← c.length_of-4.ensures,
     )
-    c.in_ok-with_year_text.ensures
+    (record { outcome = c.in_ok-with_year_text.ensures; named = refl })
