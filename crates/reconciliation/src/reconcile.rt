@@ -188,7 +188,8 @@ pub fn reconcile(
     if !states::is_state(state) {
         return Err(Refusal::WrongState);
     }
-    if !calendar::is_date(date) {
+    let right = calendar::is_date(date);
+    if !right {
         return Err(Refusal::WrongDate);
     }
     let cases = count_cases(master, rows, state);

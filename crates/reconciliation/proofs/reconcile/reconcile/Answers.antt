@@ -35,12 +35,12 @@ returns-then-not-is_state c =
     let e : master_refusal max_rows a.master.now a.rows 0 ≡ 0 = sym c.in_ok-master_refusal.ensures in
     reconcile_12 max_rows a.master.now a.rows a.state.now a.date.now a.out.now e (sym c.if-not-is_state.ensures)
 
-pub returns-then-not-is_date : goal.returns-then-not-is_date
-returns-then-not-is_date c =
+pub returns-then-not-right : goal.returns-then-not-right
+returns-then-not-right c =
     let a = c.args in
     let e : master_refusal max_rows a.master.now a.rows 0 ≡ 0 = sym c.in_ok-master_refusal.ensures in
     let s : is_state a.state.now ≡ true = sym c.if-not-is_state.ensures in
-    reconcile_13 max_rows a.master.now a.rows a.state.now a.date.now a.out.now e s (sym c.if-not-is_date.ensures)
+    reconcile_13 max_rows a.master.now a.rows a.state.now a.date.now a.out.now e s (sym c.is_date-right.ensures ∙ c.if-not-right.true)
 
 pub count_cases-cases-requires : goal.count_cases-cases-requires
 count_cases-cases-requires c =
@@ -52,7 +52,7 @@ returns-then-out-cases c =
     let a = c.args in
     let e : master_refusal max_rows a.master.now a.rows 0 ≡ 0 = sym c.in_ok-master_refusal.ensures in
     let s : is_state a.state.now ≡ true = sym c.if-not-is_state.ensures in
-    let d : is_date a.date.now ≡ true = sym c.if-not-is_date.ensures in
+    let d : is_date a.date.now ≡ true = sym c.is_date-right.ensures ∙ c.if-not-right.false in
     reconcile_11 max_rows a.master.now a.rows a.state.now a.date.now a.out.now e s d (omega (arith, c.count_cases-cases.ensures.total_value, c.if-out-cases.true))
 
 pub put_records-records-requires : goal.put_records-records-requires
@@ -66,7 +66,7 @@ pub rct_record-control-requires : goal.rct_record-control-requires
 rct_record-control-requires c =
     let a = c.args in (
       state_wide a.state.now (sym c.if-not-is_state.ensures),
-      date_wide a.date.now (sym c.if-not-is_date.ensures),
+      date_wide a.date.now (sym c.is_date-right.ensures ∙ c.if-not-right.false),
     )
 
 pub overflow_mul-records : goal.overflow_mul-records
@@ -82,7 +82,7 @@ returns c =
     let a = c.args in
     let e : master_refusal max_rows a.master.now a.rows 0 ≡ 0 = sym c.in_ok-master_refusal.ensures in
     let s : is_state a.state.now ≡ true = sym c.if-not-is_state.ensures in
-    let d : is_date a.date.now ≡ true = sym c.if-not-is_date.ensures in
+    let d : is_date a.date.now ≡ true = sym c.is_date-right.ensures ∙ c.if-not-right.false in
     let k = c.count_cases-cases.ensures in
     let p = c.put_records-records in
     let n = holds_count 245 p.ensures in
