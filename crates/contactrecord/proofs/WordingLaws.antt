@@ -98,6 +98,14 @@ contains-front (b ∷ text) s h = rw (take-append_seam (b ∷ text) s, same_self
 abbrev pub are_three : List ℕ → List ℕ → Bool
 are_three word s = eqb (get_or s 0 0) (get_or word 0 0) && (eqb (get_or s 1 0) (get_or word 1 0) && eqb (get_or s 2 0) (get_or word 2 0))
 
+-- the same at the place i
+abbrev pub three_at : List ℕ → List ℕ → ℕ → Bool
+three_at word s i =
+    eqb (get_or s i 0) (get_or word 0 0) && (eqb (get_or s (i + 1) 0) (get_or word 1 0) && eqb (get_or s (i + 2) 0) (get_or word 2 0))
+
+pub three_first : (word s : List ℕ) → three_at word s 0 ≡ are_three word s
+three_first word s = refl
+
 starts_three : (word s : List ℕ) → length word ≡ 3 → 3 ≤ length s → starts_with word s ≡ are_three word (take 3 s)
 unfolding starts_with same_bytes
 starts_three [] s n h = absurd (omega (arith, n))
