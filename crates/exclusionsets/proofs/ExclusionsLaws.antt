@@ -7,17 +7,19 @@ use Prim.Native.Nat.{ℕ, zero, suc, ◌+◌, ◌*◌, ◌/◌, ◌%◌, ◌≤�
 use native.Mathlib.Nat.{not-suc-le-zero, le_of_suc-le-suc}
 use native.Mathlib.Numerals.{add-one}
 use native.Mathlib.Omega.{arith}
-use borrow.Author.Tests.{ltb-true, ltb-false, leb-true, eqb-true, lt-ltb, le-ltb, le-leb, ne_eqb}
+use borrow.Author.Tests.{ltb-true, ltb-false, leb-true, eqb-true, lt-ltb, le-ltb, le-leb, eq-eqb, ne_eqb}
 use lib.Bits.{bit_or}
 use lib.Dec.{eqb, leb, ltb}
 use lib.ListN.{length, get_or, take, drop, length-append, length-take, length-drop, drop_of_length-le, take-append-drop}
+use Rattle.std.proofs.lemmas.List.{get_or-take}
 use lib.Seq.{drop-cons, drop-drop, get_or-drop}
 use Rattle.text.specs.Characters.{A, comma, space, is_byte, within}
 use Rattle.text.specs.Fields.{every, is_blank, same_bytes, spaces, unless_empty}
-use Rattle.exclusionsets.specs.Words.{can_end}
+use Rattle.exclusionsets.specs.Words.{can_end, letters_number, word_number}
 use Rattle.exclusionsets.specs.Exclusions.{exclusion_names, is_separator, words_from, place_among, bits_named, read_onto, names_shown, exclusion_columns}
 use Rattle.text.proofs.FieldsLaws.{and_left, and_right}
 use Rattle.text.proofs.SameLaws.{eq_same, same_eq}
+use Rattle.exclusionsets.proofs.WordsWrittenLaws.{three_bytes}
 
 -- ---- parts and bytes of a list
 
@@ -199,16 +201,25 @@ same_other a b h = go (same_bytes a b) refl
 
 -- letters among the names, name by name
 module _ (word : List ℕ) (n : ℕ) (h : n < 8) where
+  pub place_same : same_bytes word (get_or exclusion_names n []) ≡ true → place_among word (drop n exclusion_names) ≡ 0
+  place_same t = let k : n < length exclusion_names = omega (arith, names_length) in rw (drop-cons exclusion_names n [] k, t)
+
+  pub place_other : same_bytes word (get_or exclusion_names n []) ≡ false
+      → place_among word (drop n exclusion_names) ≡ suc (place_among word (drop (n + 1) exclusion_names))
+  place_other t =
+      let k : n < length exclusion_names = omega (arith, names_length) in rw (drop-cons exclusion_names n [] k, t, add-one n)
+
   pub place_here : word ≡ get_or exclusion_names n [] → place_among word (drop n exclusion_names) ≡ 0
-  place_here e =
-      let k : n < length exclusion_names = omega (arith, names_length) in
-      rw (drop-cons exclusion_names n [] k, eq_same word (get_or exclusion_names n []) e)
+  place_here e = place_same (eq_same word (get_or exclusion_names n []) e)
 
   pub place_next : (word ≡ get_or exclusion_names n [] → ⊥)
       → place_among word (drop n exclusion_names) ≡ suc (place_among word (drop (n + 1) exclusion_names))
-  place_next f =
-      let k : n < length exclusion_names = omega (arith, names_length) in
-      rw (drop-cons exclusion_names n [] k, same_other word (get_or exclusion_names n []) f, add-one n)
+  place_next f = place_other (same_other word (get_or exclusion_names n []) f)
+
+-- behind the eight names there are none
+pub place_end : (word : List ℕ) (n : ℕ) → n ≡ 8 → place_among word (drop n exclusion_names) ≡ 0
+unfolding exclusion_names
+place_end word n e = rw e
 
 -- the word at its place
 place_found : (word : List ℕ) (names : List (List ℕ)) → place_among word names < length names → word ≡ get_or names (place_among word names) []
@@ -241,14 +252,17 @@ module _ (s : List ℕ) (i : ℕ) where
       let d : drop i s ≡ t.x ∷ t.y ∷ t.z ∷ drop (i + 3) s = sym (take-append-drop 3 (drop i s)) ∙ rw (← r, t.bytes, drop-drop 3 i s) in
       rw (d, no_separator t.x t.first.0, no_separator t.y t.second.0, no_separator t.z t.third.0, first_none s (i + 3) g) (sym t.bytes)
 
-  -- one of the eight words ends behind three bytes
-  named_ends : place_among (first_word (drop i s)) exclusion_names < 8 → (can_end s (i + 3) ≡ true) × (take 3 (drop i s) ≡ first_word (drop i s))
-  named_ends h =
-      let t = named_three (first_word (drop i s)) h in
+  -- a word of three letters ends behind three bytes
+  three_ends : Three (first_word (drop i s)) → (can_end s (i + 3) ≡ true) × (take 3 (drop i s) ≡ first_word (drop i s))
+  three_ends t =
       let n : length (first_word (drop i s)) ≡ 3 = ap length t.bytes in
       let k : i + 3 ≤ length s = omega (arith, n, first_within (drop i s), length-drop i s) in
       let g : is_separator (get_or s (i + 3) space) ≡ true = rw (n, get_or-drop i s 3 space) at (first_stop (drop i s)) in
       (rw (le-leb (i + 3) (length s) k) g, rw n at (first_taken (drop i s)))
+
+  -- and one of the eight
+  named_ends : place_among (first_word (drop i s)) exclusion_names < 8 → (can_end s (i + 3) ≡ true) × (take 3 (drop i s) ≡ first_word (drop i s))
+  named_ends h = three_ends (named_three (first_word (drop i s)) h)
 
   -- so three bytes behind which a word can end are the word where they are one of the eight, and else the word is none of them
   pub named_word : (w : List ℕ) → w ≡ take 3 (drop i s) → can_end s (i + 3) ≡ true → place_among w exclusion_names < 8 → first_word (drop i s) ≡ w
@@ -262,28 +276,104 @@ module _ (s : List ℕ) (i : ℕ) where
   pub none_named : (can_end s (i + 3) ≡ true → ⊥) → place_among (first_word (drop i s)) exclusion_names < 8 → ⊥
   none_named f h = f (named_ends h).0
 
-  -- the words behind one of the eight start behind its separator
-  name_behind : place_among (first_word (drop i s)) exclusion_names < 8
-      → words_from [] (drop (length (first_word (drop i s))) (drop i s)) ≡ words_from [] (drop (i + 4) s)
-  name_behind h =
-      let t = named_three (first_word (drop i s)) h in
+  -- the words behind one of three letters start behind its separator
+  three_behind : Three (first_word (drop i s)) → words_from [] (drop (length (first_word (drop i s))) (drop i s)) ≡ words_from [] (drop (i + 4) s)
+  three_behind t =
       let l : length (first_word (drop i s)) ≡ 3 = ap length t.bytes in
       let k : is_separator (get_or s (i + 3) space) ≡ true = rw (l, get_or-drop i s 3 space) at (first_stop (drop i s)) in
       let m : i + 3 + 1 ≡ i + 4 = omega arith in
       rw (l, drop-drop 3 i s) (word_behind s (i + 3) k ∙ rw m)
 
+  -- and behind one of the eight
+  named_behind : place_among (first_word (drop i s)) exclusion_names < 8
+      → words_from [] (drop (length (first_word (drop i s))) (drop i s)) ≡ words_from [] (drop (i + 4) s)
+  named_behind h = three_behind (named_three (first_word (drop i s)) h)
+
   -- ---- the words read onto a set
 
-  pub read_word : (set : ℕ) → i < length s → is_separator (get_or s i 0) ≡ false → place_among (first_word (drop i s)) exclusion_names < 8
+  pub read_word_at : (set : ℕ) → i < length s → is_separator (get_or s i 0) ≡ false → place_among (first_word (drop i s)) exclusion_names < 8
       → read_onto set (words_from [] (drop i s))
       ≡ read_onto (bit_or set (bits_named (place_among (first_word (drop i s)) exclusion_names))) (words_from [] (drop (i + 4) s))
   unfolding read_onto
-  read_word set h e k = rw (word_here s i h e, lt-ltb (place_among (first_word (drop i s)) exclusion_names) 8 k, name_behind k)
+  read_word_at set h e k = rw (word_here s i h e, lt-ltb (place_among (first_word (drop i s)) exclusion_names) 8 k, named_behind k)
 
-  pub read_fails : (set : ℕ) → i < length s → is_separator (get_or s i 0) ≡ false → (place_among (first_word (drop i s)) exclusion_names < 8 → ⊥)
+  pub read_fails_at : (set : ℕ) → i < length s → is_separator (get_or s i 0) ≡ false → (place_among (first_word (drop i s)) exclusion_names < 8 → ⊥)
       → read_onto set (words_from [] (drop i s)) ≡ none
   unfolding read_onto
-  read_fails set h e k = rw (word_here s i h e, le-ltb (place_among (first_word (drop i s)) exclusion_names) 8 (omega arith))
+  read_fails_at set h e k = rw (word_here s i h e, le-ltb (place_among (first_word (drop i s)) exclusion_names) 8 (omega arith))
+
+-- any word before any others
+module _ (set : ℕ) (word : List ℕ) (words : List (List ℕ)) (n : ℕ) (e : place_among word exclusion_names ≡ n) where
+  pub read_word : n < 8 → read_onto set (word ∷ words) ≡ read_onto (bit_or set (bits_named n)) words
+  unfolding read_onto
+  read_word h = rw (e, lt-ltb n 8 h)
+
+  pub read_fails : n ≡ 8 → read_onto set (word ∷ words) ≡ none
+  unfolding read_onto
+  read_fails h = rw (e, h)
+
+-- ---- a word and a name as numbers
+
+module _ (a b : List ℕ) (p : length a ≡ 3) (q : length b ≡ 3) where
+  same_letters : (get_or a 0 0 < 256) × (get_or a 1 0 < 256) × (get_or a 2 0 < 256) → (get_or b 0 0 < 256) × (get_or b 1 0 < 256) × (get_or b 2 0 < 256)
+      → letters_number a ≡ letters_number b → a ≡ b
+  same_letters h k e =
+      let x : get_or a 0 0 ≡ get_or b 0 0 = omega arith in
+      let y : get_or a 1 0 ≡ get_or b 1 0 = omega arith in
+      let z : get_or a 2 0 ≡ get_or b 2 0 = omega arith in
+      sym (three_bytes a p) ∙ rw (x, y, z) (three_bytes b q)
+
+  pub letters_same : (get_or a 0 0 < 256) × (get_or a 1 0 < 256) × (get_or a 2 0 < 256)
+      → (get_or b 0 0 < 256) × (get_or b 1 0 < 256) × (get_or b 2 0 < 256)
+      → eqb (letters_number a) (letters_number b) ≡ same_bytes a b
+  letters_same h k = go (same_bytes a b) refl
+    where
+      go : (t : Bool) → same_bytes a b ≡ t → eqb (letters_number a) (letters_number b) ≡ t
+      go true e = eq-eqb (letters_number a) (letters_number b) (ap letters_number (same_eq a b e))
+      go false e = ne_eqb (letters_number a) (letters_number b) (λ n. false≢true (sym e ∙ eq_same a b (same_letters h k n)))
+
+-- a name's bytes, of which the first is not 0
+name_bytes : (name : List ℕ) → Three name → (0 < get_or name 0 0) × (get_or name 0 0 < 256) × (get_or name 1 0 < 256) × (get_or name 2 0 < 256)
+name_bytes name t =
+    rw t.bytes (omega (arith, t.first.0), omega (arith, t.first.1), omega (arith, t.second.1), omega (arith, t.third.1))
+
+-- the word at i is the name at place n where they have one number
+module _ (s : List ℕ) (i n : ℕ) (h : n < 8) where
+  pub number_here : ((k : ℕ) → get_or s k 0 < 256) → letters_number (get_or exclusion_names n []) ≡ word_number s i
+      → same_bytes (first_word (drop i s)) (get_or exclusion_names n []) ≡ true
+  number_here bytes e = go (can_end s (i + 3)) refl e
+    where
+      byte : (k : ℕ) → k < 3 → get_or (take 3 (drop i s)) k 0 < 256
+      byte k l = rw (get_or-take 3 (drop i s) k 0 l, get_or-drop i s k 0) (bytes (i + k))
+
+      go : (t : Bool) → can_end s (i + 3) ≡ t → letters_number (get_or exclusion_names n []) ≡ cond t (letters_number (take 3 (drop i s))) 0
+          → same_bytes (first_word (drop i s)) (get_or exclusion_names n []) ≡ true
+      go false f e = absurd (omega (arith, e, (name_bytes (get_or exclusion_names n []) (name_is_three n h)).0))
+      go true f e =
+          let t = name_is_three n h in
+          let l : length (take 3 (drop i s)) ≡ 3 =
+          let g = leb-true (i + 3) (length s) (and_left (leb (i + 3) (length s)) (is_separator (get_or s (i + 3) space)) f) in
+          omega (arith, g, length-take 3 (drop i s), length-drop i s) in
+          let b = name_bytes (get_or exclusion_names n []) t in
+          let w =
+          same_eq (get_or exclusion_names n []) (take 3 (drop i s))
+          (sym (letters_same (get_or exclusion_names n []) (take 3 (drop i s)) (ap length t.bytes) l (b.1, b.2, b.3) (byte 0 (omega arith), byte 1 (omega arith), byte 2 (omega arith)))
+          ∙ eq-eqb (letters_number (get_or exclusion_names n [])) (letters_number (take 3 (drop i s))) e) in
+          eq_same (first_word (drop i s)) (get_or exclusion_names n []) (three_here s i (get_or exclusion_names n []) w t f)
+
+  pub number_other : (letters_number (get_or exclusion_names n []) ≡ word_number s i → ⊥)
+      → same_bytes (first_word (drop i s)) (get_or exclusion_names n []) ≡ false
+  number_other f = same_other (first_word (drop i s)) (get_or exclusion_names n []) (λ e. f (numbers e))
+    where
+      numbers : first_word (drop i s) ≡ get_or exclusion_names n [] → letters_number (get_or exclusion_names n []) ≡ word_number s i
+      numbers e =
+          let r = three_ends s i (rw e (name_is_three n h)) in
+          rw r.0 (ap letters_number (sym e ∙ sym r.1))
+
+  -- the words behind it start behind its separator
+  pub name_behind : same_bytes (first_word (drop i s)) (get_or exclusion_names n []) ≡ true
+      → words_from [] (drop (length (first_word (drop i s))) (drop i s)) ≡ words_from [] (drop (i + 4) s)
+  name_behind e = three_behind s i (rw (same_eq (first_word (drop i s)) (get_or exclusion_names n []) e) (name_is_three n h))
 
 -- ---- the columns of a set
 

@@ -5,7 +5,7 @@ ghost use Rattle.exclusionsets.specs.ExclusionText.{is_widened, exclusion_field}
 ghost use Rattle.exclusionsets.specs.WordsWritten.{word_at};
 ghost use Rattle.text.specs.Fields.{spaces};
 ghost use Rattle.exclusionsets.specs.Exclusions.{exclusion_names, is_separator, words_from, bits_named, exclusions_of, set_read, exclusion_columns};
-ghost use Rattle.exclusionsets.specs.Words.{can_end, letters_of, bits_of};
+ghost use Rattle.exclusionsets.specs.Words.{can_end, letters_of, bits_of, letters_number, word_number};
 
 use text::fields;
 
@@ -53,11 +53,11 @@ const WORDS: [Word; 8] = [
 ];
 
 // The words.
-fn words() -> [Word; 8]
-    ensures letters { map letters_of result ≡ exclusion_names }
-    ensures bits { (n : ℕ) → n < 8 → get_or (map bits_of result) n 0 ≡ bits_named n }
+fn words() -> &'static [Word; 8]
+    ensures letters { map letters_of result.now ≡ exclusion_names }
+    ensures bits { (n : ℕ) → n < 8 → get_or (map bits_of result.now) n 0 ≡ bits_named n }
 {
-    WORDS
+    &WORDS
 }
 
 // Whether a byte parts words.
@@ -90,6 +90,24 @@ fn three_at(s: &[u8], at: usize) -> Option<[u8; 3]>
         Some([s[at], s[at + 1], s[at + 2]])
     } else {
         None
+    }
+}
+
+// Three letters as a number, the first the highest.
+fn number_of(letters: [u8; 3]) -> u32
+    ensures { result ≡ letters_number letters }
+{
+    (u32::from(letters[0]) * 256 + u32::from(letters[1])) * 256 + u32::from(letters[2])
+}
+
+// The three bytes from `at` on as a number where a word can end behind them; else 0, which is no word's number.
+fn word_number(s: &[u8], at: usize) -> u32
+    requires { at < length s.now }
+    ensures { result ≡ word_number s.now at }
+{
+    match three_at(s, at) {
+        Some(letters) => number_of(letters),
+        None => 0,
     }
 }
 
@@ -143,15 +161,19 @@ fn read_words(s: &[u8]) -> Option<u8>
             at += 1;
             continue 'words;
         }
-        let letters = three_at(s, at)?;
-        'names: for word in &table {
-            if word.letters == letters {
+        let number = word_number(s, at);
+        let mut n = 0;
+        'names: loop {
+            let Some(word) = table.get(n) else {
+                break 'words None;
+            };
+            if number_of(word.letters) == number {
                 set |= word.bits;
                 at += 4;
                 continue 'words;
             }
+            n += 1;
         }
-        break 'words None;
     }
 }
 
@@ -220,7 +242,7 @@ pub fn exclusion_field(set: u8) -> [u8; 40]
     let mut out = [0x40u8; 40];
     let mut left = set;
     let mut at = 0;
-    for word in &words() {
+    for word in words() {
         at = put_word(&mut out, at, left % 2 == 1, word.letters);
         left /= 2;
     }

@@ -24,7 +24,7 @@ loop-word-preserved c =
     let name = get_or exclusion_names l.word-index [] in
     let on = eqb (l.left % 2) 1 in
     let k = name_three l.word-index (search rules) in
-    let e = sym (get_or-map letters_of c.words.result l.word-index record { letters = []; bits = 0 }) ∙ ap (λ (x : List (List ℕ)). get_or x l.word-index []) c.words.ensures.letters in
+    let e = sym (get_or-map letters_of c.words-word-items.result.now l.word-index record { letters = []; bits = 0 }) ∙ ap (λ (x : List (List ℕ)). get_or x l.word-index []) c.words-word-items.ensures.letters in
     let room : l.at + 4 ≤ length out = omega arith in
     let p : IsPut out l.at on name w.new.out w.result = rw (← e) w.ensures in
     let n = word_end out w.new.out l.at w.result on name k room p in
