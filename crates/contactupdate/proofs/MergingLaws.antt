@@ -12,7 +12,8 @@ use Prim.Native.Nat.{ℕ, zero, suc, ◌+◌, ◌-◌, ◌*◌, ◌/◌, ◌≤�
 use native.Mathlib.Omega.{arith}
 use lib.Dec.{eqb, eqb-suc-zero}
 use mir.Val.{bool_byte}
-use Rattle.std.specs.List.{filter, zip}
+use Rattle.std.specs.List.{filter, sum_by, zip}
+use Rattle.std.proofs.lemmas.List.Sums.{sum_by-cons}
 use lib.ListN.{length, get_or, take, drop, length-append, length-take, length-drop, drop_of_length-le}
 use lib.Seq.{drop-cons, take_at, drop_at, take-take, length-take-le, get_or_at}
 use Rattle.text.proofs.BlocksLaws.{length-blocks, blocks_get, blocks_prefix, take-blocks}
@@ -83,6 +84,35 @@ module _ (held lasts : List ℕ) where
       go (suc zero) zero l r = omega (arith, r)
       go (suc zero) (suc last) l r = rw (eqb-suc-zero last) (omega (arith, r))
       go (suc (suc mark)) last l r = absurd (omega arith)
+
+-- a pair's test as a number
+abbrev pub present_number : ℕ × ℕ → ℕ
+present_number p = bool_byte (is_present p.0 p.1)
+
+-- the tests as numbers, summed
+pub present_sum : (held lasts : List ℕ) → length held ≡ length lasts → ((j : ℕ) → get_or held j 0 ≤ 1)
+    → sum_by present_number (zip held lasts) ≡ present_from 0 (length held) held lasts
+present_sum held lasts w h = counted (zip held lasts) ∙ present_zip held lasts (length held) 0 (omega arith) w h
+  where
+    counted : (ps : List (ℕ × ℕ)) → sum_by present_number ps ≡ length (filter (λ (p : ℕ × ℕ). is_present p.0 p.1) ps)
+    counted [] = refl
+    counted (p ∷ ps) = sum_by-cons present_number p ps ∙ go (is_present p.0 p.1) (counted ps)
+      where
+        go : (t : Bool) → sum_by present_number ps ≡ length (filter (λ (q : ℕ × ℕ). is_present q.0 q.1) ps)
+            → bool_byte t + sum_by present_number ps
+            ≡ length (cond t (p ∷ filter (λ (q : ℕ × ℕ). is_present q.0 q.1) ps) (filter (λ (q : ℕ × ℕ). is_present q.0 q.1) ps))
+        go true e = omega (arith, e)
+        go false e = omega (arith, e)
+
+-- at most as many as keys
+pub present_few : (held lasts : List ℕ) (d k : ℕ) → ((j : ℕ) → get_or held j 0 ≤ 1) → present_from k d held lasts ≤ d
+unfolding present_from present_of
+present_few held lasts zero k h = omega arith
+present_few held lasts (suc d) k h = go (eqb (get_or lasts k 0) 0) (present_few held lasts d (suc k) h)
+  where
+    go : (t : Bool) → present_from (suc k) d held lasts ≤ d → cond t (get_or held k 0) 1 + present_from (suc k) d held lasts ≤ suc d
+    go true e = omega (arith, e, h k)
+    go false e = omega (arith, e)
 
 -- ---- what is spread, from its end
 

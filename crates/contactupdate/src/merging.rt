@@ -22,8 +22,8 @@ pub fn count_present(held: &[u8], lasts: &[u32]) -> usize
 {
     held.iter()
         .zip(lasts)
-        .filter(|(held, last)| is_present(**held, **last))
-        .count()
+        .map(|(held, last)| is_present(*held, *last) as usize)
+        .sum()
 }
 
 // Writes the record that a key gets at place p, where it gets one. One of the table goes through a copy, since it mostly stays where it is, and
