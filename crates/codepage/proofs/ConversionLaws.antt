@@ -77,6 +77,18 @@ counterparts_entries table (b ∷ bs) e =
     let h = passes_head (code_in table) b bs e in
     rw (h.1, code-entry table b h.0 h.1) (ap (λ (l : List ℕ). h.0 ∷ l) (counterparts_entries table bs (passes_tail (code_in table) b bs e)))
 
+-- ---- the place of a byte without a counterpart lies inside
+
+inside_behind : (n : ℕ) (o q : Option ℕ) → ((p : ℕ) → q ≡ some p → p < n) → (p : ℕ) → place_behind o q ≡ some p → p < suc n
+inside_behind n none q h p e = let z : 0 ≡ p = cc in omega arith
+inside_behind n (some c) none h p e = let z : ◌≡◌ {A = ℕ} 0 1 = cc in absurd (omega arith)
+inside_behind n (some c) (some r) h p e = let z : suc r ≡ p = cc in omega (arith, h r refl)
+
+pub bad_inside : (code : ℕ → Option ℕ) (s : List ℕ) (p : ℕ) → place_without code s ≡ some p → p < length s
+unfolding place_without
+bad_inside code [] p e = let z : ◌≡◌ {A = ℕ} 0 1 = cc in absurd (omega arith)
+bad_inside code (b ∷ bs) p e = inside_behind (length bs) (code b) (place_without code bs) (bad_inside code bs) p e
+
 -- ---- the outcome, in the order of the refusals
 
 module _ (code : ℕ → Option ℕ) (input out : List ℕ) where
