@@ -53,7 +53,8 @@ fn convert(
     requires { passed ≡ true → place_without (code_in table.now) input.now ≡ none }
     ensures { converted_as result out.new ≡ conversion_outcome (code_in table.now) input.now out.old }
 {
-    if let Some(place) = place_unless_passed(table, input, passed) {
+    let place = place_unless_passed(table, input, passed).unwrap_or(input.len());
+    if place < input.len() {
         return Err(ConversionError::NoCounterpart(place));
     }
     if out.len() < input.len() {
