@@ -53,6 +53,7 @@ fn convert(
     requires { passed ≡ true → place_without (code_in table.now) input.now ≡ none }
     ensures { converted_as result out.new ≡ conversion_outcome (code_in table.now) input.now out.old }
 {
+    // Where every byte has a counterpart the place is the input's length.
     let place = place_unless_passed(table, input, passed).unwrap_or(input.len());
     if place < input.len() {
         return Err(ConversionError::NoCounterpart(place));
