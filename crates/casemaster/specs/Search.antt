@@ -1,6 +1,6 @@
 -- For the contracts of inner functions; no rule of the papers stands here.
 -- What a search for a key among rows answers, and rows put in, pulled down and moved up. Assumes nothing.
-use Rattle.std.specs.Prelude.{ℕ, ◌+◌, ◌*◌, ◌≤◌, ◌<◌, ◌≡◌, Bool, true, false, ◌⊎◌, List, [], ◌∷◌, ◌++◌, length, take, drop, Result, Ok, Err}
+use Rattle.std.specs.Prelude.{ℕ, ◌+◌, ◌-◌, ◌*◌, ◌≤◌, ◌<◌, ◌≡◌, Bool, true, false, ◌⊎◌, List, [], ◌∷◌, ◌++◌, length, take, drop, Result, Ok, Err}
 use Rattle.std.proofs.Math.Option.{none, some}
 use Rattle.casemaster.specs.Row.{row_key}
 use Rattle.casemaster.specs.Master.{rows_of}
@@ -10,6 +10,10 @@ use Rattle.text.specs.ByteOrder.{order_of, is_less}
 -- a row put in at place p, those from p on one place up
 abbrev pub inserted : ℕ → List ℕ → List (List ℕ) → List (List ℕ)
 inserted p row rows = take p rows ++ row ∷ drop p rows
+
+-- the bytes from a up to e moved g places up; those below a + g and from e + g on are kept
+unfoldable pub shifted : List ℕ → ℕ → ℕ → ℕ → List ℕ
+shifted bytes a e g = take (a + g) bytes ++ (take (e - a) (drop a bytes) ++ drop (e + g) bytes)
 
 -- no row has the key, and p is where a row of that key goes
 pub record IsGap (p : ℕ) (key : List ℕ) (rows : List (List ℕ)) : Type 0 where

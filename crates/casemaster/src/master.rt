@@ -39,7 +39,7 @@ pub fn pull_rows(m: &mut [u8], from: usize, to: usize, count: usize)
     m.copy_within(from * ROW_WIDTH..(from + count) * ROW_WIDTH, to * ROW_WIDTH);
 }
 
-// Moves the first n rows `by` places up.
+// Moves the first n rows `by` places up, the last first.
 pub fn shift_rows(m: &mut [u8], n: usize, by: usize)
     requires { (n + by) * 200 ≤ length m.old }
     ensures { Raised m.old n by m.new }
@@ -47,7 +47,10 @@ pub fn shift_rows(m: &mut [u8], n: usize, by: usize)
     if by == 0 {
         return;
     }
-    m.copy_within(0..n * ROW_WIDTH, by * ROW_WIDTH);
+    for i in (0..n).rev() {
+        let from = i * ROW_WIDTH;
+        m.copy_within(from..from + ROW_WIDTH, (i + by) * ROW_WIDTH);
+    }
 }
 
 // Whether the first n rows are sound and in strictly rising order of key, in one pass. The two numbers of a row's key are read when it is
