@@ -1,6 +1,6 @@
 -- Laws of reconciliation: the fields that make a REC and an RCT record, the records and the counts from any row on, and the buffer that
 -- the records are written to. Assumes nothing.
-use Prim.Native.Nat.{ℕ, ◌+◌, ◌-◌, ◌*◌, ◌≤◌, ◌<◌}
+use Prim.Native.Nat.{ℕ, ◌+◌, ◌-◌, ◌*◌, ◌/◌, ◌≤◌, ◌<◌}
 use mathlib.Core.Path.{◌≡◌, refl, sym, ap, ◌∙◌}
 use mathlib.Core.List.{List, [], ◌∷◌, ◌++◌, map, append_assoc, append-nil}
 use mathlib.Core.Bool.{Bool, true, false, cond, ◌&&◌}
@@ -8,12 +8,14 @@ use native.Mathlib.Omega.{arith}
 use borrow.Rule.Slice.PartMut.{put_mid, Post-is}
 use lib.Dec.{eqb, lit≤}
 use lib.ListN.{length, get_or, take, drop, length-append, drop_of_length-le}
+use Rattle.std.specs.Simd.{first_chunks}
 use Rattle.text.specs.Characters.{A, N}
 use Rattle.text.specs.Fields.{placed, digit_field, spaces}
 use Rattle.exclusionsets.specs.Exclusions.{exclusion_columns}
 use Rattle.text.specs.Blocks.{blocks, spliced, Holds}
 use Rattle.casemaster.specs.Row.{row_exclusions}
-use Rattle.casemaster.specs.Master.{rows_of, rows_that}
+use Rattle.casemaster.specs.Master.{rows_of, rows_that, row_in}
+use Rattle.casemaster.proofs.PassLaws.{chunk_in, length-chunks}
 use Rattle.text.proofs.FieldsLaws.{one_column}
 use Rattle.text.proofs.NumberLaws.{length_digits}
 use Rattle.text.proofs.BlocksLaws.{blocks-next, length-blocks, holds_append}
@@ -141,6 +143,22 @@ module _ (state : List ℕ) where
       pub reported_end : n ≤ i → reported_of case_type state (drop i (rows_of n m)) ≡ 0
       unfolding reported_of
       reported_end l = rw (drop_of_length-le (rows_of n m) {i = i} (rw (length-blocks 200 n m) l))
+
+-- ---- the walk over the first n rows, as arrays of the master
+
+module _ (n : ℕ) (m : List ℕ) (all : List (List ℕ)) (e : all ≡ first_chunks 200 (length m / 200) m) (h : n * 200 ≤ length m) where
+  -- it has n turns
+  pub walk-length : length (take n all) ≡ n
+  walk-length =
+      let z : n - 0 ≡ n = omega arith in
+      rw z at (length-chunks m all e 0 n h)
+
+  -- the array of a turn is the row
+  pub walk_row : (i : ℕ) → i < n → get_or (take n all) i [] ≡ row_in m i
+  walk_row i l =
+      let z : n - 0 ≡ n = omega arith in
+      let p : 0 + i ≡ i = omega arith in
+      rw (z, p) at (chunk_in m all e 0 n h i [] (omega arith))
 
 -- ---- the buffer
 

@@ -53,10 +53,11 @@ fn count_cases(m: &[u8], n: usize, state: &[u8]) -> Cases
     ensures tanf_value { result.tanf ≡ reported_of Characters.A state.now (rows_of n m.now) }
     ensures non_tanf_value { result.non_tanf ≡ reported_of Characters.N state.now (rows_of n m.now) }
 {
+    let (rows, _) = m.as_chunks::<ROW_WIDTH>();
     let mut total: usize = 0;
     let mut tanf: usize = 0;
     let mut non_tanf: usize = 0;
-    for row in m[..n * ROW_WIDTH].chunks_exact(ROW_WIDTH) {
+    for row in &rows[..n] {
         let case_type = row[11];
         let reported = is_reported(row, state);
         total += counting::one_if(reported);
@@ -83,12 +84,14 @@ fn copy_field(rec: &mut [u8], to: Columns, row: &[u8], from: Columns)
     fields::put(rec, to, &bytes[0..width]);
 }
 
-// The front of a REC record: who the case is.
+// The front of a REC record: who the case is. REC goes by way of an array too: of a constant the compiler can't know that the record
+// doesn't lie over it.
 fn put_identity(rec: &mut [u8], row: &[u8])
     requires { (length rec.old ≡ 245) × (length row.now ≡ 200) }
     ensures { rec.new ≡ with_identity row.now rec.old }
 {
-    fields::put(rec, chart_06::IDENTIFIER, b"\xD9\xC5\xC3");
+    let identifier = [0xD9, 0xC5, 0xC3];
+    fields::put(rec, chart_06::IDENTIFIER, &identifier);
     copy_field(rec, chart_06::STATE, row, row::STATE);
     copy_field(rec, chart_06::LOCAL_CODE, row, row::LOCAL_CODE);
     copy_field(rec, chart_06::SSN, row, row::SSN);
@@ -165,8 +168,9 @@ fn put_records(out: &mut [u8], m: &[u8], n: usize, state: &[u8]) -> usize
     requires { (n * 200 ≤ length m.now) × (length (rec_records state.now (rows_of n m.now)) * 245 ≤ length out.old) }
     ensures { Holds 245 out.old out.new result (rec_records state.now (rows_of n m.now)) }
 {
+    let (rows, _) = m.as_chunks::<ROW_WIDTH>();
     let mut k: usize = 0;
-    for row in m[..n * ROW_WIDTH].chunks_exact(ROW_WIDTH) {
+    for row in &rows[..n] {
         k = put_record(out, k, row, state);
     }
     k

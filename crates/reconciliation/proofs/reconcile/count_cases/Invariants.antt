@@ -9,7 +9,7 @@ use Rattle.reconciliation.proofs.reconcile.count_cases.Given as goal
 
 abbrev pub invariant-loop-row : goal.invariant-loop-row
 invariant-loop-row l =
-    (l.total ≤ length l.yielded) × (l.tanf ≤ length l.yielded) × (l.non_tanf ≤ length l.yielded)
-    × (l.total + length (rec_records l.state (drop (length l.yielded) (rows_of l.n l.m))) ≡ length (rec_records l.state (rows_of l.n l.m)))
-    × (l.tanf + reported_of A l.state (drop (length l.yielded) (rows_of l.n l.m)) ≡ reported_of A l.state (rows_of l.n l.m))
-    × (l.non_tanf + reported_of N l.state (drop (length l.yielded) (rows_of l.n l.m)) ≡ reported_of N l.state (rows_of l.n l.m))
+    (l.total ≤ l.row-index) × (l.tanf ≤ l.row-index) × (l.non_tanf ≤ l.row-index)
+    × (l.total + length (rec_records l.state (drop l.row-index (rows_of l.n l.m))) ≡ length (rec_records l.state (rows_of l.n l.m)))
+    × (l.tanf + reported_of A l.state (drop l.row-index (rows_of l.n l.m)) ≡ reported_of A l.state (rows_of l.n l.m))
+    × (l.non_tanf + reported_of N l.state (drop l.row-index (rows_of l.n l.m)) ≡ reported_of N l.state (rows_of l.n l.m))
