@@ -194,7 +194,8 @@ fn name_columns(name: [u8; 3], on: bool) -> [u8; 3]
     [0x40; 3]
 }
 
-// The eight names of a set in three columns each: letters where the bit is set, else spaces.
+// The eight names of a set in three columns each: letters where the bit is set, else spaces. The three bytes are taken one by one: an array
+// that is only copied as a block would be put into memory first.
 pub fn exclusion_columns(set: u8) -> [u8; 24]
     ensures { result ≡ exclusion_columns set }
 {
@@ -205,7 +206,7 @@ pub fn exclusion_columns(set: u8) -> [u8; 24]
     let mut left = set;
     for (n, word) in words().iter().enumerate() {
         let name = name_columns(word.letters, left % 2 == 1);
-        fields::copy_in(&mut out, n * 3, &name);
+        fields::copy_in(&mut out, n * 3, &[name[0], name[1], name[2]]);
         left /= 2;
     }
     out

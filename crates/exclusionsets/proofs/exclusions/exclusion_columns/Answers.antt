@@ -13,6 +13,7 @@ use Rattle.exclusionsets.specs.Exclusions.{exclusion_names, exclusion_columns}
 use Rattle.exclusionsets.specs.Words.{letters_of}
 use Rattle.text.proofs.SplicedLaws.{take_through}
 use Rattle.exclusionsets.proofs.ExclusionsLaws.{shown_step, shown_end, columns_none}
+use Rattle.exclusionsets.proofs.WordsWrittenLaws.{three_bytes}
 use Rattle.exclusionsets.proofs.exclusions.exclusion_columns.Goals as goal
 
 pub returns-then-set-eq0 : goal.returns-then-set-eq0
@@ -31,7 +32,7 @@ loop-n-preserved c =
     let k = c.name_columns-name in
     let w : length k.result ≡ 3 = search rules in
     let r : k.result ≡ cond (eqb (l.left % 2) 1) (get_or exclusion_names l.n []) (spaces 3) = k.ensures ∙ ap (λ (x : List ℕ). cond (eqb (l.left % 2) 1) x (spaces 3)) (sym (get_or-map letters_of c.words-word-items.result.now l.n record { letters = []; bits = 0 }) ∙ ap (λ (x : List (List ℕ)). get_or x l.n []) c.words-word-items.ensures.letters) in
-    let e : c.copy_in.new.dst ≡ spliced l.out (l.n * 3) k.result = c.copy_in.ensures in
+    let e : c.copy_in.new.dst ≡ spliced l.out (l.n * 3) k.result = c.copy_in.ensures ∙ ap (spliced l.out (l.n * 3)) (three_bytes k.result w) in
     let f : take ((l.n + 1) * 3) c.copy_in.new.dst ≡ take (l.n * 3) l.out ++ k.result =
     ap (take ((l.n + 1) * 3)) e ∙ take_through l.out (l.n * 3) k.result ((l.n + 1) * 3) (omega arith) (omega arith) in (
       search rules,
