@@ -85,24 +85,23 @@ module _ (held lasts : List ℕ) where
       go (suc zero) (suc last) l r = rw (eqb-suc-zero last) (omega (arith, r))
       go (suc (suc mark)) last l r = absurd (omega arith)
 
--- a pair's test as a number
+-- what a pair counts
 abbrev pub present_number : ℕ × ℕ → ℕ
-present_number p = bool_byte (is_present p.0 p.1)
+present_number p = present_of p.0 p.1
 
--- the tests as numbers, summed
-pub present_sum : (held lasts : List ℕ) → length held ≡ length lasts → ((j : ℕ) → get_or held j 0 ≤ 1)
-    → sum_by present_number (zip held lasts) ≡ present_from 0 (length held) held lasts
-present_sum held lasts w h = counted (zip held lasts) ∙ present_zip held lasts (length held) 0 (omega arith) w h
+-- the pairs summed
+pub present_sum : (held lasts : List ℕ) → length held ≡ length lasts → sum_by present_number (zip held lasts) ≡ present_from 0 (length held) held lasts
+unfolding present_from
+present_sum held lasts w = go (length held) 0 (omega arith)
   where
-    counted : (ps : List (ℕ × ℕ)) → sum_by present_number ps ≡ length (filter (λ (p : ℕ × ℕ). is_present p.0 p.1) ps)
-    counted [] = refl
-    counted (p ∷ ps) = sum_by-cons present_number p ps ∙ go (is_present p.0 p.1) (counted ps)
-      where
-        go : (t : Bool) → sum_by present_number ps ≡ length (filter (λ (q : ℕ × ℕ). is_present q.0 q.1) ps)
-            → bool_byte t + sum_by present_number ps
-            ≡ length (cond t (p ∷ filter (λ (q : ℕ × ℕ). is_present q.0 q.1) ps) (filter (λ (q : ℕ × ℕ). is_present q.0 q.1) ps))
-        go true e = omega (arith, e)
-        go false e = omega (arith, e)
+    go : (d k : ℕ) → k + d ≡ length held → sum_by present_number (zip (drop k held) (drop k lasts)) ≡ present_from k d held lasts
+    go zero k e = rw (drop_of_length-le held {i = k} (omega arith)) refl
+    go (suc d) k e =
+        let i : k < length held = omega arith in
+        let j : k < length lasts = omega arith in
+        rw (drop-cons held k 0 i, drop-cons lasts k 0 j)
+        (sum_by-cons present_number (get_or held k 0, get_or lasts k 0) (zip (drop (suc k) held) (drop (suc k) lasts))
+        ∙ ap (λ (z : ℕ). present_of (get_or held k 0) (get_or lasts k 0) + z) (go d (suc k) (omega arith)))
 
 -- at most as many as keys
 pub present_few : (held lasts : List ℕ) (d k : ℕ) → ((j : ℕ) → get_or held j 0 ≤ 1) → present_from k d held lasts ≤ d

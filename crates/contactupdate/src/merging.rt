@@ -2,17 +2,20 @@
 ghost use Rattle.std.specs.Prelude.{◌≡◌, ℕ, ◌+◌, ◌*◌, ◌≤◌, length, get_or};
 ghost use Rattle.text.specs.Blocks.{spliced, over, joined};
 ghost use Rattle.contactupdate.specs.KeyNumbers.{spread};
-ghost use Rattle.contactupdate.specs.Merging.{is_present, present_of, present_from, chosen, held_finally, Ready};
+ghost use Rattle.contactupdate.specs.Merging.{present_of, present_from, chosen, held_finally, Ready};
 
 use crate::key_numbers::KEYS;
 use contactrecord::chart_a3::CONTACT_WIDTH;
 use text::fields;
 
-// Whether a key has a record afterwards.
-fn is_present(held: u8, last: u32) -> bool
-    ensures { result ≡ is_present held last }
+// One where a key has a record afterwards: where one of the file is noted, or else what the mark of the table says.
+fn present(held: u8, last: u32) -> usize
+    ensures { result ≡ present_of held last }
 {
-    held != 0 || last != 0
+    if last == 0 {
+        return held as usize;
+    }
+    1
 }
 
 // How many keys have a record afterwards.
@@ -22,7 +25,7 @@ pub fn count_present(held: &[u8], lasts: &[u32]) -> usize
 {
     held.iter()
         .zip(lasts)
-        .map(|(held, last)| is_present(*held, *last) as usize)
+        .map(|(held, last)| present(*held, *last))
         .sum()
 }
 
@@ -60,7 +63,7 @@ pub fn merge(table: &mut [u8], count: usize, total: usize, file: &[u8], held: &[
         let h = held[k];
         let l = lasts[k];
         o -= h as usize;
-        p -= is_present(h, l) as usize;
+        p -= present(h, l);
         place_record(table, file, h, l, o, p);
     }
 }

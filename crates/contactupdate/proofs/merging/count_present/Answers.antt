@@ -1,4 +1,4 @@
--- `count_present`: the keys' tests as numbers, summed, are how many keys have a record, which is at most how many there are. Assumes nothing.
+-- `count_present`: what the keys count, summed, is how many have a record, which is at most how many there are. Assumes nothing.
 use Rattle.std.proofs.Common.{◌∙◌, length, arith, rules, tests}
 use Rattle.std.specs.List.{zip}
 use Rattle.std.proofs.lemmas.Iterator.{YieldsList-from_slice, YieldsList-from_zip, YieldsList-from_map}
@@ -10,7 +10,7 @@ pub sum-requires-clause-fits : goal.sum-requires-clause-fits
 sum-requires-clause-fits c =
     let held = c.args.held.now in
     let lasts = c.args.lasts.now in
-    let e = present_sum held lasts c.requires.0 c.requires.1 in
+    let e = present_sum held lasts c.requires.0 in
     fits_by_from_yields_list present_number (zip held lasts) c.map.result _
     (YieldsList-from_map _ present_number (YieldsList-at c.map.ensures.source (YieldsList-from_zip (YieldsList-from_slice held cc) (YieldsList-from_slice lasts cc)))
     c.map.ensures.closure (λ x r q k. search (rules, tests)))
@@ -23,4 +23,4 @@ returns c =
     sum_by_from_yields_List present_number (zip held lasts) c.map.result _ c.sum.ensures.ran
     (YieldsList-from_map _ present_number (YieldsList-at c.map.ensures.source (YieldsList-from_zip (YieldsList-from_slice held cc) (YieldsList-from_slice lasts cc)))
     c.map.ensures.closure (λ x r q k. search (rules, tests)))
-    ∙ present_sum held lasts c.requires.0 c.requires.1
+    ∙ present_sum held lasts c.requires.0

@@ -1,11 +1,10 @@
 use Rattle.contactupdate.specs.KeyNumbers.{held_in}
 use Rattle.contactupdate.specs.Merging.{held_finally}
-use Rattle.contactupdate.proofs.MergingLaws.{merging_start, merging_end, present_bit, turn_small, turn_old, turn_new, turn_file, turn_olds, turn_next}
+use Rattle.contactupdate.proofs.MergingLaws.{merging_start, merging_end, turn_small, turn_old, turn_new, turn_file, turn_olds, turn_next}
 use Rattle.contacttable.specs.Table.{contacts_of}
 use Prim.Native.Nat.{suc, ◌-◌}
 use native.Mathlib.Omega.{arith}
 use mathlib.Core.Path.{◌≡◌}
-use lib.ListN.{get_or}
 use Rattle.contactupdate.proofs.merging.merge.Goals as goal
 
 pub loop-k-init : goal.loop-k-init
@@ -32,7 +31,7 @@ overflow_sub-p c =
     let a = c.args in
     let l = c.loop-k in
     let t = c.loop-k-test.true in
-    rw (present_bit (get_or a.held.now (l.k - 1) 0) (get_or a.lasts.now (l.k - 1) 0) c.is_present.result c.is_present.ensures (turn_small a.table.now a.count a.total a.file.now a.held.now a.lasts.now c.requires l.k (l.k - 1) l.o l.p l.table (omega arith) (omega arith) l.invariant)) (turn_new a.table.now a.count a.total a.file.now a.held.now a.lasts.now c.requires l.k (l.k - 1) l.o l.p l.table (omega arith) (omega arith) l.invariant)
+    rw c.present-p.ensures (turn_new a.table.now a.count a.total a.file.now a.held.now a.lasts.now c.requires l.k (l.k - 1) l.o l.p l.table (omega arith) (omega arith) l.invariant)
 
 pub place_record-requires : goal.place_record-requires
 place_record-requires c =
@@ -45,8 +44,7 @@ place_record-requires c =
     let o = turn_old a.table.now a.count a.total a.file.now a.held.now a.lasts.now c.requires l.k (l.k - 1) l.o l.p l.table e (omega arith) l.invariant in
     let w = turn_olds a.table.now a.count a.total a.file.now a.held.now a.lasts.now c.requires l.k (l.k - 1) l.o l.p l.table e (omega arith) l.invariant in
     let p = turn_new a.table.now a.count a.total a.file.now a.held.now a.lasts.now c.requires l.k (l.k - 1) l.o l.p l.table e (omega arith) l.invariant in
-    let b = present_bit (get_or a.held.now (l.k - 1) 0) (get_or a.lasts.now (l.k - 1) 0) c.is_present.result c.is_present.ensures h in
-    (h, f, omega (arith, o, w), rw b (omega (arith, p, l.invariant.room)))
+    (h, f, omega (arith, o, w), rw c.present-p.ensures (omega (arith, p, l.invariant.room)))
 
 pub loop-k-preserved : goal.loop-k-preserved
 loop-k-preserved c =
@@ -55,8 +53,7 @@ loop-k-preserved c =
     let t = c.loop-k-test.true in
     let e : l.k ≡ suc (l.k - 1) = omega arith in
     let h = turn_small a.table.now a.count a.total a.file.now a.held.now a.lasts.now c.requires l.k (l.k - 1) l.o l.p l.table e (omega arith) l.invariant in
-    let b = present_bit (get_or a.held.now (l.k - 1) 0) (get_or a.lasts.now (l.k - 1) 0) c.is_present.result c.is_present.ensures h in
-    rw (c.place_record.ensures, b) (turn_next a.table.now a.count a.total a.file.now a.held.now a.lasts.now c.requires l.k (l.k - 1) l.o l.p l.table e (omega arith) l.invariant)
+    rw (c.place_record.ensures, c.present-p.ensures) (turn_next a.table.now a.count a.total a.file.now a.held.now a.lasts.now c.requires l.k (l.k - 1) l.o l.p l.table e (omega arith) l.invariant)
 
 pub returns : goal.returns
 returns c =
