@@ -1,4 +1,4 @@
--- What apply-batch answers: what the call does, or 0 where a file is missing or too long; and the line and files of any number. Assumes nothing.
+-- What apply-batch answers: what the call does, or 0 where a file is missing or too long; and any number as it is. Assumes nothing.
 use Rattle.std.specs.Prelude.{ℕ, List, Bool, true, false, Result, Ok, Err}
 use Rattle.answers.specs.Answer.{Answer, refused}
 use Rattle.answers.specs.Refusal.{refusal_number_of}
